@@ -1,0 +1,93 @@
+use native.Mathlib.Omega.{arith}
+use Prim.Native.Nat.{_≤_, _<_, _-_, _+_}
+use mathlib.Core.Path.{_≡_, sym, _∙_}
+use lib.ListN.{length, drop, length-set}
+use borrow.Author.Needs.{needs}
+use Rattle.packet.specs.Feed.{feedOf, fedMore}
+use Rattle.packet.proofs.FrameLaws.{fedMore-zero, more-short, feeds-on, feeds-end, feeds-long, feeds-all}
+use Rattle.packet.proofs.frame.feed.Statement.{statement}
+use Rattle.packet.proofs.frame.feed.Tie as tie
+use Rattle.packet.proofs.frame.feed.Reads as reads
+use Rattle.packet.proofs.frame.feed.Lts as lts
+use Rattle.packet.proofs.frame.mark_of.Reads as mark-of-reads
+
+abbrev Inv-loop : tie.InvT-loop
+Inv-loop part₀ held input n₀ i₀ part n i = (n < 258) × (i ≤ length input) × (length part ≡ 258) × (feedOf part₀ held input ≡ fedMore i (feedOf part n (drop i input)))
+
+abbrev μ-loop : tie.MeasureT-loop
+μ-loop part₀ held input n₀ i₀ part n i = length input - i
+
+loop-holds : tie.Need-loop-holds Inv-loop μ-loop
+loop-holds c = (search needs, search needs, search needs, fedMore-zero _)
+
+shared-slice-read-part : tie.Need-shared-slice-read-part Inv-loop μ-loop
+shared-slice-read-part c = search needs
+
+slice-write-part : tie.Need-slice-write-part Inv-loop μ-loop
+slice-write-part c = search needs
+
+add-n : tie.Need-add-n Inv-loop μ-loop
+add-n c = search needs
+
+add-i : tie.Need-add-i Inv-loop μ-loop
+add-i c = search needs
+
+mark-of-requires : tie.Need-mark-of-requires Inv-loop μ-loop
+mark-of-requires c κs = search needs
+
+enum-told : tie.Need-enum-told Inv-loop μ-loop
+enum-told c = search needs
+
+same-length : tie.Need-same-length Inv-loop μ-loop
+same-length c = simp length-set (omega arith)
+
+returns : tie.Need-returns Inv-loop μ-loop
+returns c = let l = c .before .before .before .before .before .before .loop in feeds-end _ _ _ _ _ _ (l .inv .3) (c .before .before .before .before .before .loop-test .taken) (sym (c .before .before .mark-of .ensures) ∙ c .enum-told .given .1)
+
+enum-told-2 : tie.Need-enum-told-2 Inv-loop μ-loop
+enum-told-2 c = search needs
+
+same-length-2 : tie.Need-same-length-2 Inv-loop μ-loop
+same-length-2 c = simp length-set (omega arith)
+
+returns-2 : tie.Need-returns-2 Inv-loop μ-loop
+returns-2 c = let l = c .before .before .before .before .before .before .loop in feeds-long _ _ _ _ _ _ (l .inv .3) (c .before .before .before .before .before .loop-test .taken) (sym (c .before .before .mark-of .ensures) ∙ c .enum-told2 .given .1)
+
+enum-told-3 : tie.Need-enum-told-3 Inv-loop μ-loop
+enum-told-3 c = search needs
+
+loop-less : tie.Need-loop-less Inv-loop μ-loop
+loop-less c = search needs
+
+loop-again : tie.Need-loop-again Inv-loop μ-loop
+loop-again c = let l = c .before .before .before .before .before .before .loop in let e = sym (c .before .before .mark-of .ensures) ∙ c .enum-told3 .given .1 in (more-short _ _ e, omega arith, simp length-set (omega arith), feeds-on _ _ _ _ _ _ (l .inv .3) (c .before .before .before .before .before .loop-test .taken) e)
+
+same-length-3 : tie.Need-same-length-3 Inv-loop μ-loop
+same-length-3 c = search needs
+
+returns-3 : tie.Need-returns-3 Inv-loop μ-loop
+returns-3 c = feeds-all _ _ _ _ _ _ (c .before .loop .inv .3) (c .loop-test .left)
+
+pub feed-spec : {M : Type 1} → statement M
+feed-spec =
+    tie.close
+    (tie.spec
+    Inv-loop
+    μ-loop
+    loop-holds
+    shared-slice-read-part
+    slice-write-part
+    add-n
+    add-i
+    mark-of-requires
+    enum-told
+    same-length
+    returns
+    enum-told-2
+    same-length-2
+    returns-2
+    enum-told-3
+    loop-less
+    loop-again
+    same-length-3
+    returns-3)

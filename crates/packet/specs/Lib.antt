@@ -1,0 +1,6 @@
+pub mod Numbers
+pub mod Names
+pub mod Packet
+pub mod Machine
+pub mod Frame
+pub mod Feed

@@ -1,0 +1,112 @@
+// The packet types by number, and their names.
+ghost use mathlib.Core.Path.{_≡_};
+ghost use Rattle.packet.specs.Names.{named};
+
+pub const DATA: u8 = 0;
+pub const DATA_END: u8 = 1;
+pub const LOGIN_RESP: u8 = 2;
+pub const UPLOAD_CMD: u8 = 3;
+pub const UL_GO_RESP: u8 = 4;
+pub const UL_ERROR_RESP: u8 = 5;
+pub const UL_ACK_RESP: u8 = 6;
+pub const UL_NAK_RESP: u8 = 7;
+pub const DOWNLOAD_CMD: u8 = 8;
+pub const DL_ERROR_RESP: u8 = 9;
+pub const DL_ABORTED_RESP: u8 = 10;
+pub const DL_COMPLETED_RESP: u8 = 11;
+pub const DL_ACK_CMD: u8 = 12;
+pub const DL_NAK_CMD: u8 = 13;
+pub const DIR_SHORT_CMD: u8 = 14;
+pub const DIR_LONG_CMD: u8 = 15;
+pub const SELECT_CMD: u8 = 16;
+pub const SELECT_RESP: u8 = 17;
+
+// A packet type's name: the first `size` of the bytes, the others zero.
+pub struct Name {
+    pub bytes: [u8; 17],
+    pub size: usize,
+}
+
+// The name of a packet type; of size 0 for a type above 17, which has none.
+pub fn name_of(kind: u8) -> Name
+    ensures { λ r. ⌜ r ≡ named kind ⌝ }
+{
+    match kind {
+        0 => Name {
+            bytes: *b"DATA\0\0\0\0\0\0\0\0\0\0\0\0\0",
+            size: 4,
+        },
+        1 => Name {
+            bytes: *b"DATA_END\0\0\0\0\0\0\0\0\0",
+            size: 8,
+        },
+        2 => Name {
+            bytes: *b"LOGIN_RESP\0\0\0\0\0\0\0",
+            size: 10,
+        },
+        3 => Name {
+            bytes: *b"UPLOAD_CMD\0\0\0\0\0\0\0",
+            size: 10,
+        },
+        4 => Name {
+            bytes: *b"UL_GO_RESP\0\0\0\0\0\0\0",
+            size: 10,
+        },
+        5 => Name {
+            bytes: *b"UL_ERROR_RESP\0\0\0\0",
+            size: 13,
+        },
+        6 => Name {
+            bytes: *b"UL_ACK_RESP\0\0\0\0\0\0",
+            size: 11,
+        },
+        7 => Name {
+            bytes: *b"UL_NAK_RESP\0\0\0\0\0\0",
+            size: 11,
+        },
+        8 => Name {
+            bytes: *b"DOWNLOAD_CMD\0\0\0\0\0",
+            size: 12,
+        },
+        9 => Name {
+            bytes: *b"DL_ERROR_RESP\0\0\0\0",
+            size: 13,
+        },
+        10 => Name {
+            bytes: *b"DL_ABORTED_RESP\0\0",
+            size: 15,
+        },
+        11 => Name {
+            bytes: *b"DL_COMPLETED_RESP",
+            size: 17,
+        },
+        12 => Name {
+            bytes: *b"DL_ACK_CMD\0\0\0\0\0\0\0",
+            size: 10,
+        },
+        13 => Name {
+            bytes: *b"DL_NAK_CMD\0\0\0\0\0\0\0",
+            size: 10,
+        },
+        14 => Name {
+            bytes: *b"DIR_SHORT_CMD\0\0\0\0",
+            size: 13,
+        },
+        15 => Name {
+            bytes: *b"DIR_LONG_CMD\0\0\0\0\0",
+            size: 12,
+        },
+        16 => Name {
+            bytes: *b"SELECT_CMD\0\0\0\0\0\0\0",
+            size: 10,
+        },
+        17 => Name {
+            bytes: *b"SELECT_RESP\0\0\0\0\0\0",
+            size: 11,
+        },
+        _ => Name {
+            bytes: [0u8; 17],
+            size: 0,
+        },
+    }
+}
