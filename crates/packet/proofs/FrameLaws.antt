@@ -62,7 +62,7 @@ fed-step : (p : List ℕ) (n i : ℕ) (input : List ℕ)
     → i < length input
     → feedOf p n (drop i input)
     ≡ afterByte (markOf (n + 1) (set p n (getD input i 0))) (n + 1) (set p n (getD input i 0))
-      (feedOf (set p n (getD input i 0)) (n + 1) (drop (i + 1) input))
+    (feedOf (set p n (getD input i 0)) (n + 1) (drop (i + 1) input))
 unfolding feedOf
 fed-step p n i input h = rw (add-one i, drop-cons input i 0)
 

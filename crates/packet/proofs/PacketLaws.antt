@@ -29,8 +29,8 @@ pub read-by : (l : List ℕ)
     → 2 ≤ length l
     → readAnswer l
     ≡ cond (ltb 17 (kindIn (getD l 1 0))) (plain.Refused 33)
-      (cond (ltb (length l - 2) (announced (getD l 0 0) (getD l 1 0))) (plain.Refused 33)
-      (plain.Packet (kindIn (getD l 1 0)) (announced (getD l 0 0) (getD l 1 0))))
+    (cond (ltb (length l - 2) (announced (getD l 0 0) (getD l 1 0))) (plain.Refused 33)
+    (plain.Packet (kindIn (getD l 1 0)) (announced (getD l 0 0) (getD l 1 0))))
 unfolding readAnswer
 read-by [] h = absurd (omega arith)
 read-by (a ∷ []) h = absurd (omega arith)
@@ -86,8 +86,14 @@ pub reads-back : (kind : ℕ) (info rest : List ℕ)
     → readAnswer (packetOf kind info ++ rest) ≡ plain.Packet kind (length info)
 unfolding packetOf readAnswer
 reads-back kind info rest k n =
-    rw (head-kind kind (length info / 256) k, head-high kind (length info / 256) k, head-length (length info) (omega arith), length-append info rest,
-      le-ltb 17 kind k, le-ltb (length info + length rest) (length info) (omega arith))
+    rw (
+      head-kind kind (length info / 256) k,
+      head-high kind (length info / 256) k,
+      head-length (length info) (omega arith),
+      length-append info rest,
+      le-ltb 17 kind k,
+      le-ltb (length info + length rest) (length info) (omega arith),
+    )
 
 -- .. and the information is the one written
 pub info-back : (kind : ℕ) (info rest : List ℕ) → take (length info) (drop 2 (packetOf kind info ++ rest)) ≡ info
@@ -131,10 +137,11 @@ accepted-by a b n bs ha hb e k h =
       most = omega arith;
       room = omega arith;
       same =
-        unfold packetOf in
-        rw (take-add 2 n (a ∷ b ∷ bs), length-take-le n bs h, e, first-byte a b ha, second-byte a b ha) }
+          unfold packetOf in
+          rw (take-add 2 n (a ∷ b ∷ bs), length-take-le n bs h, e, first-byte a b ha, second-byte a b ha);
+    }
 
-clash : (r k n : ℕ) → plain.Refused r ≡ plain.Packet k n → ⊥
+pub clash : (r k n : ℕ) → plain.Refused r ≡ plain.Packet k n → ⊥
 clash r k n e = let z : _≡_ {A = ℕ} 0 1 = cc in omega arith
 
 pub whatever-is-read : (l : List ℕ) (kind n : ℕ)
