@@ -28,5 +28,8 @@ unfoldable pub nameOf : ℕ → List ℕ
 nameOf kind = bytesOf (getD names kind "")
 
 -- a name in 17 bytes, the length of the longest, with its own length
+abbrev pub in17 : List ℕ → List ℕ
+in17 name = name ++ replicate (17 - length name) 0
+
 unfoldable pub named : ℕ → Name
-named kind = record { bytes = nameOf kind ++ replicate (17 - length (nameOf kind)) 0; size = length (nameOf kind) }
+named kind = record { bytes = in17 (nameOf kind); size = length (nameOf kind) }

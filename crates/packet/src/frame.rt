@@ -106,10 +106,10 @@ fn feed(part: &mut [u8], held: usize, input: &[u8]) -> Fed
 pub fn forget(part: &mut [u8])
     ensures { λ _. ⌜ now (part .exit) ≡ replicate (length (now (part .entry))) 0 ⌝ }
 {
-    let mut i = 0;
-    while i < part.len() {
-        part[i] = 0;
-        i += 1;
+    let mut k = 0;
+    while k < part.len() {
+        part[k] = 0;
+        k += 1;
     }
 }
 

@@ -44,86 +44,62 @@ pub struct Name {
     pub size: usize,
 }
 
+const NAMES: [[u8; 17]; 18] = [
+    *b"DATA\0\0\0\0\0\0\0\0\0\0\0\0\0",
+    *b"DATA_END\0\0\0\0\0\0\0\0\0",
+    *b"LOGIN_RESP\0\0\0\0\0\0\0",
+    *b"UPLOAD_CMD\0\0\0\0\0\0\0",
+    *b"UL_GO_RESP\0\0\0\0\0\0\0",
+    *b"UL_ERROR_RESP\0\0\0\0",
+    *b"UL_ACK_RESP\0\0\0\0\0\0",
+    *b"UL_NAK_RESP\0\0\0\0\0\0",
+    *b"DOWNLOAD_CMD\0\0\0\0\0",
+    *b"DL_ERROR_RESP\0\0\0\0",
+    *b"DL_ABORTED_RESP\0\0",
+    *b"DL_COMPLETED_RESP",
+    *b"DL_ACK_CMD\0\0\0\0\0\0\0",
+    *b"DL_NAK_CMD\0\0\0\0\0\0\0",
+    *b"DIR_SHORT_CMD\0\0\0\0",
+    *b"DIR_LONG_CMD\0\0\0\0\0",
+    *b"SELECT_CMD\0\0\0\0\0\0\0",
+    *b"SELECT_RESP\0\0\0\0\0\0",
+];
+
+const SIZES: [usize; 18] = [
+    4,
+    8,
+    10,
+    10,
+    10,
+    13,
+    11,
+    11,
+    12,
+    13,
+    15,
+    17,
+    10,
+    10,
+    13,
+    12,
+    10,
+    11,
+];
+
 // The name of a packet type; of size 0 for a type above 17, which has none.
 pub fn name_of(kind: u8) -> Name
     ensures { λ r. ⌜ r ≡ named kind ⌝ }
 {
-    match kind {
-        0 => Name {
-            bytes: *b"DATA\0\0\0\0\0\0\0\0\0\0\0\0\0",
-            size: 4,
-        },
-        1 => Name {
-            bytes: *b"DATA_END\0\0\0\0\0\0\0\0\0",
-            size: 8,
-        },
-        2 => Name {
-            bytes: *b"LOGIN_RESP\0\0\0\0\0\0\0",
-            size: 10,
-        },
-        3 => Name {
-            bytes: *b"UPLOAD_CMD\0\0\0\0\0\0\0",
-            size: 10,
-        },
-        4 => Name {
-            bytes: *b"UL_GO_RESP\0\0\0\0\0\0\0",
-            size: 10,
-        },
-        5 => Name {
-            bytes: *b"UL_ERROR_RESP\0\0\0\0",
-            size: 13,
-        },
-        6 => Name {
-            bytes: *b"UL_ACK_RESP\0\0\0\0\0\0",
-            size: 11,
-        },
-        7 => Name {
-            bytes: *b"UL_NAK_RESP\0\0\0\0\0\0",
-            size: 11,
-        },
-        8 => Name {
-            bytes: *b"DOWNLOAD_CMD\0\0\0\0\0",
-            size: 12,
-        },
-        9 => Name {
-            bytes: *b"DL_ERROR_RESP\0\0\0\0",
-            size: 13,
-        },
-        10 => Name {
-            bytes: *b"DL_ABORTED_RESP\0\0",
-            size: 15,
-        },
-        11 => Name {
-            bytes: *b"DL_COMPLETED_RESP",
-            size: 17,
-        },
-        12 => Name {
-            bytes: *b"DL_ACK_CMD\0\0\0\0\0\0\0",
-            size: 10,
-        },
-        13 => Name {
-            bytes: *b"DL_NAK_CMD\0\0\0\0\0\0\0",
-            size: 10,
-        },
-        14 => Name {
-            bytes: *b"DIR_SHORT_CMD\0\0\0\0",
-            size: 13,
-        },
-        15 => Name {
-            bytes: *b"DIR_LONG_CMD\0\0\0\0\0",
-            size: 12,
-        },
-        16 => Name {
-            bytes: *b"SELECT_CMD\0\0\0\0\0\0\0",
-            size: 10,
-        },
-        17 => Name {
-            bytes: *b"SELECT_RESP\0\0\0\0\0\0",
-            size: 11,
-        },
-        _ => Name {
+    let k = kind as usize;
+    if 17 < k {
+        return Name {
             bytes: [0u8; 17],
             size: 0,
-        },
+        };
+    }
+    let bytes = NAMES[k];
+    Name {
+        bytes: bytes,
+        size: SIZES[k],
     }
 }

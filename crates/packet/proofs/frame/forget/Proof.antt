@@ -10,10 +10,10 @@ use Rattle.packet.proofs.frame.forget.Reads as reads
 use Rattle.packet.proofs.frame.forget.Lts as lts
 
 abbrev Inv-loop : tie.InvT-loop
-Inv-loop part₀ i₀ part i = (i ≤ length part₀) × (length part ≡ length part₀) × (take i part ≡ replicate i 0)
+Inv-loop part₀ k₀ part k = (k ≤ length part₀) × (length part ≡ length part₀) × (take k part ≡ replicate k 0)
 
 abbrev μ-loop : tie.MeasureT-loop
-μ-loop part₀ i₀ part i = length part₀ - i
+μ-loop part₀ k₀ part k = length part₀ - k
 
 loop-holds : tie.Need-loop-holds Inv-loop μ-loop
 loop-holds c = (search needs, search needs, refl)
@@ -21,20 +21,20 @@ loop-holds c = (search needs, search needs, refl)
 slice-write-part : tie.Need-slice-write-part Inv-loop μ-loop
 slice-write-part c = search needs
 
-add-i : tie.Need-add-i Inv-loop μ-loop
-add-i c = search needs
+add-k : tie.Need-add-k Inv-loop μ-loop
+add-k c = search needs
 
 loop-less : tie.Need-loop-less Inv-loop μ-loop
 loop-less c = search needs
 
 loop-again : tie.Need-loop-again Inv-loop μ-loop
-loop-again c = let l = c .before .loop in (search needs, simp length-set (omega arith), cleared-next (l .part) (l .i) (omega arith) (l .inv .2))
+loop-again c = let l = c .before .loop in (search needs, simp length-set (omega arith), cleared-next (l .part) (l .k) (omega arith) (l .inv .2))
 
 same-length : tie.Need-same-length Inv-loop μ-loop
 same-length c = search needs
 
 returns : tie.Need-returns Inv-loop μ-loop
-returns c = let l = c .before .loop in cleared-all (l .part) (l .i) (length (c .before .before .args .part .now)) (omega arith) (omega arith) (omega arith) (l .inv .2)
+returns c = let l = c .before .loop in cleared-all (l .part) (l .k) (length (c .before .before .args .part .now)) (omega arith) (omega arith) (omega arith) (l .inv .2)
 
 pub forget-spec : {M : Type 1} → statement M
 forget-spec =
@@ -44,7 +44,7 @@ forget-spec =
     μ-loop
     loop-holds
     slice-write-part
-    add-i
+    add-k
     loop-less
     loop-again
     same-length
