@@ -1,0 +1,11 @@
+pub mod Walk
+pub mod Machine
+pub mod Written
+pub mod Reading
+pub mod Order
+pub mod Values
+pub mod Verdict
+pub mod Replace
+pub mod Places
+pub mod Set
+pub mod Examples

@@ -1,0 +1,4 @@
+pub mod Items
+pub mod Header
+pub mod Fields
+pub mod Scan

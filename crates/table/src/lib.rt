@@ -1,0 +1,365 @@
+// The file table: which file stands at which place, and what numbers, upload times and blocks are given.
+//
+// The caller lends one slice of words, four a place: the file number (0: no file at this place), the announced length, the bytes received so
+// far and the upload time (0 while the file is partial). `get` and `put` alone know how a record is stored; all else goes through them, so
+// that a record can grow. A table has `table.len() / 4` places.
+//
+// Every function takes any table and any numbers and asks nothing of its caller. A record past the last place reads as no file, and storing
+// one there is refused by 33 and changes nothing. No function but `records_fit` and `distinct` checks the whole table: what the others find
+// where two files share a number or a time is defined too (the lowest place), and the laws in proofs/ say what they find where none do.
+ghost use mathlib.Core.Path.{_≡_};
+ghost use mathlib.Core.Bool.{Bool, true, false, cond, not, _&&_, _||_};
+ghost use Prim.Native.Nat.{ℕ, suc, _+_, _*_, _/_, _≤_, _<_};
+ghost use lib.ListN.{length, getD, drop};
+ghost use lib.Dec.{eqb, ltb, leb};
+ghost use Rattle.table.specs.Table.{files, fileAt, putNumber, putTable, isComplete, isPartial, isKind, uploaded, keyOf, keys, times, countOf, firstWith, findOf, freeOf};
+ghost use Rattle.table.specs.Given.{nextNumber, uploadTime, blocksFor};
+ghost use Rattle.table.specs.Order.{lesser, leastAbove, nextComplete};
+ghost use Rattle.table.specs.Fit.{fileFits, recordFits, recordsFit, shares, sharesWith, distinctOf};
+
+// The record of a file place.
+pub struct File {
+    pub number: u32,
+    pub size: u32,
+    pub received: u32,
+    pub time: u32,
+}
+
+// A place, or none.
+pub enum Found {
+    Nothing,
+    At(usize),
+}
+
+// A number or a time that is given, or none: they are used up.
+pub enum Given {
+    UsedUp,
+    Next(u32),
+}
+
+// ---- records
+
+// The number of places.
+pub fn places(table: &[u32]) -> usize
+    ensures { λ r. ⌜ r ≡ length (files (now (table .entry))) ⌝ }
+{
+    table.len() / 4
+}
+
+// The record at a place, that of no file past the last place.
+pub fn get(table: &[u32], place: usize) -> File
+    ensures { λ r. ⌜ r ≡ fileAt (files (now (table .entry))) place ⌝ }
+{
+    if place < table.len() / 4 {
+        let at = 4 * place;
+        return File {
+            number: table[at],
+            size: table[at + 1],
+            received: table[at + 2],
+            time: table[at + 3],
+        };
+    }
+    File {
+        number: 0,
+        size: 0,
+        received: 0,
+        time: 0,
+    }
+}
+
+// Stores a record at a place: 0, or 33 past the last place, where nothing changes.
+pub fn put(table: &mut [u32], place: usize, file: File) -> u8
+    ensures { λ r. ⌜ r ≡ putNumber (now (table .entry)) place ⌝ }
+    ensures { λ r. ⌜ now (table .exit) ≡ putTable (now (table .entry)) place file ⌝ }
+{
+    if place < table.len() / 4 {
+        let at = 4 * place;
+        table[at] = file.number;
+        table[at + 1] = file.size;
+        table[at + 2] = file.received;
+        table[at + 3] = file.time;
+        return 0;
+    }
+    33
+}
+
+// The upload time of a complete file, 0 for any other record.
+pub fn upload_time_of(file: File) -> u32
+    ensures { λ r. ⌜ r ≡ uploaded file ⌝ }
+{
+    if file.number == 0 { 0 } else { file.time }
+}
+
+// ---- finding
+
+// What a file is found by: its number or its upload time.
+enum Key {
+    Number,
+    Time,
+}
+
+fn key_of(file: File, key: Key) -> u32
+    ensures { λ r. ⌜ r ≡ keyOf key file ⌝ }
+{
+    match key {
+        Key::Number => file.number,
+        Key::Time => upload_time_of(file),
+    }
+}
+
+// The lowest place with this number or time; 0 is the number of a place with no file.
+fn first_with(table: &[u32], key: Key, value: u32) -> Found
+    ensures { λ r. ⌜ r ≡ firstWith value (keys key (files (now (table .entry)))) ⌝ }
+{
+    let n = places(table);
+    let mut at = 0;
+    while at < n {
+        if key_of(get(table, at), key) == value {
+            return Found::At(at);
+        }
+        at += 1;
+    }
+    Found::Nothing
+}
+
+// The place of the file with this number: the lowest, where two have it.
+pub fn find(table: &[u32], number: u32) -> Found
+    ensures { λ r. ⌜ r ≡ findOf (files (now (table .entry))) number ⌝ }
+{
+    if number == 0 {
+        return Found::Nothing;
+    }
+    first_with(table, Key::Number, number)
+}
+
+// The lowest place with no file.
+pub fn free_place(table: &[u32]) -> Found
+    ensures { λ r. ⌜ r ≡ freeOf (files (now (table .entry))) ⌝ }
+{
+    first_with(table, Key::Number, 0)
+}
+
+// ---- counting
+
+enum Kind {
+    Partial,
+    Complete,
+}
+
+// 1 for a file of the kind, 0 for any other record.
+fn one_of_kind(file: File, kind: Kind) -> usize
+    ensures { λ r. ⌜ r ≡ cond (isKind kind file) 1 0 ⌝ }
+{
+    if file.number == 0 {
+        return 0;
+    }
+    match kind {
+        Kind::Partial => if file.time == 0 { 1 } else { 0 },
+        Kind::Complete => if file.time == 0 { 0 } else { 1 },
+    }
+}
+
+fn count_kind(table: &[u32], kind: Kind) -> usize
+    ensures { λ r. ⌜ r ≡ countOf (isKind kind) (files (now (table .entry))) ⌝ }
+{
+    let mut at = places(table);
+    let mut n: usize = 0;
+    while 0 < at {
+        at -= 1;
+        n += one_of_kind(get(table, at), kind);
+    }
+    n
+}
+
+// The number of complete files.
+pub fn complete_count(table: &[u32]) -> usize
+    ensures { λ r. ⌜ r ≡ countOf isComplete (files (now (table .entry))) ⌝ }
+{
+    count_kind(table, Kind::Complete)
+}
+
+// The number of partial files.
+pub fn partial_count(table: &[u32]) -> usize
+    ensures { λ r. ⌜ r ≡ countOf isPartial (files (now (table .entry))) ⌝ }
+{
+    count_kind(table, Kind::Partial)
+}
+
+// ---- order of upload times
+
+// The lesser of a time, where that is above `after`, and the least so far, which is 0 where there is none.
+fn lesser_above(after: u32, time: u32, least: u32) -> u32
+    ensures { λ r. ⌜ r ≡ cond (ltb after time) (lesser time least) least ⌝ }
+{
+    if time <= after {
+        return least;
+    }
+    if least == 0 {
+        return time;
+    }
+    if least < time { least } else { time }
+}
+
+// The least upload time above `after`, 0 where there is none.
+fn least_above(table: &[u32], after: u32) -> u32
+    ensures { λ r. ⌜ r ≡ leastAbove after (times (files (now (table .entry)))) ⌝ }
+{
+    let mut at = places(table);
+    let mut least: u32 = 0;
+    while 0 < at {
+        at -= 1;
+        least = lesser_above(after, upload_time_of(get(table, at)), least);
+    }
+    least
+}
+
+// Of the complete files with an upload time above `after` the one with the least: from 0 on, the complete files oldest first.
+pub fn next_complete(table: &[u32], after: u32) -> Found
+    ensures { λ r. ⌜ r ≡ nextComplete (files (now (table .entry))) after ⌝ }
+{
+    let least = least_above(table, after);
+    if least == 0 {
+        return Found::Nothing;
+    }
+    first_with(table, Key::Time, least)
+}
+
+// ---- what is given
+
+// The blocks that a file of this length takes.
+pub fn blocks_for(size: u32) -> usize
+    ensures { λ r. ⌜ r ≡ blocksFor size ⌝ }
+{
+    (size as usize + 255) / 256
+}
+
+// The file number after the last one given.
+pub fn next_number(last: u32) -> Given
+    ensures { λ r. ⌜ r ≡ nextNumber last ⌝ }
+{
+    if last == 4294967295 {
+        return Given::UsedUp;
+    }
+    Given::Next(last + 1)
+}
+
+// The upload time after the last one given: the clock, where that is later than it.
+pub fn upload_time(clock: u32, last: u32) -> Given
+    ensures { λ r. ⌜ r ≡ uploadTime clock last ⌝ }
+{
+    if last == 4294967295 {
+        return Given::UsedUp;
+    }
+    if clock < last + 1 {
+        return Given::Next(last + 1);
+    }
+    Given::Next(clock)
+}
+
+// ---- the facts of refusal 35
+
+// The number of blocks of a place, by counts that have an entry for the free blocks first.
+fn held_at(counts: &[usize], place: usize) -> usize
+    requires { ⌜ place < 4611686018427387904 ⌝ }
+    ensures { λ r. ⌜ r ≡ getD (now (counts .entry)) (place + 1) 0 ⌝ }
+{
+    let at = place + 1;
+    if at < counts.len() {
+        return counts[at];
+    }
+    0
+}
+
+fn file_fits(file: File, last: u32, latest: u32, held: usize) -> bool
+    ensures { λ r. ⌜ r ≡ fileFits last latest held file ⌝ }
+{
+    if last < file.number {
+        return false;
+    }
+    if file.size < file.received {
+        return false;
+    }
+    if held != blocks_for(file.size) {
+        return false;
+    }
+    if latest < file.time {
+        return false;
+    }
+    if file.time == 0 {
+        return true;
+    }
+    file.received == file.size
+}
+
+fn record_fits(file: File, last: u32, latest: u32, held: usize) -> bool
+    ensures { λ r. ⌜ r ≡ recordFits last latest held file ⌝ }
+{
+    if file.number == 0 {
+        return held == 0;
+    }
+    file_fits(file, last, latest, held)
+}
+
+// Whether each record agrees with the last file number given, the latest upload time given and the blocks that its place holds.
+pub fn records_fit(table: &[u32], last: u32, latest: u32, counts: &[usize]) -> bool
+    ensures { λ r. ⌜ r ≡ recordsFit last latest (now (counts .entry)) (files (now (table .entry))) ⌝ }
+{
+    let n = places(table);
+    let mut at = 0;
+    while at < n {
+        if record_fits(get(table, at), last, latest, held_at(counts, at)) {
+            at += 1;
+        } else {
+            return false;
+        }
+    }
+    true
+}
+
+// Whether two records have the same file number, or are complete files with the same upload time.
+fn sharing(a: File, b: File) -> bool
+    ensures { λ r. ⌜ r ≡ shares a b ⌝ }
+{
+    if a.number == 0 {
+        return false;
+    }
+    if a.number == b.number {
+        return true;
+    }
+    if a.time == 0 {
+        return false;
+    }
+    a.time == upload_time_of(b)
+}
+
+// Whether a later place shares the number or the upload time of the file at this place.
+fn shared_later(table: &[u32], place: usize) -> bool
+    requires { ⌜ place < length (files (now table)) ⌝ }
+    ensures { λ r. ⌜ r ≡ sharesWith (fileAt (files (now (table .entry))) place) (drop (place + 1) (files (now (table .entry)))) ⌝ }
+{
+    let n = places(table);
+    let file = get(table, place);
+    let mut at = place + 1;
+    while at < n {
+        if sharing(file, get(table, at)) {
+            return true;
+        }
+        at += 1;
+    }
+    false
+}
+
+// Whether no two places have the same file number, and no two complete files the same upload time.
+pub fn distinct(table: &[u32]) -> bool
+    ensures { λ r. ⌜ r ≡ distinctOf (files (now (table .entry))) ⌝ }
+{
+    let n = places(table);
+    let mut at = 0;
+    while at < n {
+        if shared_later(table, at) {
+            return false;
+        }
+        at += 1;
+    }
+    true
+}

@@ -1,0 +1,2 @@
+pub mod Greedy
+pub mod Laws

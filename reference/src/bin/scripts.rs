@@ -1,0 +1,45 @@
+//! Writes random scripts to a folder and prints what they reach.
+
+use std::io::{self, BufWriter, Write};
+use std::path::Path;
+use std::process::ExitCode;
+
+use reference::coverage::Coverage;
+use reference::generator;
+use reference::script;
+
+const USAGE: &str = "usage: scripts SEED COUNT DIR";
+
+fn write_scripts(seed: u64, count: u64, folder: &Path) -> io::Result<()> {
+    std::fs::create_dir_all(folder)?;
+    let mut coverage = Coverage::new();
+    for index in 0..count {
+        let text = generator::story(generator::seed_of(seed, index)).text();
+        let (_, driver) = script::run_watched(&text, Coverage::new());
+        coverage.add(&driver.watch);
+        std::fs::write(folder.join(format!("{seed}-{index}.script")), text)?;
+    }
+    let mut output = BufWriter::new(io::stdout().lock());
+    coverage.print(&mut output)?;
+    output.flush()
+}
+
+fn main() -> ExitCode {
+    let arguments: Vec<String> = std::env::args().skip(1).collect();
+    let [seed, count, folder] = arguments.as_slice() else {
+        eprintln!("{USAGE}");
+        return ExitCode::from(2);
+    };
+    let (Ok(seed), Ok(count)) = (seed.parse(), count.parse()) else {
+        eprintln!("{USAGE}");
+        return ExitCode::from(2);
+    };
+    match write_scripts(seed, count, Path::new(folder)) {
+        Ok(()) => ExitCode::SUCCESS,
+        Err(error) if error.kind() == io::ErrorKind::BrokenPipe => ExitCode::SUCCESS,
+        Err(error) => {
+            eprintln!("scripts: {error}");
+            ExitCode::FAILURE
+        }
+    }
+}

@@ -1,0 +1,488 @@
+//! A count of what scripts reach: packets sent and received, each refusal with
+//! its ground, each closing rule, and some turns of uploads and downloads.
+
+use std::collections::BTreeMap;
+use std::io::{self, Write};
+
+use crate::equation::{self, Equation};
+use crate::header;
+use crate::packet::{number, Framed, Packet, Type};
+use crate::script::{Call, Watch, LINE_MOST};
+use crate::server::{Answer, Downlink, Server, Session, Uplink};
+use crate::store::blocks_needed;
+
+const SERVERS_OWN: [Type; 9] = [
+    Type::LoginResp,
+    Type::UlGoResp,
+    Type::UlErrorResp,
+    Type::UlAckResp,
+    Type::UlNakResp,
+    Type::DlErrorResp,
+    Type::DlAbortedResp,
+    Type::DlCompletedResp,
+    Type::SelectResp,
+];
+
+/// The rows that do not depend on a list of types or faults.
+const SINGLE_ROWS: [&str; 47] = [
+    "received type 18 to 31",
+    "received in several pieces",
+    "received with bytes behind it",
+    "UL_ERROR_RESP 1, not 8 bytes",
+    "UL_ERROR_RESP 2, length differs",
+    "UL_ERROR_RESP 2, another session is uploading it",
+    "UL_ERROR_RESP 4",
+    "UL_ERROR_RESP 12",
+    "UL_ERROR_RESP 13, blocks",
+    "UL_ERROR_RESP 13, places",
+    "UL_NAK_RESP 16, DATA beyond the length",
+    "UL_NAK_RESP 3, upload times used up",
+    "DL_ERROR_RESP 1, not 9 bytes",
+    "DL_ERROR_RESP 1, DIR_SHORT_CMD",
+    "DL_ERROR_RESP 1, DIR_LONG_CMD",
+    "DL_ERROR_RESP 2",
+    "DL_ERROR_RESP 4",
+    "DL_ERROR_RESP 5",
+    "DL_ERROR_RESP 10",
+    "DL_ERROR_RESP 11",
+    "refused 34, open out of range",
+    "refused 34, open of an open session",
+    "refused 34, drop out of range",
+    "refused 34, drop of a closed session",
+    "refused 34, rx out of range",
+    "refused 34, rx of a closed session",
+    "closed, length above 256",
+    "closed, type 18 to 31",
+    "upload, new",
+    "upload, continued at 0",
+    "upload, continued in the middle",
+    "upload, continued at its end",
+    "upload, DATA of 0 bytes",
+    "upload, DATA stored",
+    "upload, DATA ignored",
+    "upload, DATA_END without an answer",
+    "download, from 0",
+    "download, from the middle",
+    "download, from its end",
+    "download, of number 0",
+    "download, with a lock destination",
+    "download, DL_NAK_CMD on an idle downlink",
+    "download, lost with its link",
+    "select, no file",
+    "select, some files",
+    "line that can't be read",
+    "line too long",
+];
+
+const ENDINGS: [&str; 6] = [
+    "DL_COMPLETED_RESP, destination 0",
+    "DL_COMPLETED_RESP, destination named",
+    "DL_ABORTED_RESP, DL_ACK_CMD not 1 byte",
+    "DL_ABORTED_RESP, no such destination",
+    "DL_ABORTED_RESP, DL_NAK_CMD after DATA_END",
+    "DL_ABORTED_RESP, DL_NAK_CMD before DATA_END",
+];
+
+/// What is known of a receive call before it is made.
+struct Heard {
+    framed: Framed,
+    /// Some of the packet was there before.
+    in_pieces: bool,
+    uplink: Uplink,
+    downlink: Downlink,
+    /// The ground of a refusal, should one be given.
+    ground: String,
+}
+
+#[derive(Default)]
+pub struct Coverage {
+    counts: BTreeMap<String, usize>,
+    heard: Option<Heard>,
+    /// Why an open, drop or rx would be refused.
+    session_ground: &'static str,
+}
+
+fn uplink_name(uplink: Uplink) -> &'static str {
+    match uplink {
+        Uplink::Idle => "Idle",
+        Uplink::Receiving { .. } => "Receiving",
+        Uplink::Ignoring => "Ignoring",
+    }
+}
+
+fn downlink_name(downlink: Downlink) -> &'static str {
+    match downlink {
+        Downlink::Idle => "Idle",
+        Downlink::Sending { .. } => "Sending",
+        Downlink::Ended { .. } => "Ended",
+        Downlink::Aborting { .. } => "Aborting",
+    }
+}
+
+/// The closings by a packet that is not expected.
+fn unexpected_rows() -> Vec<String> {
+    let mut rows = Vec::new();
+    for own in SERVERS_OWN {
+        rows.push(format!("closed, {} is the server's own", own.name()));
+    }
+    for kind in ["DATA", "DATA_END"] {
+        rows.push(format!("closed, {kind} while Idle"));
+    }
+    for state in ["Receiving", "Ignoring"] {
+        rows.push(format!("closed, DATA_END with information while {state}"));
+        rows.push(format!("closed, UPLOAD_CMD while {state}"));
+    }
+    for kind in [
+        "SELECT_CMD",
+        "DOWNLOAD_CMD",
+        "DIR_SHORT_CMD",
+        "DIR_LONG_CMD",
+    ] {
+        for state in ["Sending", "Ended", "Aborting"] {
+            rows.push(format!("closed, {kind} while {state}"));
+        }
+    }
+    for state in ["Idle", "Sending", "Aborting"] {
+        rows.push(format!("closed, DL_ACK_CMD while {state}"));
+    }
+    for state in ["Idle", "Sending", "Ended", "Aborting"] {
+        rows.push(format!("closed, DL_NAK_CMD with information while {state}"));
+    }
+    rows.push("closed, DL_NAK_CMD while Aborting".to_string());
+    rows
+}
+
+/// All rows of the table.
+fn rows() -> Vec<String> {
+    let mut rows: Vec<String> = SINGLE_ROWS
+        .iter()
+        .chain(&ENDINGS)
+        .map(|row| row.to_string())
+        .collect();
+    rows.extend(unexpected_rows());
+    for kind in Type::ALL {
+        rows.push(format!("received {}", kind.name()));
+    }
+    for kind in SERVERS_OWN.iter().chain(&[Type::Data, Type::DataEnd]) {
+        rows.push(format!("sent {}", kind.name()));
+    }
+    for fault in header::Fault::ALL {
+        rows.push(format!("UL_NAK_RESP {}, {fault:?}", fault.number()));
+    }
+    for fault in equation::Fault::ALL {
+        // These two need more than the 256 bytes that the server accepts.
+        if !matches!(fault, equation::Fault::TooLong | equation::Fault::StackFull) {
+            rows.push(format!("DL_ERROR_RESP 8, {fault:?}"));
+        }
+    }
+    rows
+}
+
+impl Coverage {
+    pub fn new() -> Coverage {
+        Coverage {
+            counts: rows().into_iter().map(|row| (row, 0)).collect(),
+            heard: None,
+            session_ground: "",
+        }
+    }
+
+    /// Adds the counts of another table.
+    pub fn add(&mut self, other: &Coverage) {
+        for (row, count) in &other.counts {
+            *self.counts.entry(row.clone()).or_default() += count;
+        }
+    }
+
+    /// The rows that nothing reached.
+    pub fn missing(&self) -> Vec<&str> {
+        self.counts
+            .iter()
+            .filter(|(_, count)| **count == 0)
+            .map(|(row, _)| row.as_str())
+            .collect()
+    }
+
+    /// The rows that were counted and are not among those foreseen.
+    pub fn unforeseen(&self) -> Vec<&str> {
+        let foreseen = rows();
+        self.counts
+            .keys()
+            .filter(|row| !foreseen.contains(row))
+            .map(String::as_str)
+            .collect()
+    }
+
+    pub fn print(&self, output: &mut impl Write) -> io::Result<()> {
+        for (row, count) in &self.counts {
+            writeln!(output, "{count}\t{row}")?;
+        }
+        Ok(())
+    }
+
+    fn count(&mut self, row: impl Into<String>) {
+        *self.counts.entry(row.into()).or_default() += 1;
+    }
+
+    fn receive(&mut self, answer: &Answer, lent: usize) {
+        let Some(heard) = self.heard.take() else {
+            return;
+        };
+        if heard.framed != Framed::Open {
+            self.count_received(&heard, answer, lent);
+        }
+        match answer {
+            Answer::Refused(_) => {}
+            Answer::Closed(_) => self.count(closing(&heard)),
+            Answer::Quiet(_) => self.count_quiet(&heard),
+            Answer::Sent(_, packet) => self.count_response(&heard, packet),
+        }
+    }
+
+    fn count_received(&mut self, heard: &Heard, answer: &Answer, lent: usize) {
+        if let Framed::Whole { kind, .. } = heard.framed {
+            match Type::of(kind) {
+                Some(kind) => self.count(format!("received {}", kind.name())),
+                None => self.count("received type 18 to 31"),
+            }
+        }
+        if heard.in_pieces {
+            self.count("received in several pieces");
+        }
+        if let Answer::Closed(took) | Answer::Quiet(took) | Answer::Sent(took, _) = answer {
+            if *took < lent {
+                self.count("received with bytes behind it");
+            }
+        }
+    }
+
+    fn count_quiet(&mut self, heard: &Heard) {
+        let Framed::Whole { kind, information } = &heard.framed else {
+            return;
+        };
+        match Type::of(*kind) {
+            Some(Type::Data) if heard.uplink == Uplink::Ignoring => {
+                self.count("upload, DATA ignored")
+            }
+            Some(Type::Data) if information.is_empty() => self.count("upload, DATA of 0 bytes"),
+            Some(Type::Data) => self.count("upload, DATA stored"),
+            Some(Type::DataEnd) => self.count("upload, DATA_END without an answer"),
+            Some(Type::DlNakCmd) => self.count("download, DL_NAK_CMD on an idle downlink"),
+            Some(Type::DownloadCmd) => self.count_download(heard, information),
+            _ => self.count("something without an answer"),
+        }
+    }
+
+    fn count_download(&mut self, heard: &Heard, information: &[u8]) {
+        self.count(format!("download, from {}", heard.ground));
+        if number(&information[..4]) == 0 {
+            self.count("download, of number 0");
+        }
+        if information[8] != 0 {
+            self.count("download, with a lock destination");
+        }
+    }
+
+    fn count_response(&mut self, heard: &Heard, packet: &Packet) {
+        let Framed::Whole { kind, information } = &heard.framed else {
+            return;
+        };
+        let asked = Type::of(*kind);
+        let ground = &heard.ground;
+        let name = packet.kind.name();
+        match packet.kind {
+            Type::UlErrorResp | Type::DlErrorResp => {
+                let refusal = packet.information[0];
+                match refusal {
+                    1 | 2 | 8 | 13 if !ground.is_empty() => {
+                        self.count(format!("{name} {refusal}, {ground}"))
+                    }
+                    _ => self.count(format!("{name} {refusal}")),
+                }
+            }
+            Type::UlNakResp => self.count(format!("{name} {}, {ground}", packet.information[0])),
+            Type::UlGoResp => self.count(format!("upload, {ground}")),
+            Type::SelectResp if packet.information == [0, 0] => self.count("select, no file"),
+            Type::SelectResp => self.count("select, some files"),
+            Type::DlCompletedResp if information == &[0] => self.count(ENDINGS[0]),
+            Type::DlCompletedResp => self.count(ENDINGS[1]),
+            Type::DlAbortedResp if asked == Some(Type::DlNakCmd) => self.count(ENDINGS[4]),
+            Type::DlAbortedResp if information.len() == 1 => self.count(ENDINGS[3]),
+            Type::DlAbortedResp => self.count(ENDINGS[2]),
+            _ => {}
+        }
+    }
+}
+
+/// The rule by which the link was closed.
+fn closing(heard: &Heard) -> String {
+    let Framed::Whole { kind, information } = &heard.framed else {
+        return "closed, length above 256".to_string();
+    };
+    let Some(kind) = Type::of(*kind) else {
+        return "closed, type 18 to 31".to_string();
+    };
+    let name = kind.name();
+    let (uplink, downlink) = (uplink_name(heard.uplink), downlink_name(heard.downlink));
+    match kind {
+        Type::DataEnd if heard.uplink != Uplink::Idle => {
+            format!("closed, {name} with information while {uplink}")
+        }
+        Type::Data | Type::DataEnd | Type::UploadCmd => format!("closed, {name} while {uplink}"),
+        Type::DlNakCmd if !information.is_empty() => {
+            format!("closed, {name} with information while {downlink}")
+        }
+        _ if SERVERS_OWN.contains(&kind) => format!("closed, {name} is the server's own"),
+        _ => format!("closed, {name} while {downlink}"),
+    }
+}
+
+/// What tells apart the cases of one answer, as far as the packet has some.
+fn ground(server: &Server, session: &Session, framed: &Framed) -> String {
+    let Framed::Whole { kind, information } = framed else {
+        return String::new();
+    };
+    match (Type::of(*kind), session.uplink) {
+        (Some(Type::UploadCmd), _) => upload_ground(server, information),
+        (Some(Type::Data), _) => "DATA beyond the length".to_string(),
+        (Some(Type::DataEnd), Uplink::Receiving { place, .. }) => {
+            let length = server.store.file(place).length;
+            match header::check(&server.store.contents(place), length) {
+                Ok(_) => "upload times used up".to_string(),
+                Err(fault) => format!("{fault:?}"),
+            }
+        }
+        (Some(Type::SelectCmd), _) => match Equation::parse(information) {
+            Ok(_) => String::new(),
+            Err(fault) => format!("{fault:?}"),
+        },
+        (Some(Type::DownloadCmd), _) => download_ground(server, session, information),
+        (Some(kind @ (Type::DirShortCmd | Type::DirLongCmd)), _) => kind.name().to_string(),
+        _ => String::new(),
+    }
+}
+
+fn upload_ground(server: &Server, information: &[u8]) -> String {
+    if information.len() != 8 {
+        return "not 8 bytes".to_string();
+    }
+    let (file_number, length) = (number(&information[..4]), number(&information[4..]));
+    let ground = match server.store.find(file_number) {
+        _ if file_number == 0 && server.store.free_blocks() < blocks_needed(length) => "blocks",
+        _ if file_number == 0 && !server.store.places.contains(&None) => "places",
+        _ if file_number == 0 => "new",
+        None => "",
+        Some(place) => {
+            let file = server.store.file(place);
+            let held = server.sessions.iter().flatten().any(|session| {
+                matches!(session.uplink, Uplink::Receiving { place: other, .. } if other == place)
+            });
+            match file.received {
+                _ if file.length != length => "length differs",
+                _ if held => "another session is uploading it",
+                0 => "continued at 0",
+                received if received == length => "continued at its end",
+                _ => "continued in the middle",
+            }
+        }
+    };
+    ground.to_string()
+}
+
+fn download_ground(server: &Server, session: &Session, information: &[u8]) -> String {
+    if information.len() != 9 {
+        return "not 9 bytes".to_string();
+    }
+    let selection = &session.selection;
+    let file_number = match number(&information[..4]) {
+        0 => selection.numbers.get(selection.position).copied(),
+        given => Some(given),
+    };
+    let Some(place) = file_number.and_then(|given| server.store.find(given)) else {
+        return String::new();
+    };
+    let length = server.store.file(place).length;
+    match number(&information[4..8]) {
+        0 => "0".to_string(),
+        offset if offset == length => "its end".to_string(),
+        offset if offset > length => String::new(),
+        _ => "the middle".to_string(),
+    }
+}
+
+/// Why a call on that session would be refused.
+fn session_ground(server: &Server, call: Call) -> &'static str {
+    let (session, grounds) = match call {
+        Call::Open(session) => (session, ["open out of range", "open of an open session"]),
+        Call::Lose(session) => (session, ["drop out of range", "drop of a closed session"]),
+        Call::Receive(session, _) | Call::Request(session) => {
+            (session, ["rx out of range", "rx of a closed session"])
+        }
+    };
+    if (1..=server.sizes.sessions).contains(&(session as usize)) {
+        grounds[1]
+    } else {
+        grounds[0]
+    }
+}
+
+fn session_of(server: &Server, number: u32) -> Option<&Session> {
+    let index = (number as usize).checked_sub(1)?;
+    server.sessions.get(index)?.as_ref()
+}
+
+impl Watch for Coverage {
+    fn before(&mut self, server: &Server, _clock: u32, call: Call) {
+        self.session_ground = session_ground(server, call);
+        match call {
+            Call::Receive(number, bytes) => {
+                self.heard = session_of(server, number).map(|session| {
+                    let in_pieces = !session.frame.held().is_empty();
+                    let (_, framed) = session.frame.clone().feed(bytes);
+                    Heard {
+                        in_pieces,
+                        uplink: session.uplink,
+                        downlink: session.downlink,
+                        ground: ground(server, session, &framed),
+                        framed,
+                    }
+                });
+            }
+            Call::Lose(number) => {
+                let downlink = session_of(server, number).map(|session| session.downlink);
+                if downlink.is_some_and(|downlink| downlink != Downlink::Idle) {
+                    self.count("download, lost with its link");
+                }
+            }
+            Call::Open(_) | Call::Request(_) => {}
+        }
+    }
+
+    fn after(&mut self, _server: &Server, call: Call, answer: &Answer) {
+        if let Answer::Refused(number) = answer {
+            let ground = self.session_ground;
+            self.count(format!("refused {number}, {ground}"));
+        }
+        if let Answer::Sent(_, packet) = answer {
+            self.count(format!("sent {}", packet.kind.name()));
+        }
+        match call {
+            Call::Receive(_, bytes) => self.receive(answer, bytes.len()),
+            Call::Request(_) => match answer {
+                Answer::Sent(_, packet) if packet.kind == Type::DlAbortedResp => {
+                    self.count(ENDINGS[5])
+                }
+                _ => {}
+            },
+            Call::Open(_) | Call::Lose(_) => {}
+        }
+    }
+
+    fn unreadable(&mut self, line: &[u8]) {
+        if line.len() > LINE_MOST {
+            self.count("line too long");
+        } else {
+            self.count("line that can't be read");
+        }
+    }
+}

@@ -1,0 +1,328 @@
+//! What several test files share: hex, packets by name, and a driver that
+//! looks after every call at what no call may break.
+
+pub mod model;
+
+use std::collections::BTreeSet;
+
+use reference::packet::{Packet, Type};
+use reference::server::{Answer, Downlink, Server, Sizes, Uplink};
+use reference::store::blocks_needed;
+
+/// Bytes from hex digits; blanks are passed over.
+pub fn hex(text: &str) -> Vec<u8> {
+    let digits: Vec<u32> = text
+        .chars()
+        .filter(|letter| !letter.is_whitespace())
+        .map(|letter| letter.to_digit(16).expect("a hex digit"))
+        .collect();
+    digits
+        .chunks(2)
+        .map(|pair| (pair[0] * 16 + pair[1]) as u8)
+        .collect()
+}
+
+pub fn packet(kind: Type, information: &[u8]) -> Vec<u8> {
+    Packet::new(kind, information).bytes()
+}
+
+/// UPLOAD_CMD of a new file.
+pub fn upload(length: u32) -> Vec<u8> {
+    proceed(0, length)
+}
+
+/// UPLOAD_CMD that continues a file.
+pub fn proceed(number: u32, length: u32) -> Vec<u8> {
+    let information = [number.to_le_bytes(), length.to_le_bytes()].concat();
+    packet(Type::UploadCmd, &information)
+}
+
+/// DATA packets that carry the bytes, each as full as the server takes.
+pub fn data(bytes: &[u8]) -> Vec<u8> {
+    bytes
+        .chunks(256)
+        .flat_map(|piece| packet(Type::Data, piece))
+        .collect()
+}
+
+pub fn data_end() -> Vec<u8> {
+    packet(Type::DataEnd, &[])
+}
+
+pub fn download(number: u32, offset: u32, lock_destination: u8) -> Vec<u8> {
+    let mut information = [number.to_le_bytes(), offset.to_le_bytes()].concat();
+    information.push(lock_destination);
+    packet(Type::DownloadCmd, &information)
+}
+
+pub fn select(equation: &[u8]) -> Vec<u8> {
+    packet(Type::SelectCmd, equation)
+}
+
+/// SELECT_CMD of the files with a larger upload time.
+pub fn select_above(time: u32) -> Vec<u8> {
+    select(&above(time))
+}
+
+/// The relation "upload_time is greater than".
+pub fn above(time: u32) -> Vec<u8> {
+    let mut bytes = hex("90 1200 04");
+    bytes.extend(time.to_le_bytes());
+    bytes
+}
+
+pub fn ack(destination: u8) -> Vec<u8> {
+    packet(Type::DlAckCmd, &[destination])
+}
+
+pub fn nak() -> Vec<u8> {
+    packet(Type::DlNakCmd, &[])
+}
+
+const POISON: u8 = 0xe7;
+
+/// A server with a clock, driven as a program would. After every call the
+/// store must be sound and the lent output changed only by the packet; a
+/// refusal must have changed nothing.
+#[derive(Clone)]
+pub struct Desk {
+    pub server: Server,
+    pub clock: u32,
+}
+
+impl Desk {
+    pub fn new() -> Desk {
+        Desk::sized(Sizes::PROGRAM)
+    }
+
+    pub fn sized(sizes: Sizes) -> Desk {
+        Desk {
+            server: Server::new(sizes).expect("sizes of the table"),
+            clock: 0,
+        }
+    }
+
+    /// With session 1 open.
+    pub fn opened() -> Desk {
+        let mut desk = Desk::new();
+        desk.open(1);
+        desk
+    }
+
+    pub fn open(&mut self, session: u32) -> Answer {
+        let clock = self.clock;
+        self.call(|server, output| server.open(session, clock, output))
+    }
+
+    pub fn receive(&mut self, session: u32, bytes: &[u8]) -> Answer {
+        let clock = self.clock;
+        let answer = self.call(|server, output| server.receive(session, clock, bytes, output));
+        if let Answer::Closed(took) | Answer::Quiet(took) | Answer::Sent(took, _) = answer {
+            assert!(took <= bytes.len());
+        }
+        answer
+    }
+
+    pub fn request(&mut self, session: u32) -> Answer {
+        self.call(|server, output| server.request(session, output))
+    }
+
+    pub fn lose(&mut self, session: u32) -> Answer {
+        self.call(|server, _| server.lose(session))
+    }
+
+    fn call(&mut self, call: impl FnOnce(&mut Server, &mut [u8]) -> Answer) -> Answer {
+        let before = self.server.clone();
+        let mut output = [POISON; 300];
+        let answer = call(&mut self.server, &mut output);
+        assert_sound(&self.server);
+        let mut expected = [POISON; 300];
+        match &answer {
+            Answer::Refused(_) => assert_eq!(self.server, before),
+            Answer::Sent(_, packet) => {
+                let bytes = packet.bytes();
+                expected[..bytes.len()].copy_from_slice(&bytes);
+            }
+            Answer::Closed(_) | Answer::Quiet(_) => {}
+        }
+        assert_eq!(output, expected);
+        answer
+    }
+
+    /// Hands over all bytes, packet by packet, and tells what comes back.
+    pub fn hear(&mut self, session: u32, bytes: &[u8]) -> Vec<String> {
+        let mut told = Vec::new();
+        let mut at = 0;
+        loop {
+            let answer = self.receive(session, &bytes[at..]);
+            match &answer {
+                Answer::Refused(_) | Answer::Closed(_) => {
+                    told.push(tell(&answer));
+                    return told;
+                }
+                Answer::Quiet(took) => at += took,
+                Answer::Sent(took, _) => {
+                    told.push(tell(&answer));
+                    at += took;
+                }
+            }
+            if at == bytes.len() {
+                return told;
+            }
+        }
+    }
+
+    /// Requests until nothing is due.
+    pub fn pump(&mut self, session: u32) -> Vec<String> {
+        let mut told = Vec::new();
+        loop {
+            let before = self.server.clone();
+            match self.request(session) {
+                Answer::Quiet(0) => {
+                    assert_eq!(self.server, before);
+                    return told;
+                }
+                answer => told.push(tell(&answer)),
+            }
+        }
+    }
+
+    /// Hands over the bytes and then requests what is due.
+    pub fn rx(&mut self, session: u32, bytes: &[u8]) -> Vec<String> {
+        let mut told = self.hear(session, bytes);
+        let index = session as usize - 1;
+        if matches!(self.server.sessions.get(index), Some(Some(_))) {
+            told.extend(self.pump(session));
+        }
+        told
+    }
+
+    /// Uploads a whole file on an idle uplink; it must be acknowledged.
+    pub fn store(&mut self, session: u32, file: &[u8]) -> u32 {
+        let number = self.server.store.last_number + 1;
+        let stream = [upload(file.len() as u32), data(file), data_end()].concat();
+        let told = self.hear(session, &stream);
+        let go = format!("UL_GO_RESP {}", to_hex(&number.to_le_bytes()));
+        assert_eq!(told, [go + "00000000", "UL_ACK_RESP ".to_string()]);
+        number
+    }
+
+    pub fn uplink(&self, session: usize) -> Uplink {
+        self.server.sessions[session - 1].as_ref().unwrap().uplink
+    }
+
+    pub fn downlink(&self, session: usize) -> Downlink {
+        self.server.sessions[session - 1].as_ref().unwrap().downlink
+    }
+
+    pub fn is_open(&self, session: usize) -> bool {
+        self.server.sessions[session - 1].is_some()
+    }
+
+    pub fn free(&self) -> usize {
+        self.server.store.free_blocks()
+    }
+
+    /// The stored bytes of the file with that number.
+    pub fn contents(&self, number: u32) -> Option<Vec<u8>> {
+        let place = self.server.store.find(number)?;
+        Some(self.server.store.contents(place))
+    }
+}
+
+pub fn to_hex(bytes: &[u8]) -> String {
+    bytes.iter().map(|byte| format!("{byte:02x}")).collect()
+}
+
+/// An answer as one line, without the bytes taken.
+pub fn tell(answer: &Answer) -> String {
+    match answer {
+        Answer::Refused(number) => format!("refused {number}"),
+        Answer::Closed(_) => "closed".to_string(),
+        Answer::Quiet(_) => "quiet".to_string(),
+        Answer::Sent(_, packet) => {
+            format!("{} {}", packet.kind.name(), to_hex(&packet.information))
+        }
+    }
+}
+
+/// The facts on blocks, numbers, times, lengths and names that hold in every
+/// state that calls make from the empty store.
+pub fn assert_sound(server: &Server) {
+    let store = &server.store;
+    let sizes = server.sizes;
+    assert_eq!(store.free.len(), sizes.blocks);
+    assert_eq!(store.places.len(), sizes.files);
+    assert_eq!(server.sessions.len(), sizes.sessions);
+
+    let mut owned = BTreeSet::new();
+    let mut numbers = BTreeSet::new();
+    let mut times = BTreeSet::new();
+    let mut held = 0;
+    for file in store.places.iter().flatten() {
+        assert_eq!(file.blocks.len(), blocks_needed(file.length));
+        assert!(file.blocks.windows(2).all(|pair| pair[0] < pair[1]));
+        for block in &file.blocks {
+            assert!(owned.insert(*block), "a block of two files");
+        }
+        held += file.blocks.len();
+        assert!(numbers.insert(file.number), "a number given twice");
+        assert!((1..=store.last_number).contains(&file.number));
+        assert!(file.received <= file.length);
+        if let Some(time) = file.upload_time {
+            assert!(times.insert(time), "an upload time given twice");
+            assert!((1..=store.last_time).contains(&time));
+            assert_eq!(file.received, file.length);
+        }
+    }
+    for (block, free) in store.free.iter().enumerate() {
+        assert_ne!(*free, owned.contains(&block));
+    }
+    assert_eq!(store.held_blocks(), held);
+    assert_eq!(store.free_blocks() + held, sizes.blocks);
+    assert_sessions_sound(server);
+}
+
+fn assert_sessions_sound(server: &Server) {
+    let store = &server.store;
+    let mut uploading = BTreeSet::new();
+    for session in server.sessions.iter().flatten() {
+        if let Uplink::Receiving {
+            place,
+            offset,
+            received,
+        } = session.uplink
+        {
+            assert!(uploading.insert(place), "two sessions upload one file");
+            assert!(!store.file(place).is_complete());
+            assert_eq!(offset + received, store.file(place).received);
+        }
+        match session.downlink {
+            Downlink::Idle => {}
+            Downlink::Sending {
+                place,
+                offset,
+                sent,
+            } => {
+                assert!(store.file(place).is_complete());
+                assert!(offset + sent <= store.file(place).length);
+            }
+            Downlink::Ended { place } | Downlink::Aborting { place } => {
+                assert!(store.file(place).is_complete());
+            }
+        }
+        let selection = &session.selection;
+        assert!(selection.numbers.len() <= server.sizes.maxsel);
+        assert!(selection.position <= selection.numbers.len());
+        for &number in &selection.numbers {
+            let place = store.find(number).expect("a selected file");
+            assert!(store.file(place).is_complete());
+        }
+        let held = session.frame.held();
+        assert!(held.len() < 258);
+        if let [first, second, ..] = held {
+            let length = usize::from(*second >> 5) * 256 + usize::from(*first);
+            assert!(length <= 256 && held.len() < 2 + length);
+        }
+    }
+}

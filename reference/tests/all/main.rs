@@ -1,0 +1,13 @@
+//! All tests, in one program so that they build quickly.
+
+mod common;
+
+mod compare;
+mod equation;
+mod examples;
+mod generator;
+mod header;
+mod history;
+mod packet;
+mod script;
+mod server;
