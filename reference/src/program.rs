@@ -10,7 +10,7 @@ use std::time::Duration;
 use crate::random::Random;
 
 /// A program still running after this is taken not to end.
-const PATIENCE: Duration = Duration::from_secs(20);
+const PATIENCE: Duration = Duration::from_secs(10);
 
 /// How a run came out.
 #[derive(Clone, Debug, PartialEq, Eq)]

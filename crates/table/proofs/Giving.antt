@@ -18,13 +18,19 @@ below-most last n k = go (ltb last mostGiven) refl
     go true e = ltb-true last mostGiven e
     go false e = absurd (n (omega (arith, ltb-false last mostGiven e)))
 
--- the number given is the last one plus 1
-pub number-given : (last n : ℕ) → nextNumber last ≡ Next n → n ≡ last + 1
-number-given last n e = go (eqb last mostGiven) e
+-- a number is the last one given plus 1, and fits 32 bits where that does
+pub record NumberGiven (last n : ℕ) : Type 0 where
+  pub next : n ≡ last + 1
+  pub fits : last ≤ mostGiven → n ≤ mostGiven
+
+pub number-given : (last n : ℕ) → nextNumber last ≡ Next n → NumberGiven last n
+number-given last n e = go (eqb last mostGiven) refl e
   where
-    go : (t : Bool) → cond t UsedUp (Next (last + 1)) ≡ Next n → n ≡ last + 1
-    go true e = clash n e
-    go false e = cc
+    go : (t : Bool) → eqb last mostGiven ≡ t → cond t UsedUp (Next (last + 1)) ≡ Next n → NumberGiven last n
+    go true d e = clash n e
+    go false d e =
+        let s : last + 1 ≡ n = cc in
+        record { next = sym s; fits = λ k. let l = below-most last (eqb-false last mostGiven d) k in omega arith }
 
 -- numbers are used up exactly at the most of 32 bits
 pub number-used-up : (last : ℕ) → nextNumber last ≡ UsedUp → last ≡ mostGiven
@@ -33,6 +39,9 @@ number-used-up last e = go (eqb last mostGiven) refl e
     go : (t : Bool) → eqb last mostGiven ≡ t → cond t UsedUp (Next (last + 1)) ≡ UsedUp → last ≡ mostGiven
     go true d e = eqb-true last mostGiven d
     go false d e = clash (last + 1) (sym e)
+
+pub number-most : nextNumber mostGiven ≡ UsedUp
+number-most = refl
 
 -- a time is above the last one given, at least the clock, and fits 32 bits where both do
 pub record TimeGiven (clock last t : ℕ) : Type 0 where
@@ -65,6 +74,9 @@ time-used-up clock last e = go (eqb last mostGiven) refl e
     go : (t : Bool) → eqb last mostGiven ≡ t → cond t UsedUp (Next (cond (ltb clock (last + 1)) (last + 1) clock)) ≡ UsedUp → last ≡ mostGiven
     go true d e = eqb-true last mostGiven d
     go false d e = clash (cond (ltb clock (last + 1)) (last + 1) clock) (sym e)
+
+pub time-most : (clock : ℕ) → uploadTime clock mostGiven ≡ UsedUp
+time-most clock = refl
 
 -- the blocks of a length have room for it, and one block fewer has not
 pub blocks-enough : (size : ℕ) → size ≤ 256 * blocksFor size

@@ -1,7 +1,7 @@
 -- Each change that the store makes to a record keeps the table sound.
 use mathlib.Core.Path.{_≡_, refl, sym, ap, _∙_}
 use mathlib.Core.Bool.{Bool, true, false, cond}
-use mathlib.Core.List.{List}
+use mathlib.Core.List.{List, _∷_, [], _++_}
 use Prim.Native.Nat.{ℕ, _+_, _≤_, _<_}
 use native.Mathlib.Omega.{arith}
 use lib.ListN.{length, replicate, getD, set, length-set, length-map}
@@ -13,8 +13,10 @@ use Rattle.table.specs.declared.Key.{Key}
 use Rattle.table.specs.declared.Key.the-variants.{Number, Time}
 use Rattle.table.specs.Table.{noFile, fileAt, uploaded, keyOf, keys, numbers, times}
 use Rattle.table.specs.Given.{blocksFor}
+use Rattle.table.specs.Order.{inOrder}
 use Rattle.table.specs.Fit.{FileFits, Fits, Distinct, Sound}
 use Rattle.table.proofs.Records.{no-file, key-at, keys-set, empty-at, uploaded-file, uploaded-time}
+use Rattle.table.proofs.Ordering.{in-order-last}
 use Rattle.table.proofs.Finding.{by-equal, within}
 
 -- a value that no other place has keeps the values distinct, and so does 0
@@ -175,6 +177,15 @@ module _ (last latest : ℕ) (counts : List ℕ) (fs : List File) (s : Sound las
         new Time k e z y =
             let u : uploaded (fileAt fs k) ≡ time = y ∙ rw (ne-eqb (fileAt fs p .number) 0 file) in
             omega (arith, time-le k)
+
+    -- and comes last in the order of upload times, which is so the order of completion
+    pub order-completed : (after time : ℕ) → after < time → latest < time → uploaded (fileAt fs p) ≡ 0
+        → inOrder after (set fs p (record { number = fileAt fs p .number; size = fileAt fs p .size; received = fileAt fs p .received; time = time }))
+        ≡ inOrder after fs ++ p ∷ []
+    order-completed after time h l free =
+        let f : File = record { number = fileAt fs p .number; size = fileAt fs p .size; received = fileAt fs p .received; time = time } in
+        let u : uploaded f ≡ time = uploaded-time f file in
+        in-order-last after fs p f here free (λ k. omega (arith, time-le k, u)) (omega (arith, u))
 
   -- a record is cleared: its blocks are released
   pub sound-cleared : (p : ℕ) (counts′ : List ℕ) → p < length fs

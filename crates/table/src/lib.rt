@@ -4,14 +4,14 @@
 // far and the upload time (0 while the file is partial). `get` and `put` alone know how a record is stored; all else goes through them, so
 // that a record can grow. A table has `table.len() / 4` places.
 //
-// Every function takes any table and any numbers and asks nothing of its caller. A record past the last place reads as no file, and storing
+// Every public function takes any table and any numbers and asks nothing of its caller. A record past the last place reads as no file, and storing
 // one there is refused by 33 and changes nothing. No function but `records_fit` and `distinct` checks the whole table: what the others find
 // where two files share a number or a time is defined too (the lowest place), and the laws in proofs/ say what they find where none do.
 ghost use mathlib.Core.Path.{_≡_};
-ghost use mathlib.Core.Bool.{Bool, true, false, cond, not, _&&_, _||_};
-ghost use Prim.Native.Nat.{ℕ, suc, _+_, _*_, _/_, _≤_, _<_};
+ghost use mathlib.Core.Bool.{cond};
+ghost use Prim.Native.Nat.{_+_, _<_};
 ghost use lib.ListN.{length, getD, drop};
-ghost use lib.Dec.{eqb, ltb, leb};
+ghost use lib.Dec.{ltb};
 ghost use Rattle.table.specs.Table.{files, fileAt, putNumber, putTable, isComplete, isPartial, isKind, uploaded, keyOf, keys, times, countOf, firstWith, findOf, freeOf};
 ghost use Rattle.table.specs.Given.{nextNumber, uploadTime, blocksFor};
 ghost use Rattle.table.specs.Order.{lesser, leastAbove, nextComplete};
@@ -93,7 +93,7 @@ pub fn upload_time_of(file: File) -> u32
 // ---- finding
 
 // What a file is found by: its number or its upload time.
-enum Key {
+pub enum Key {
     Number,
     Time,
 }

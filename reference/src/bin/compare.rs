@@ -18,6 +18,10 @@ use reference::variants::{self, Cutting};
 const USAGE: &str = "usage: compare PROGRAM [--scripts N] [--seed S] [--seconds T] [--keep DIR] \
 [--lost | --cut]";
 
+/// A program that does not end makes every try slow, so shortening is given
+/// up after this.
+const SHORTENING: Duration = Duration::from_secs(120);
+
 #[derive(Clone, Copy, PartialEq)]
 enum Mode {
     /// Random scripts of all kinds.
@@ -194,7 +198,11 @@ impl Comparison {
             None => Some(1),
         };
         let mut failure = None;
+        let started = Instant::now();
         let script = shorten(&difference.script, |shorter| {
+            if started.elapsed() > SHORTENING {
+                return false;
+            }
             match self.disagreement(shorter, pieces) {
                 Ok(disagreement) => disagreement.is_some(),
                 Err(error) => {

@@ -20,19 +20,44 @@ blocks-for-requires c κs = search needs
 
 returns-3 : tie.Need-returns-3
 unfolding fileFits
-returns-3 c = rw (le-leb _ _ (c .before .before .before .before .if1 .left), le-leb _ _ (c .before .before .if2 .left), ne-eqb _ _ (λ e. c .if3 .taken (e ∙ sym (c .before .blocks-for .ensures))))
+returns-3 c =
+    rw (
+      le-leb _ _ (c .before .before .before .before .if1 .left),
+      le-leb _ _ (c .before .before .if2 .left),
+      ne-eqb _ _ (λ e. c .if3 .taken (e ∙ sym (c .before .blocks-for .ensures))),
+    )
 
 returns-4 : tie.Need-returns-4
 unfolding fileFits
-returns-4 c = rw (le-leb _ _ (c .before .before .before .before .before .before .if1 .left), le-leb _ _ (c .before .before .before .before .if2 .left), eq-eqb _ _ (c .before .before .if3 .left ∙ c .before .before .before .blocks-for .ensures), lt-leb _ _ (c .if4 .taken))
+returns-4 c =
+    rw (
+      le-leb _ _ (c .before .before .before .before .before .before .if1 .left),
+      le-leb _ _ (c .before .before .before .before .if2 .left),
+      eq-eqb _ _ (c .before .before .if3 .left ∙ c .before .before .before .blocks-for .ensures),
+      lt-leb _ _ (c .if4 .taken),
+    )
 
 returns-5 : tie.Need-returns-5
 unfolding fileFits
-returns-5 c = rw (le-leb _ _ (c .before .before .before .before .before .before .before .before .if1 .left), le-leb _ _ (c .before .before .before .before .before .before .if2 .left), eq-eqb _ _ (c .before .before .before .before .if3 .left ∙ c .before .before .before .before .before .blocks-for .ensures), le-leb _ _ (c .before .before .if4 .left), eq-eqb _ _ (c .if5 .taken))
+returns-5 c =
+    rw (
+      le-leb _ _ (c .before .before .before .before .before .before .before .before .if1 .left),
+      le-leb _ _ (c .before .before .before .before .before .before .if2 .left),
+      eq-eqb _ _ (c .before .before .before .before .if3 .left ∙ c .before .before .before .before .before .blocks-for .ensures),
+      le-leb _ _ (c .before .before .if4 .left),
+      eq-eqb _ _ (c .if5 .taken),
+    )
 
 returns-6 : tie.Need-returns-6
 unfolding fileFits
-returns-6 c = rw (le-leb _ _ (c .before .before .before .before .before .before .before .before .before .if1 .left), le-leb _ _ (c .before .before .before .before .before .before .before .if2 .left), eq-eqb _ _ (c .before .before .before .before .before .if3 .left ∙ c .before .before .before .before .before .before .blocks-for .ensures), le-leb _ _ (c .before .before .before .if4 .left), ne-eqb _ _ (c .before .if5 .left))
+returns-6 c =
+    rw (
+      le-leb _ _ (c .before .before .before .before .before .before .before .before .before .if1 .left),
+      le-leb _ _ (c .before .before .before .before .before .before .before .if2 .left),
+      eq-eqb _ _ (c .before .before .before .before .before .if3 .left ∙ c .before .before .before .before .before .before .blocks-for .ensures),
+      le-leb _ _ (c .before .before .before .if4 .left),
+      ne-eqb _ _ (c .before .if5 .left),
+    )
 
 pub file-fits-spec : {M : Type 1} → statement M
 file-fits-spec =

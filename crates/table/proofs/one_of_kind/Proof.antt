@@ -18,16 +18,24 @@ enum-told-2 : tie.Need-enum-told-2
 enum-told-2 c = search needs
 
 returns-2 : tie.Need-returns-2
-returns-2 c = let e : c .before .before .before .before .before .before .args .kind ≡ Partial = c .before .before .enum-told .given .1 in rw e (rw (ne-eqb _ _ (c .before .before .before .before .if1 .left), eq-eqb _ _ (c .if2 .taken)))
+returns-2 c =
+    let e : c .before .before .before .before .before .before .args .kind ≡ Partial = c .before .before .enum-told .given .1 in
+    rw e (rw (ne-eqb _ _ (c .before .before .before .before .if1 .left), eq-eqb _ _ (c .if2 .taken)))
 
 returns-3 : tie.Need-returns-3
-returns-3 c = let e : c .before .before .before .before .before .before .args .kind ≡ Partial = c .before .before .enum-told .given .1 in rw e (rw (ne-eqb _ _ (c .before .before .before .before .if1 .left), ne-eqb _ _ (c .if2 .left)))
+returns-3 c =
+    let e : c .before .before .before .before .before .before .args .kind ≡ Partial = c .before .before .enum-told .given .1 in
+    rw e (rw (ne-eqb _ _ (c .before .before .before .before .if1 .left), ne-eqb _ _ (c .if2 .left)))
 
 returns-4 : tie.Need-returns-4
-returns-4 c = let e : c .before .before .before .before .before .before .args .kind ≡ Complete = c .before .before .enum-told2 .given .1 in rw e (rw (ne-eqb _ _ (c .before .before .before .before .if1 .left), eq-eqb _ _ (c .if3 .taken)))
+returns-4 c =
+    let e : c .before .before .before .before .before .before .args .kind ≡ Complete = c .before .before .enum-told2 .given .1 in
+    rw e (rw (ne-eqb _ _ (c .before .before .before .before .if1 .left), eq-eqb _ _ (c .if3 .taken)))
 
 returns-5 : tie.Need-returns-5
-returns-5 c = let e : c .before .before .before .before .before .before .args .kind ≡ Complete = c .before .before .enum-told2 .given .1 in rw e (rw (ne-eqb _ _ (c .before .before .before .before .if1 .left), ne-eqb _ _ (c .if3 .left)))
+returns-5 c =
+    let e : c .before .before .before .before .before .before .args .kind ≡ Complete = c .before .before .enum-told2 .given .1 in
+    rw e (rw (ne-eqb _ _ (c .before .before .before .before .if1 .left), ne-eqb _ _ (c .if3 .left)))
 
 pub one-of-kind-spec : {M : Type 1} → statement M
 one-of-kind-spec =

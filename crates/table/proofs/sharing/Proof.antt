@@ -26,7 +26,9 @@ upload-time-of-requires c κs = search needs
 
 returns-4 : tie.Need-returns-4
 unfolding shares
-returns-4 c = ap (eqb (c .before .before .before .before .before .before .before .before .before .args .a .time)) (c .before .upload-time-of .ensures) ∙ shares-time (c .before .before .before .before .before .before .before .before .before .args .a) (c .before .before .before .before .before .before .before .before .before .args .b) (c .before .before .before .before .before .before .before .if1 .left) (c .before .before .before .before .if2 .left) (c .before .before .if3 .left)
+returns-4 c =
+    ap (eqb (c .before .before .before .before .before .before .before .before .before .args .a .time)) (c .before .upload-time-of .ensures)
+    ∙ shares-time (c .before .before .before .before .before .before .before .before .before .args .a) (c .before .before .before .before .before .before .before .before .before .args .b) (c .before .before .before .before .before .before .before .if1 .left) (c .before .before .before .before .if2 .left) (c .before .before .if3 .left)
 
 pub sharing-spec : {M : Type 1} → statement M
 sharing-spec = tie.close (tie.spec returns returns-2 returns-3 upload-time-of-requires returns-4)

@@ -1,0 +1,4 @@
+pub mod Turn
+pub mod Upload
+pub mod Download
+pub mod Carry

@@ -1,0 +1,4 @@
+pub mod Words
+pub mod Uplink
+pub mod Downlink
+pub mod Decide

@@ -1,0 +1,469 @@
+-- What refusal 35 says of the sessions ("a length, offset or name points at what the store lacks"), as facts, and that `linksSound` is true
+-- exactly where they hold. Four closed sessions have them, whatever the store. Assumes nothing.
+use mathlib.Core.Path.{_≡_, refl, ap}
+use mathlib.Core.Bool.{Bool, true, false, cond, not}
+use mathlib.Core.List.{List, [], _∷_}
+use Prim.Native.Nat.{ℕ, zero, suc, _+_, _*_, _≤_, _<_}
+use native.Mathlib.Omega.{arith}
+use native.Mathlib.Nat.{suc-mul, mul-le-mul-right}
+use lib.Dec.{eqb, leb, ltb}
+use lib.ListN.{length, getD, take, drop, length-drop}
+use lib.Seq.{length-take-le, getD-take}
+use borrow.Author.Count.{below-none, below-more}
+use borrow.Author.Tests.{ltb-false, ltb-true, leb-true, eqb-true, eqb-false, not-true, lt-ltb, le-ltb, le-leb, eq-eqb, ne-eqb}
+use Rattle.packet.specs.Frame.{announcedIn}
+use Rattle.session.specs.declared.state.Session.{Session}
+use Rattle.session.specs.declared.state.Uplink.{Uplink}
+use Rattle.session.specs.declared.state.Uplink.the-variants as up
+use Rattle.session.specs.declared.state.Downlink.{Downlink}
+use Rattle.session.specs.declared.state.Downlink.the-variants as down
+use Rattle.session.specs.State.{closedSession}
+use Rattle.table.specs.declared.File.{File}
+use Rattle.table.specs.declared.Found.{Found}
+use Rattle.table.specs.declared.Found.the-variants.{Nothing, At}
+use Rattle.table.specs.Table.{fileAt, findOf}
+use Rattle.links.specs.Sound.{completeAt, uplinkSound, downlinkSound, namedAt, namedSound, namesSound, selectionSound, packetSound, linkSound, linkIn, linkAt, apartIn, apartFrom, link, allApart, linksSound}
+
+-- ---- the facts
+
+-- a complete file stands at the place: a number and an upload time
+pub record CompleteAt (fs : List File) (place : ℕ) : Type 0 where
+  pub number : fileAt fs place .number ≡ 0 → ⊥
+  pub time : fileAt fs place .time ≡ 0 → ⊥
+
+-- a partial file stands at the place, a number and no upload time, and has this many bytes
+pub record PartialAt (fs : List File) (place received : ℕ) : Type 0 where
+  pub number : fileAt fs place .number ≡ 0 → ⊥
+  pub time : fileAt fs place .time ≡ 0
+  pub agree : received ≡ fileAt fs place .received
+
+-- a download has a complete file, and has not passed its end
+pub record SendingAt (fs : List File) (place sent : ℕ) : Type 0 where
+  pub complete : CompleteAt fs place
+  pub within : sent ≤ fileAt fs place .size
+
+-- the number is that of a complete file
+pub record Selectable (fs : List File) (number : ℕ) : Type 0 where
+  pub place : ℕ
+  pub found : findOf fs number ≡ At place
+  pub complete : CompleteAt fs place
+
+-- an unfinished packet has fewer bytes than its head announces, and it announces 256 at most
+pub record Unfinished (held : ℕ) (part : List ℕ) : Type 0 where
+  pub announces : announcedIn part ≤ 256
+  pub fewer : held < 2 + announcedIn part
+
+-- an open session, its part of the selections and of the unfinished packets
+pub record LinkFacts (fs : List File) (most : ℕ) (selected part : List ℕ) (s : Session) : Type 0 where
+  pub receiving : (place offset received : ℕ) → s .up ≡ up.Receiving place offset received → PartialAt fs place (offset + received)
+  pub sending : (place offset sent : ℕ) → s .down ≡ down.Sending place offset sent → SendingAt fs place (offset + sent)
+  pub ended : (place : ℕ) → s .down ≡ down.Ended place → CompleteAt fs place
+  pub aborting : (place : ℕ) → s .down ≡ down.Aborting place → CompleteAt fs place
+  pub at-most : s .count ≤ most
+  pub next : s .next ≤ s .count
+  pub names : (k : ℕ) → k < s .count → Selectable fs (getD selected k 0)
+  pub packet : 2 ≤ s .held → Unfinished (s .held) part
+
+-- the session is open and uploads the file at the place
+pub record Uploads (s : Session) (place : ℕ) : Type 0 where
+  pub linked : s .linked ≡ true
+  pub offset : ℕ
+  pub received : ℕ
+  pub receiving : s .up ≡ up.Receiving place offset received
+
+-- session i's part of the selections, MAXSEL numbers, and of the unfinished packets, 258 bytes
+abbrev pub selectionOf : ℕ → List ℕ → ℕ → List ℕ
+selectionOf most selected i = take most (drop (i * most) selected)
+
+abbrev pub packetOf : List ℕ → ℕ → List ℕ
+packetOf held i = take 258 (drop (i * 258) held)
+
+-- all sessions: at most 4 and MAXSEL at most 50, what they lend is long enough, each open one has its facts, one beyond their number is
+-- closed, and no two upload the same file
+pub record LinksFacts (fs : List File) (sessions most : ℕ) (selected held : List ℕ) (links : List Session) : Type 0 where
+  pub number : sessions ≤ 4
+  pub maxsel : most ≤ 50
+  pub selections : sessions * most ≤ length selected
+  pub packets : sessions * 258 ≤ length held
+  pub each : (i : ℕ) → i < 4 → i < sessions → link links i .linked ≡ true
+      → LinkFacts fs most (selectionOf most selected i) (packetOf held i) (link links i)
+  pub beyond : (i : ℕ) → i < 4 → sessions ≤ i → link links i .linked ≡ false
+  pub apart : (j : ℕ) → j < 4 → (i : ℕ) → i < j → (place : ℕ) → Uploads (link links i) place → Uploads (link links j) place → ⊥
+
+-- ---- tests in a row
+
+clash : false ≡ true → ⊥
+clash e = let z : _≡_ {A = ℕ} 0 1 = cc in omega arith
+
+first : (a b : Bool) → cond a b false ≡ true → a ≡ true
+first true b e = refl
+first false b e = absurd (clash e)
+
+rest : (a b : Bool) → cond a b false ≡ true → b ≡ true
+rest true b e = e
+rest false b e = absurd (clash e)
+
+both : (a b : Bool) → a ≡ true → b ≡ true → cond a b false ≡ true
+both true b e f = f
+both false b e f = e
+
+-- `cond a false b` has its first test the other way round
+not-first : (a b : Bool) → cond a false b ≡ true → a ≡ false
+not-first true b e = absurd (clash e)
+not-first false b e = refl
+
+not-rest : (a b : Bool) → cond a false b ≡ true → b ≡ true
+not-rest true b e = absurd (clash e)
+not-rest false b e = e
+
+-- ---- files
+
+complete-fact : (fs : List File) (place : ℕ) → completeAt fs place ≡ true → CompleteAt fs place
+complete-fact fs place e = go (eqb (fileAt fs place .number) 0) refl e
+  where
+    go : (b : Bool) → eqb (fileAt fs place .number) 0 ≡ b → not (eqb (cond b 0 (fileAt fs place .time)) 0) ≡ true → CompleteAt fs place
+    go true n e = absurd (clash e)
+    go false n e = record { number = eqb-false _ _ n; time = eqb-false _ _ (not-true _ e) }
+
+complete-test : (fs : List File) (place : ℕ) → CompleteAt fs place → completeAt fs place ≡ true
+complete-test fs place h = rw (ne-eqb (fileAt fs place .number) 0 (h .number), ne-eqb (fileAt fs place .time) 0 (h .time))
+
+partial-fact : (fs : List File) (place offset received : ℕ) → uplinkSound fs (up.Receiving place offset received) ≡ true → PartialAt fs place (offset + received)
+unfolding uplinkSound
+partial-fact fs place offset received e =
+    record {
+      number = eqb-false _ _ (not-first (eqb (fileAt fs place .number) 0) _ e);
+      time = eqb-true _ _ (first (eqb (fileAt fs place .time) 0) _ (not-rest (eqb (fileAt fs place .number) 0) _ e));
+      agree = eqb-true _ _ (rest (eqb (fileAt fs place .time) 0) _ (not-rest (eqb (fileAt fs place .number) 0) _ e));
+    }
+
+partial-test : (fs : List File) (place offset received : ℕ) → PartialAt fs place (offset + received) → uplinkSound fs (up.Receiving place offset received) ≡ true
+unfolding uplinkSound
+partial-test fs place offset received h =
+    rw (ne-eqb (fileAt fs place .number) 0 (h .number), eq-eqb (fileAt fs place .time) 0 (h .time))
+    (eq-eqb (offset + received) (fileAt fs place .received) (h .agree))
+
+sending-fact : (fs : List File) (place offset sent : ℕ) → downlinkSound fs (down.Sending place offset sent) ≡ true → SendingAt fs place (offset + sent)
+unfolding downlinkSound
+sending-fact fs place offset sent e =
+    record { complete = complete-fact fs place (first (completeAt fs place) _ e); within = leb-true _ _ (rest (completeAt fs place) _ e) }
+
+sending-test : (fs : List File) (place offset sent : ℕ) → SendingAt fs place (offset + sent) → downlinkSound fs (down.Sending place offset sent) ≡ true
+unfolding downlinkSound
+sending-test fs place offset sent h = both _ _ (complete-test fs place (h .complete)) (le-leb _ _ (h .within))
+
+ended-fact : (fs : List File) (place : ℕ) → downlinkSound fs (down.Ended place) ≡ true → CompleteAt fs place
+unfolding downlinkSound
+ended-fact fs place e = complete-fact fs place e
+
+aborting-fact : (fs : List File) (place : ℕ) → downlinkSound fs (down.Aborting place) ≡ true → CompleteAt fs place
+unfolding downlinkSound
+aborting-fact fs place e = complete-fact fs place e
+
+-- the two sides of a session
+uplink-test : (fs : List File) (u : Uplink)
+    → ((place offset received : ℕ) → u ≡ up.Receiving place offset received → PartialAt fs place (offset + received))
+    → uplinkSound fs u ≡ true
+unfolding uplinkSound
+uplink-test fs up.Idle f = refl
+uplink-test fs (up.Receiving place offset received) f = partial-test fs place offset received (f place offset received refl)
+uplink-test fs up.Ignoring f = refl
+
+downlink-test : (fs : List File) (d : Downlink)
+    → ((place offset sent : ℕ) → d ≡ down.Sending place offset sent → SendingAt fs place (offset + sent))
+    → ((place : ℕ) → d ≡ down.Ended place → CompleteAt fs place)
+    → ((place : ℕ) → d ≡ down.Aborting place → CompleteAt fs place)
+    → downlinkSound fs d ≡ true
+unfolding downlinkSound
+downlink-test fs down.Idle f g h = refl
+downlink-test fs (down.Sending place offset sent) f g h = sending-test fs place offset sent (f place offset sent refl)
+downlink-test fs (down.Ended place) f g h = complete-test fs place (g place refl)
+downlink-test fs (down.Aborting place) f g h = complete-test fs place (h place refl)
+
+-- ---- selections
+
+selectable-fact : (fs : List File) (number : ℕ) → namedSound fs number ≡ true → Selectable fs number
+unfolding namedAt
+selectable-fact fs number e = go (findOf fs number) refl e
+  where
+    go : (w : Found) → findOf fs number ≡ w → namedAt fs w ≡ true → Selectable fs number
+    go Nothing q e = absurd (clash e)
+    go (At place) q e = record { place = place; found = q; complete = complete-fact fs place e }
+
+selectable-test : (fs : List File) (number : ℕ) → Selectable fs number → namedSound fs number ≡ true
+unfolding namedAt
+selectable-test fs number h = rw (h .found) (complete-test fs (h .place) (h .complete))
+
+names-fact : (fs : List File) (xs : List ℕ) → namesSound fs xs ≡ true → (k : ℕ) → k < length xs → Selectable fs (getD xs k 0)
+unfolding namesSound
+names-fact fs [] e k h = absurd (omega arith)
+names-fact fs (x ∷ xs) e zero h = selectable-fact fs x (first (namedSound fs x) _ e)
+names-fact fs (x ∷ xs) e (suc k) h = names-fact fs xs (rest (namedSound fs x) (namesSound fs xs) e) k (omega arith)
+
+names-test : (fs : List File) (xs : List ℕ) → ((k : ℕ) → k < length xs → Selectable fs (getD xs k 0)) → namesSound fs xs ≡ true
+unfolding namesSound
+names-test fs [] f = refl
+names-test fs (x ∷ xs) f =
+    both _ _ (selectable-test fs x (f 0 (omega arith))) (names-test fs xs (λ k h. f (suc k) (omega arith)))
+
+-- the first `count` of a selection that has so many
+module _ (fs : List File) (xs : List ℕ) (count : ℕ) (fits : count ≤ length xs) where
+  taken-fact : namesSound fs (take count xs) ≡ true → (k : ℕ) → k < count → Selectable fs (getD xs k 0)
+  taken-fact e k h = rw (getD-take count xs k 0 h) at (names-fact fs (take count xs) e k (rw (length-take-le count xs fits) h))
+
+  taken-test : ((k : ℕ) → k < count → Selectable fs (getD xs k 0)) → namesSound fs (take count xs) ≡ true
+  taken-test f = names-test fs (take count xs) (λ k h. here k (rw (length-take-le count xs fits) at h))
+    where
+      here : (k : ℕ) → k < count → Selectable fs (getD (take count xs) k 0)
+      here k h = rw (getD-take count xs k 0 h) (f k h)
+
+-- ---- unfinished packets
+
+unfinished-fact : (held : ℕ) (part : List ℕ) → packetSound held part ≡ true → 2 ≤ held → Unfinished held part
+unfolding packetSound
+unfinished-fact held part e h = go (rw (le-ltb held 2 h) at e)
+  where
+    go : cond (leb (announcedIn part) 256) (ltb held (2 + announcedIn part)) false ≡ true → Unfinished held part
+    go e =
+        record {
+          announces = leb-true (announcedIn part) 256 (first (leb (announcedIn part) 256) _ e);
+          fewer = ltb-true held (2 + announcedIn part) (rest (leb (announcedIn part) 256) _ e);
+        }
+
+unfinished-test : (held : ℕ) (part : List ℕ) → (2 ≤ held → Unfinished held part) → packetSound held part ≡ true
+unfolding packetSound
+unfinished-test held part f = go (ltb held 2) refl
+  where
+    last : Unfinished held part → cond (leb (announcedIn part) 256) (ltb held (2 + announcedIn part)) false ≡ true
+    last u = both _ _ (le-leb _ _ (u .announces)) (lt-ltb _ _ (u .fewer))
+
+    go : (b : Bool) → ltb held 2 ≡ b → cond b true (cond (leb (announcedIn part) 256) (ltb held (2 + announcedIn part)) false) ≡ true
+    go true e = refl
+    go false e = last (f (ltb-false _ _ e))
+
+-- ---- a session
+
+module _ (fs : List File) (most : ℕ) (selected part : List ℕ) (s : Session) (size : length selected ≡ most) where
+  link-fact : linkSound fs most selected part s ≡ true → s .linked ≡ true → LinkFacts fs most selected part s
+  unfolding linkSound selectionSound
+  link-fact e l = go (rw l at e)
+    where
+      chosen : cond (leb (s .count) most) (cond (leb (s .next) (s .count)) (namesSound fs (take (s .count) selected)) false) false ≡ true
+          → uplinkSound fs (s .up) ≡ true
+          → downlinkSound fs (s .down) ≡ true
+          → packetSound (s .held) part ≡ true
+          → LinkFacts fs most selected part s
+      chosen c u d p =
+          let m : s .count ≤ most = leb-true _ _ (first (leb (s .count) most) _ c) in
+          let n = rest (leb (s .count) most) _ c in
+          record {
+            receiving = λ place offset received q. partial-fact fs place offset received (rw q at u);
+            sending = λ place offset sent q. sending-fact fs place offset sent (rw q at d);
+            ended = λ place q. ended-fact fs place (rw q at d);
+            aborting = λ place q. aborting-fact fs place (rw q at d);
+            at-most = m;
+            next = leb-true _ _ (first (leb (s .next) (s .count)) _ n);
+            names = taken-fact fs selected (s .count) (omega arith) (rest (leb (s .next) (s .count)) _ n);
+            packet = unfinished-fact (s .held) part p;
+          }
+
+      go : cond (uplinkSound fs (s .up)) (cond (downlinkSound fs (s .down)) (cond (selectionSound fs most selected (s .count) (s .next)) (packetSound (s .held) part) false) false) false ≡ true
+          → LinkFacts fs most selected part s
+      go e =
+          let e₁ = rest (uplinkSound fs (s .up)) _ e in
+          let e₂ = rest (downlinkSound fs (s .down)) _ e₁ in
+          let selection = selectionSound fs most selected (s .count) (s .next) in
+          chosen (first selection _ e₂) (first (uplinkSound fs (s .up)) _ e) (first (downlinkSound fs (s .down)) _ e₁) (rest selection _ e₂)
+
+  link-test : (s .linked ≡ true → LinkFacts fs most selected part s) → linkSound fs most selected part s ≡ true
+  unfolding linkSound selectionSound
+  link-test f = go (s .linked) refl
+    where
+      opened : LinkFacts fs most selected part s
+          → cond (uplinkSound fs (s .up)) (cond (downlinkSound fs (s .down)) (cond (selectionSound fs most selected (s .count) (s .next)) (packetSound (s .held) part) false) false) false ≡ true
+      opened h =
+          let m : s .count ≤ length selected = omega (arith, h .at-most) in
+          both _ _ (uplink-test fs (s .up) (h .receiving))
+          (both _ _ (downlink-test fs (s .down) (h .sending) (h .ended) (h .aborting))
+          (both _ _
+          (both _ _ (le-leb _ _ (h .at-most)) (both _ _ (le-leb _ _ (h .next)) (taken-test fs selected (s .count) m (h .names))))
+          (unfinished-test (s .held) part (h .packet))))
+
+      go : (b : Bool) → s .linked ≡ b
+          → cond b (cond (uplinkSound fs (s .up)) (cond (downlinkSound fs (s .down)) (cond (selectionSound fs most selected (s .count) (s .next)) (packetSound (s .held) part) false) false) false) true ≡ true
+      go true l = opened (f l)
+      go false l = refl
+
+-- ---- two sessions
+
+apart-fact : (a b : Session) → apartFrom a b ≡ true → (place : ℕ) → Uploads a place → Uploads b place → ⊥
+unfolding apartFrom
+apart-fact a b e place u v =
+    eqb-false place place
+    (not-true _ (rw (u .linked, v .linked, u .receiving, v .receiving) at e))
+    refl
+
+apart-test : (a b : Session) → ((place : ℕ) → Uploads a place → Uploads b place → ⊥) → apartFrom a b ≡ true
+unfolding apartFrom
+apart-test a b f = go (a .linked) (b .linked) (a .up) (b .up) refl refl refl refl
+  where
+    go : (l m : Bool) (u v : Uplink) → a .linked ≡ l → b .linked ≡ m → a .up ≡ u → b .up ≡ v → cond l (cond m (apartIn u v) true) true ≡ true
+    go false m u v l k p q = refl
+    go true false u v l k p q = refl
+    go true true up.Idle v l k p q = refl
+    go true true up.Ignoring v l k p q = refl
+    go true true (up.Receiving place offset received) up.Idle l k p q = refl
+    go true true (up.Receiving place offset received) up.Ignoring l k p q = refl
+    go true true (up.Receiving place offset received) (up.Receiving place₂ offset₂ received₂) l k p q =
+        ap not
+        (ne-eqb place₂ place
+        (λ e.
+        f place
+        (record { linked = l; offset = offset; received = received; receiving = p })
+        (record { linked = k; offset = offset₂; received = received₂; receiving = rw (← e) q })))
+
+-- ---- all sessions
+
+-- what holds of 0 to 3
+four : (P : ℕ → Type 0) → P 0 → P 1 → P 2 → P 3 → (i : ℕ) → i < 4 → P i
+four P a b c d = below-more P 3 (below-more P 2 (below-more P 1 (below-more P 0 (below-none P) a) b) c) d
+
+-- part i of so many equal parts ends within them
+pub part-end : (i parts size : ℕ) → i < parts → i * size + size ≤ parts * size
+part-end i parts size h = rw suc-mul at (mul-le-mul-right {m = suc i} {n = parts} size h)
+
+-- session i's part of the selections has MAXSEL numbers
+part-size : (most : ℕ) (selected : List ℕ) (sessions i : ℕ) → sessions * most ≤ length selected → i < sessions → length (selectionOf most selected i) ≡ most
+part-size most selected sessions i h l =
+    length-take-le most (drop (i * most) selected) (rw (length-drop (i * most) selected) (omega (arith, part-end i sessions most l)))
+
+module _ (fs : List File) (sessions most : ℕ) (selected held : List ℕ) where
+  in-fact : (s : Session) (i : ℕ) → sessions * most ≤ length selected → linkIn fs sessions most selected held s i ≡ true
+      → i < sessions → s .linked ≡ true → LinkFacts fs most (selectionOf most selected i) (packetOf held i) s
+  unfolding linkIn
+  in-fact s i h e l o =
+      link-fact fs most (selectionOf most selected i) (packetOf held i) s (part-size most selected sessions i h l) (rw (lt-ltb i sessions l) at e) o
+
+  in-closed : (s : Session) (i : ℕ) → linkIn fs sessions most selected held s i ≡ true → sessions ≤ i → s .linked ≡ false
+  unfolding linkIn
+  in-closed s i e l = not-true _ (rw (le-ltb i sessions l) at e)
+
+  in-test : (s : Session) (i : ℕ) → sessions * most ≤ length selected
+      → (i < sessions → s .linked ≡ true → LinkFacts fs most (selectionOf most selected i) (packetOf held i) s)
+      → (sessions ≤ i → s .linked ≡ false)
+      → linkIn fs sessions most selected held s i ≡ true
+  unfolding linkIn
+  in-test s i h f g = go (ltb i sessions) refl
+    where
+      go : (b : Bool) → ltb i sessions ≡ b
+          → cond b (linkSound fs most (selectionOf most selected i) (packetOf held i) s) (not (s .linked)) ≡ true
+      go true e =
+          let l : i < sessions = ltb-true _ _ e in
+          link-test fs most (selectionOf most selected i) (packetOf held i) s (part-size most selected sessions i h l) (f l)
+      go false e = ap not (g (ltb-false _ _ e))
+
+module _ (fs : List File) (sessions most : ℕ) (selected held : List ℕ) (links : List Session) where
+  record Tests : Type 0 where
+    number : leb sessions 4 ≡ true
+    maxsel : leb most 50 ≡ true
+    selections : leb (sessions * most) (length selected) ≡ true
+    packets : leb (sessions * 258) (length held) ≡ true
+    each : (i : ℕ) → i < 4 → linkAt fs sessions most selected held links i ≡ true
+    apart : (j : ℕ) → j < 4 → (i : ℕ) → i < j → apartFrom (link links i) (link links j) ≡ true
+
+  apart-pairs : allApart links ≡ true → (j : ℕ) → j < 4 → (i : ℕ) → i < j → apartFrom (link links i) (link links j) ≡ true
+  unfolding allApart
+  apart-pairs e =
+      let P : ℕ → ℕ → Type 0 = λ j i. apartFrom (link links i) (link links j) ≡ true in
+      let p : ℕ → ℕ → Bool = λ i j. apartFrom (link links i) (link links j) in
+      let e₁ = rest (p 0 1) _ e in
+      let e₂ = rest (p 0 2) _ e₁ in
+      let e₃ = rest (p 0 3) _ e₂ in
+      let e₄ = rest (p 1 2) _ e₃ in
+      let e₅ = rest (p 1 3) _ e₄ in
+      four (λ j. (i : ℕ) → i < j → P j i)
+      (below-none (P 0))
+      (below-more (P 1) 0 (below-none (P 1)) (first (p 0 1) _ e))
+      (below-more (P 2) 1 (below-more (P 2) 0 (below-none (P 2)) (first (p 0 2) _ e₁)) (first (p 1 2) _ e₃))
+      (below-more (P 3) 2 (below-more (P 3) 1 (below-more (P 3) 0 (below-none (P 3)) (first (p 0 3) _ e₂)) (first (p 1 3) _ e₄)) e₅)
+
+  -- `linksSound` is true: the facts hold
+  pub sound-facts : linksSound fs sessions most selected held links ≡ true → LinksFacts fs sessions most selected held links
+  unfolding linksSound
+  sound-facts e =
+      let linked-at : ℕ → Bool = linkAt fs sessions most selected held links in
+      let e₁ = rest (leb sessions 4) _ e in
+      let e₂ = rest (leb most 50) _ e₁ in
+      let e₃ = rest (leb (sessions * most) (length selected)) _ e₂ in
+      let e₄ = rest (leb (sessions * 258) (length held)) _ e₃ in
+      let e₅ = rest (linked-at 0) _ e₄ in
+      let e₆ = rest (linked-at 1) _ e₅ in
+      let e₇ = rest (linked-at 2) _ e₆ in
+      facts
+      (record {
+        number = first (leb sessions 4) _ e;
+        maxsel = first (leb most 50) _ e₁;
+        selections = first (leb (sessions * most) (length selected)) _ e₂;
+        packets = first (leb (sessions * 258) (length held)) _ e₃;
+        each = four (λ i. linked-at i ≡ true) (first (linked-at 0) _ e₄) (first (linked-at 1) _ e₅) (first (linked-at 2) _ e₆) (first (linked-at 3) _ e₇);
+        apart = apart-pairs (rest (linked-at 3) _ e₇);
+      })
+    where
+      facts : Tests → LinksFacts fs sessions most selected held links
+      facts t =
+          let n : sessions * most ≤ length selected = leb-true _ _ (t .selections) in
+          record {
+            number = leb-true _ _ (t .number);
+            maxsel = leb-true _ _ (t .maxsel);
+            selections = n;
+            packets = leb-true _ _ (t .packets);
+            each = λ i h. in-fact fs sessions most selected held (link links i) i n (t .each i h);
+            beyond = λ i h. in-closed fs sessions most selected held (link links i) i (t .each i h);
+            apart = λ j h i l. apart-fact (link links i) (link links j) (t .apart j h i l);
+          }
+
+  -- the facts hold: `linksSound` is true
+  pub facts-sound : LinksFacts fs sessions most selected held links → linksSound fs sessions most selected held links ≡ true
+  unfolding linksSound allApart
+  facts-sound f =
+      both _ _ (le-leb _ _ (f .number))
+      (both _ _ (le-leb _ _ (f .maxsel))
+      (both _ _ (le-leb _ _ (f .selections))
+      (both _ _ (le-leb _ _ (f .packets))
+      (both _ _ (one 0 (omega arith)) (both _ _ (one 1 (omega arith)) (both _ _ (one 2 (omega arith)) (both _ _ (one 3 (omega arith))
+      (both _ _ (two 0 1 (omega arith) (omega arith)) (both _ _ (two 0 2 (omega arith) (omega arith)) (both _ _ (two 0 3 (omega arith) (omega arith))
+      (both _ _ (two 1 2 (omega arith) (omega arith)) (both _ _ (two 1 3 (omega arith) (omega arith)) (two 2 3 (omega arith) (omega arith))))))))))))))
+    where
+      one : (i : ℕ) → i < 4 → linkAt fs sessions most selected held links i ≡ true
+      one i h = in-test fs sessions most selected held (link links i) i (f .selections) (f .each i h) (f .beyond i h)
+
+      two : (i j : ℕ) → i < j → j < 4 → apartFrom (link links i) (link links j) ≡ true
+      two i j l h = apart-test (link links i) (link links j) (f .apart j h i l)
+
+-- ---- the state at making
+
+closed-in : (fs : List File) (sessions most : ℕ) (selected held : List ℕ) (i : ℕ) → linkIn fs sessions most selected held closedSession i ≡ true
+unfolding linkIn linkSound
+closed-in fs sessions most selected held i = either (ltb i sessions)
+  where
+    either : (b : Bool) → cond b true true ≡ true
+    either true = refl
+    either false = refl
+
+-- four closed sessions are sound, whatever the store: no session names anything before its link is made
+pub closed-sound : (fs : List File) (sessions most : ℕ) (selected held : List ℕ)
+    → sessions ≤ 4
+    → most ≤ 50
+    → sessions * most ≤ length selected
+    → sessions * 258 ≤ length held
+    → linksSound fs sessions most selected held (closedSession ∷ closedSession ∷ closedSession ∷ closedSession ∷ []) ≡ true
+unfolding linksSound allApart apartFrom
+closed-sound fs sessions most selected held n m l k =
+    both _ _ (le-leb _ _ n)
+    (both _ _ (le-leb _ _ m)
+    (both _ _ (le-leb _ _ l)
+    (both _ _ (le-leb _ _ k)
+    (both _ _ (closed 0) (both _ _ (closed 1) (both _ _ (closed 2) (both _ _ (closed 3) refl)))))))
+  where
+    closed : (i : ℕ) → linkIn fs sessions most selected held closedSession i ≡ true
+    closed = closed-in fs sessions most selected held

@@ -1,0 +1,105 @@
+-- The facts of refusal 35 that concern the sessions (document 01, "Refusals by number"): "a length, offset or name points at what the store
+-- lacks". Assumes nothing.
+use mathlib.Core.Bool.{Bool, true, false, cond, _&&_, not}
+use mathlib.Core.List.{List, [], _∷_}
+use Prim.Native.Nat.{ℕ, _+_, _*_, _/_}
+use lib.Dec.{eqb, leb, ltb}
+use lib.ListN.{length, getD, take, drop}
+use Rattle.packet.specs.Frame.{announcedIn}
+use Rattle.session.specs.declared.state.Session.{Session}
+use Rattle.session.specs.declared.state.Uplink.{Uplink}
+use Rattle.session.specs.declared.state.Uplink.the-variants as up
+use Rattle.session.specs.declared.state.Downlink.{Downlink}
+use Rattle.session.specs.declared.state.Downlink.the-variants as down
+use Rattle.session.specs.State.{closedSession}
+use Rattle.table.specs.declared.File.{File}
+use Rattle.table.specs.declared.Found.{Found}
+use Rattle.table.specs.declared.Found.the-variants.{Nothing, At}
+use Rattle.table.specs.Table.{fileAt, findOf, uploaded}
+
+abbrev pub completeAt : List File → ℕ → Bool
+completeAt fs place = not (eqb (uploaded (fileAt fs place)) 0)
+
+-- an upload names a partial file, and has received what the file has beyond the offset
+unfoldable pub uplinkSound : List File → Uplink → Bool
+uplinkSound fs up.Idle = true
+uplinkSound fs (up.Receiving place offset received) =
+    cond (eqb (fileAt fs place .number) 0) false
+    (cond (eqb (fileAt fs place .time) 0) (eqb (offset + received) (fileAt fs place .received)) false)
+uplinkSound fs up.Ignoring = true
+
+-- a download names a complete file, and an offset within it
+unfoldable pub downlinkSound : List File → Downlink → Bool
+downlinkSound fs down.Idle = true
+downlinkSound fs (down.Sending place offset sent) = cond (completeAt fs place) (leb (offset + sent) (fileAt fs place .size)) false
+downlinkSound fs (down.Ended place) = completeAt fs place
+downlinkSound fs (down.Aborting place) = completeAt fs place
+
+-- a selected number is that of a complete file
+unfoldable pub namedAt : List File → Found → Bool
+namedAt fs Nothing = false
+namedAt fs (At place) = completeAt fs place
+
+abbrev pub namedSound : List File → ℕ → Bool
+namedSound fs number = namedAt fs (findOf fs number)
+
+unfoldable pub namesSound : List File → List ℕ → Bool
+namesSound fs [] = true
+namesSound fs (number ∷ numbers) = cond (namedSound fs number) (namesSound fs numbers) false
+
+-- at most MAXSEL files are selected, the next one is among them or past the last, and each is a complete file
+unfoldable pub selectionSound : List File → ℕ → List ℕ → ℕ → ℕ → Bool
+selectionSound fs most selected count next =
+    cond (leb count most) (cond (leb next count) (namesSound fs (take count selected)) false) false
+
+-- an unfinished packet has fewer bytes than its head announces
+unfoldable pub packetSound : ℕ → List ℕ → Bool
+packetSound held part = cond (ltb held 2) true (cond (leb (announcedIn part) 256) (ltb held (2 + announcedIn part)) false)
+
+-- an open session, with its part of the selections and of the unfinished packets; a closed one names nothing
+unfoldable pub linkSound : List File → ℕ → List ℕ → List ℕ → Session → Bool
+linkSound fs most selected part s =
+    cond (s .linked)
+    (cond (uplinkSound fs (s .up)) (cond (downlinkSound fs (s .down))
+    (cond (selectionSound fs most selected (s .count) (s .next)) (packetSound (s .held) part) false) false) false)
+    true
+
+-- the session of number i, counted from 0, of so many; those beyond them are closed
+unfoldable pub linkIn : List File → ℕ → ℕ → List ℕ → List ℕ → Session → ℕ → Bool
+linkIn fs sessions most selected held s i =
+    cond (ltb i sessions) (linkSound fs most (take most (drop (i * most) selected)) (take 258 (drop (i * 258) held)) s) (not (s .linked))
+
+abbrev pub linkAt : List File → ℕ → ℕ → List ℕ → List ℕ → List Session → ℕ → Bool
+linkAt fs sessions most selected held links i = linkIn fs sessions most selected held (getD links i closedSession) i
+
+-- two open sessions do not upload the same file
+abbrev pub notReceiving : Uplink → ℕ → Bool
+notReceiving up.Idle place = true
+notReceiving (up.Receiving p offset received) place = not (eqb p place)
+notReceiving up.Ignoring place = true
+
+abbrev pub apartIn : Uplink → Uplink → Bool
+apartIn up.Idle u = true
+apartIn (up.Receiving place offset received) u = notReceiving u place
+apartIn up.Ignoring u = true
+
+unfoldable pub apartFrom : Session → Session → Bool
+apartFrom a b = cond (a .linked) (cond (b .linked) (apartIn (a .up) (b .up)) true) true
+
+-- session i of the four
+abbrev pub link : List Session → ℕ → Session
+link links i = getD links i closedSession
+
+unfoldable pub allApart : List Session → Bool
+allApart links =
+    cond (apartFrom (link links 0) (link links 1)) (cond (apartFrom (link links 0) (link links 2)) (cond (apartFrom (link links 0) (link links 3))
+    (cond (apartFrom (link links 1) (link links 2)) (cond (apartFrom (link links 1) (link links 3)) (apartFrom (link links 2) (link links 3))
+    false) false) false) false) false
+
+-- the selections and the unfinished packets of all sessions are lent, MAXSEL numbers and 258 bytes a session
+unfoldable pub linksSound : List File → ℕ → ℕ → List ℕ → List ℕ → List Session → Bool
+linksSound fs sessions most selected held links =
+    cond (leb sessions 4) (cond (leb most 50) (cond (leb (sessions * most) (length selected)) (cond (leb (sessions * 258) (length held))
+    (cond (linkAt fs sessions most selected held links 0) (cond (linkAt fs sessions most selected held links 1)
+    (cond (linkAt fs sessions most selected held links 2) (cond (linkAt fs sessions most selected held links 3) (allApart links)
+    false) false) false) false) false) false) false) false

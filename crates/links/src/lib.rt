@@ -1,0 +1,261 @@
+// The sessions against the store: whether what their states name is there (refusal 35).
+use session::state::Downlink;
+use session::state::Session;
+use session::state::Uplink;
+use table::Found;
+ghost use mathlib.Core.Path.{_≡_};
+ghost use Prim.Native.Nat.{_+_, _*_, _≤_};
+ghost use lib.ListN.{length, take, drop};
+ghost use Rattle.table.specs.Table.{files};
+ghost use Rattle.links.specs.Sound.{completeAt, uplinkSound, downlinkSound, namedSound, namesSound, selectionSound, packetSound, linkSound, linkIn, notReceiving, apartFrom, allApart, linksSound};
+
+// The file at a place is complete.
+fn complete_at(table: &[u32], place: usize) -> bool
+    ensures { λ r. ⌜ r ≡ completeAt (files (now (table .entry))) place ⌝ }
+{
+    let f = table::get(table, place);
+    table::upload_time_of(f) != 0
+}
+
+// What an uplink state names is there.
+fn uplink_sound(up: Uplink, table: &[u32]) -> bool
+    ensures { λ r. ⌜ r ≡ uplinkSound (files (now (table .entry))) up ⌝ }
+{
+    match up {
+        Uplink::Idle => true,
+        Uplink::Receiving {
+            place,
+            offset,
+            received,
+        } => {
+            let f = table::get(table, place);
+            if f.number == 0 {
+                return false;
+            }
+            if f.time != 0 {
+                return false;
+            }
+            offset as u64 + received as u64 == f.received as u64
+        }
+        Uplink::Ignoring => true,
+    }
+}
+
+// What a downlink state names is there.
+fn downlink_sound(down: Downlink, table: &[u32]) -> bool
+    ensures { λ r. ⌜ r ≡ downlinkSound (files (now (table .entry))) down ⌝ }
+{
+    match down {
+        Downlink::Idle => true,
+        Downlink::Sending {
+            place,
+            offset,
+            sent,
+        } => {
+            let f = table::get(table, place);
+            if table::upload_time_of(f) == 0 {
+                return false;
+            }
+            offset as u64 + sent as u64 <= f.size as u64
+        }
+        Downlink::Ended { place } => complete_at(table, place),
+        Downlink::Aborting { place } => complete_at(table, place),
+    }
+}
+
+// A selected number is that of a complete file.
+fn named_sound(table: &[u32], number: u32) -> bool
+    ensures { λ r. ⌜ r ≡ namedSound (files (now (table .entry))) number ⌝ }
+{
+    let found = table::find(table, number);
+    match found {
+        Found::Nothing => false,
+        Found::At(place) => complete_at(table, place),
+    }
+}
+
+// The first `count` of the selected numbers are those of complete files.
+fn names_sound(table: &[u32], selected: &[u32], count: usize) -> bool
+    requires { ⌜ count ≤ length (now selected) ⌝ }
+    ensures { λ r. ⌜ r ≡ namesSound (files (now (table .entry))) (take count (now (selected .entry))) ⌝ }
+{
+    let mut k = 0;
+    while k < count {
+        if named_sound(table, selected[k]) {
+            k += 1;
+        } else {
+            return false;
+        }
+    }
+    true
+}
+
+// An unfinished packet: fewer bytes than its head announces.
+fn packet_sound(held: usize, part: &[u8]) -> bool
+    requires { ⌜ length (now part) ≡ 258 ⌝ }
+    ensures { λ r. ⌜ r ≡ packetSound held (now (part .entry)) ⌝ }
+{
+    if held < 2 {
+        return true;
+    }
+    let size = part[0] as usize + 256 * (part[1] as usize / 32);
+    if 256 < size {
+        return false;
+    }
+    held < 2 + size
+}
+
+// A selection: its size, the next file in it, and each number.
+fn selection_sound(table: &[u32], most: usize, selected: &[u32], count: usize, next: usize) -> bool
+    requires { ⌜ length (now selected) ≡ most ⌝ }
+    ensures { λ r. ⌜ r ≡ selectionSound (files (now (table .entry))) most (now (selected .entry)) count next ⌝ }
+{
+    if most < count {
+        return false;
+    }
+    if count < next {
+        return false;
+    }
+    names_sound(table, selected, count)
+}
+
+// A session with its parts of the selections and of the unfinished packets.
+fn link_sound(table: &[u32], most: usize, selected: &[u32], part: &[u8], s: Session) -> bool
+    requires { ⌜ (length (now selected) ≡ most) × (length (now part) ≡ 258) ⌝ }
+    ensures { λ r. ⌜ r ≡ linkSound (files (now (table .entry))) most (now (selected .entry)) (now (part .entry)) s ⌝ }
+{
+    if s.linked {
+        let up = s.up;
+        let down = s.down;
+        if uplink_sound(up, table) {
+            if downlink_sound(down, table) {
+                if selection_sound(table, most, selected, s.count, s.next) {
+                    return packet_sound(s.held, part);
+                }
+            }
+        }
+        return false;
+    }
+    true
+}
+
+// Session i, counted from 0; one beyond the number of sessions is closed.
+fn link_at(
+    table: &[u32],
+    sessions: usize,
+    most: usize,
+    selected: &[u32],
+    held: &[u8],
+    s: Session,
+    i: usize,
+) -> bool
+    requires { ⌜ (i ≤ 3) × (sessions ≤ 4) × (most ≤ 50) × (sessions * most ≤ length (now selected)) × (sessions * 258 ≤ length (now held)) ⌝ }
+    ensures { λ r. ⌜ r ≡ linkIn (files (now (table .entry))) sessions most (now (selected .entry)) (now (held .entry)) s i ⌝ }
+{
+    if i < sessions {
+        let a = i * most;
+        let b = i * 258;
+        return link_sound(table, most, &selected[a..a + most], &held[b..b + 258], s);
+    }
+    if s.linked {
+        return false;
+    }
+    true
+}
+
+// Two sessions do not upload the same file.
+fn apart_from(a: Session, b: Session) -> bool
+    ensures { λ r. ⌜ r ≡ apartFrom a b ⌝ }
+{
+    if a.linked {
+        if b.linked {
+            let up = a.up;
+            match up {
+                Uplink::Idle => true,
+                Uplink::Receiving {
+                    place,
+                    offset: _,
+                    received: _,
+                } => not_receiving(b, place),
+                Uplink::Ignoring => true,
+            }
+        } else {
+            true
+        }
+    } else {
+        true
+    }
+}
+
+// The session is not uploading the file at a place.
+fn not_receiving(s: Session, place: usize) -> bool
+    ensures { λ r. ⌜ r ≡ notReceiving (s .up) place ⌝ }
+{
+    let up = s.up;
+    match up {
+        Uplink::Idle => true,
+        Uplink::Receiving {
+            place: p,
+            offset: _,
+            received: _,
+        } => p != place,
+        Uplink::Ignoring => true,
+    }
+}
+
+// No two sessions upload the same file.
+fn all_apart(links: [Session; 4]) -> bool
+    ensures { λ r. ⌜ r ≡ allApart links ⌝ }
+{
+    let a = links[0];
+    let b = links[1];
+    let c = links[2];
+    let d = links[3];
+    if apart_from(a, b) {
+        if apart_from(a, c) {
+            if apart_from(a, d) {
+                if apart_from(b, c) {
+                    if apart_from(b, d) {
+                        return apart_from(c, d);
+                    }
+                }
+            }
+        }
+    }
+    false
+}
+
+// The sessions name nothing that the store lacks, and no two of them the same upload. Lent slices that are too short are no sessions'.
+pub fn links_sound(
+    links: [Session; 4],
+    sessions: usize,
+    most: usize,
+    table: &[u32],
+    selected: &[u32],
+    held: &[u8],
+) -> bool
+    ensures { λ r. ⌜ r ≡ linksSound (files (now (table .entry))) sessions most (now (selected .entry)) (now (held .entry)) links ⌝ }
+{
+    if 4 < sessions {
+        return false;
+    }
+    if 50 < most {
+        return false;
+    }
+    if selected.len() < sessions * most {
+        return false;
+    }
+    if held.len() < sessions * 258 {
+        return false;
+    }
+    if link_at(table, sessions, most, selected, held, links[0], 0) {
+        if link_at(table, sessions, most, selected, held, links[1], 1) {
+            if link_at(table, sessions, most, selected, held, links[2], 2) {
+                if link_at(table, sessions, most, selected, held, links[3], 3) {
+                    return all_apart(links);
+                }
+            }
+        }
+    }
+    false
+}

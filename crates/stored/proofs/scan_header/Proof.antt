@@ -1,0 +1,116 @@
+-- `stored::scan_header` meets its contract. The invariant is `Feeding`, as for the whole file; past the header's end nothing changes.
+use Prim.Native.Nat.{_+_, _-_}
+use mathlib.Core.Path.{sym, _∙_}
+use native.Mathlib.Omega.{arith}
+use borrow.Author.Needs.{needs}
+use lib.ListN.{length}
+use Rattle.blocks.proofs.Owners.{next-ge}
+use Rattle.header.specs.Scan.{startOf, headerFrom}
+use Rattle.header.proofs.Machine.{header-append}
+use Rattle.stored.specs.Answers.{fileAt}
+use Rattle.stored.proofs.Feeding.{Feeding, feed-start, feed-next, feed-done, feed-stop, header-none}
+use Rattle.stored.proofs.scan_header.Statement.{statement}
+use Rattle.stored.proofs.scan_header.Tie as tie
+
+abbrev Inv-loop : tie.InvT-loop
+Inv-loop disk owner place received want s₀ left₀ b₀ s left b = Feeding headerFrom (place + 1) owner disk (headerFrom (startOf want) (fileAt disk owner place received)) s left b
+
+abbrev μ-loop : tie.MeasureT-loop
+μ-loop disk owner place received want s₀ left₀ b₀ s left b = length owner - b
+
+start-requires : tie.Need-start-requires Inv-loop μ-loop
+start-requires c κs = search needs
+
+next-block-requires : tie.Need-next-block-requires Inv-loop μ-loop
+next-block-requires c κs = search needs
+
+loop-holds : tie.Need-loop-holds Inv-loop μ-loop
+loop-holds c = let a = c .before .before .before .before .args in feed-start headerFrom (a .place + 1) (a .owner .now) (a .disk .now) (startOf (a .want)) (a .received) _ _ (c .before .start .ensures) (c .next-block .ensures)
+
+ended-requires : tie.Need-ended-requires Inv-loop μ-loop
+ended-requires c κs = search needs
+
+returns : tie.Need-returns Inv-loop μ-loop
+returns c =
+    let s = c .before .before .before in
+    let a = s .before .before .before .before .before .args in
+    let l = s .loop in
+    feed-stop (a .place + 1) (a .owner .now) (a .disk .now) (headerFrom (startOf (a .want)) (fileAt (a .disk .now) (a .owner .now) (a .place) (a .received)))
+    (l .s) (l .left) (l .b) (l .inv) (sym (c .before .ended .ensures) ∙ c .if1 .taken)
+
+least-requires : tie.Need-least-requires Inv-loop μ-loop
+least-requires c κs = search needs
+
+mul-from : tie.Need-mul-from Inv-loop μ-loop
+mul-from c = omega arith
+
+add-to : tie.Need-add-to Inv-loop μ-loop
+add-to c = omega arith
+
+sub-feed-header : tie.Need-sub-feed-header Inv-loop μ-loop
+sub-feed-header c = omega arith
+
+part-feed-header-start : tie.Need-part-feed-header-start Inv-loop μ-loop
+part-feed-header-start c = omega arith
+
+part-feed-header-end : tie.Need-part-feed-header-end Inv-loop μ-loop
+part-feed-header-end c = omega arith
+
+feed-header-requires : tie.Need-feed-header-requires Inv-loop μ-loop
+feed-header-requires c κs = search needs
+
+sub-left : tie.Need-sub-left Inv-loop μ-loop
+sub-left c = omega arith
+
+add-next-block : tie.Need-add-next-block Inv-loop μ-loop
+add-next-block c = omega arith
+
+next-block-requires-2 : tie.Need-next-block-requires-2 Inv-loop μ-loop
+next-block-requires-2 c κs = search needs
+
+loop-less : tie.Need-loop-less Inv-loop μ-loop
+loop-less c = let s = c .before .before .before .before .before .before .before in let a = s .before .before .before .before .before .args in omega (arith, c .next-block2 .ensures, next-ge (a .place + 1) (a .owner .now) (s .loop .b + 1) (omega arith))
+
+loop-again : tie.Need-loop-again Inv-loop μ-loop
+loop-again c =
+    let s = c .before .before .before .before .before .before .before in
+    let a = s .before .before .before .before .before .args in
+    let p = s .before .before .before .before .before .pre in
+    let l = s .loop in
+    let n = c .before .before .before .least in
+    feed-next headerFrom header-append (a .place + 1) (a .owner .now) (a .disk .now) (headerFrom (startOf (a .want)) (fileAt (a .disk .now) (a .owner .now) (a .place) (a .received)))
+    (l .s) (l .left) (l .b) (n .result) (l .inv) (c .before .before .before .before .before .before .loop-test .taken) (p .1) (n .ensures .0) (n .ensures .1) (n .ensures .2)
+    _ _ (c .before .feed-header .ensures) (c .next-block2 .ensures)
+
+returns-2 : tie.Need-returns-2 Inv-loop μ-loop
+returns-2 c =
+    let s = c .before in
+    let a = s .before .before .before .before .before .args in
+    let l = s .loop in
+    feed-done headerFrom (a .place + 1) (a .owner .now) (a .disk .now) (headerFrom (startOf (a .want)) (fileAt (a .disk .now) (a .owner .now) (a .place) (a .received)))
+    (l .s) (l .left) (l .b) (l .inv) (c .loop-test .left) (header-none (l .s))
+
+pub scan-header-spec : {M : Type 1} → statement M
+scan-header-spec =
+    tie.close
+    (tie.spec
+    Inv-loop
+    μ-loop
+    start-requires
+    next-block-requires
+    loop-holds
+    ended-requires
+    returns
+    least-requires
+    mul-from
+    add-to
+    sub-feed-header
+    part-feed-header-start
+    part-feed-header-end
+    feed-header-requires
+    sub-left
+    add-next-block
+    next-block-requires-2
+    loop-less
+    loop-again
+    returns-2)

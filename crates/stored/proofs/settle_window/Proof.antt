@@ -1,0 +1,36 @@
+-- `stored::settle_window` meets its contract. The item's bytes are those that were copied.
+use mathlib.Core.Path.{_∙_, ap}
+use mathlib.Core.List.{List}
+use Prim.Native.Nat.{ℕ}
+use Rattle.equation.specs.Marks.{settled, relationsOf}
+use borrow.Author.Needs.{needs}
+use Rattle.stored.proofs.settle_window.Statement.{statement}
+use Rattle.stored.proofs.settle_window.Tie as tie
+
+fetch-requires : tie.Need-fetch-requires
+fetch-requires c κs = search needs
+
+settle-requires : tie.Need-settle-requires
+settle-requires c κs = search needs
+
+same-length : tie.Need-same-length
+same-length c = search needs
+
+same-length-2 : tie.Need-same-length-2
+same-length-2 c = search needs
+
+returns : tie.Need-returns
+returns c =
+    let s = c .before .before .before .before .before .before .before in
+    let a = s .before .before .before .before .before .before .before .args in
+    c .before .before .settle .ensures ∙ ap (λ (bs : List ℕ). settled (record { id = a .id; bytes = bs }) (relationsOf (a .eq .now)) (a .truths .now)) (s .fetch .ensures)
+
+pub settle-window-spec : {M : Type 1} → statement M
+settle-window-spec =
+    tie.close
+    (tie.spec
+    fetch-requires
+    settle-requires
+    same-length
+    same-length-2
+    returns)
