@@ -23,8 +23,9 @@ uploadsIn up.Idle place = false
 uploadsIn (up.Receiving p offset received) place = eqb p place
 uploadsIn up.Ignoring place = false
 
+-- a session whose link is not there uploads nothing
 abbrev pub uploads : Session → ℕ → Bool
-uploads s place = uploadsIn (s .up) place
+uploads s place = cond (s .linked) (uploadsIn (s .up) place) false
 
 -- one of the four sessions is uploading it
 abbrev pub uploading : List Session → ℕ → Bool

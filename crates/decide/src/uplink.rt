@@ -10,7 +10,7 @@ ghost use Prim.Native.Nat.{_≤_};
 ghost use lib.ListN.{length};
 ghost use Rattle.table.specs.Table.{files};
 ghost use Rattle.decide.specs.Words.{wordAt};
-ghost use Rattle.decide.specs.Uplink.{uploads, uploading, onContinued, onUpload, onData, onEnd, onUplink};
+ghost use Rattle.decide.specs.Uplink.{uploadsIn, uploads, uploading, onContinued, onUpload, onData, onEnd, onUplink};
 
 // The four bytes from a place on, as a number.
 pub(crate) fn word(info: &[u8], at: usize) -> u32
@@ -20,11 +20,10 @@ pub(crate) fn word(info: &[u8], at: usize) -> u32
     number32(info[at], info[at + 1], info[at + 2], info[at + 3])
 }
 
-// The session is uploading the file at a place.
-fn receives(s: Session, place: usize) -> bool
-    ensures { λ r. ⌜ r ≡ uploads s place ⌝ }
+// An uplink in this state is receiving the file at a place.
+fn receives_in(up: Uplink, place: usize) -> bool
+    ensures { λ r. ⌜ r ≡ uploadsIn up place ⌝ }
 {
-    let up = s.up;
     match up {
         Uplink::Idle => false,
         Uplink::Receiving {
@@ -34,6 +33,17 @@ fn receives(s: Session, place: usize) -> bool
         } => p == place,
         Uplink::Ignoring => false,
     }
+}
+
+// The session is uploading the file at a place; one whose link is not there uploads nothing.
+fn receives(s: Session, place: usize) -> bool
+    ensures { λ r. ⌜ r ≡ uploads s place ⌝ }
+{
+    if s.linked {
+        let up = s.up;
+        return receives_in(up, place);
+    }
+    false
 }
 
 // One of the sessions is uploading the file at a place.

@@ -72,7 +72,7 @@ module _ (map owner table : List ℕ) (last size : ℕ) where
       → (f : Found) → freeOf (files table) ≡ f → NotBegun map owner table last size ⊎ HasBegun map owner table last size
   unfolding beginIn
   in-table n g e Nothing q = inl (record { number = 13; nonzero = λ z. omega arith; is = e ∙ ap (λ (f : Found). beginIn f n size map owner table) q })
-  in-table n g e (At p) q = at-place n p (number-given last n g) g q (e ∙ ap (λ (f : Found). beginIn f n size map owner table) q)
+  in-table n g e (At p) q = at-place n p (number-given last n g .next) g q (e ∙ ap (λ (f : Found). beginIn f n size map owner table) q)
 
   with-number : (g : Given) → nextNumber last ≡ g → NotBegun map owner table last size ⊎ HasBegun map owner table last size
   unfolding beginWith

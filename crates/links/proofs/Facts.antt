@@ -85,10 +85,10 @@ pub record LinksFacts (fs : List File) (sessions most : ℕ) (selected held : Li
   pub maxsel : most ≤ 50
   pub selections : sessions * most ≤ length selected
   pub packets : sessions * 258 ≤ length held
-  pub each : (i : ℕ) → i < 4 → i < sessions → link links i .linked ≡ true
+  pub each : (i : ℕ) → i < sessions → link links i .linked ≡ true
       → LinkFacts fs most (selectionOf most selected i) (packetOf held i) (link links i)
-  pub beyond : (i : ℕ) → i < 4 → sessions ≤ i → link links i .linked ≡ false
-  pub apart : (j : ℕ) → j < 4 → (i : ℕ) → i < j → (place : ℕ) → Uploads (link links i) place → Uploads (link links j) place → ⊥
+  pub beyond : (i : ℕ) → sessions ≤ i → i < 4 → link links i .linked ≡ false
+  pub apart : (i j : ℕ) → i < j → j < 4 → (place : ℕ) → Uploads (link links i) place → Uploads (link links j) place → ⊥
 
 -- ---- tests in a row
 
@@ -118,17 +118,17 @@ not-rest false b e = e
 
 -- ---- files
 
-complete-fact : (fs : List File) (place : ℕ) → completeAt fs place ≡ true → CompleteAt fs place
+pub complete-fact : (fs : List File) (place : ℕ) → completeAt fs place ≡ true → CompleteAt fs place
 complete-fact fs place e = go (eqb (fileAt fs place .number) 0) refl e
   where
     go : (b : Bool) → eqb (fileAt fs place .number) 0 ≡ b → not (eqb (cond b 0 (fileAt fs place .time)) 0) ≡ true → CompleteAt fs place
     go true n e = absurd (clash e)
     go false n e = record { number = eqb-false _ _ n; time = eqb-false _ _ (not-true _ e) }
 
-complete-test : (fs : List File) (place : ℕ) → CompleteAt fs place → completeAt fs place ≡ true
+pub complete-test : (fs : List File) (place : ℕ) → CompleteAt fs place → completeAt fs place ≡ true
 complete-test fs place h = rw (ne-eqb (fileAt fs place .number) 0 (h .number), ne-eqb (fileAt fs place .time) 0 (h .time))
 
-partial-fact : (fs : List File) (place offset received : ℕ) → uplinkSound fs (up.Receiving place offset received) ≡ true → PartialAt fs place (offset + received)
+pub partial-fact : (fs : List File) (place offset received : ℕ) → uplinkSound fs (up.Receiving place offset received) ≡ true → PartialAt fs place (offset + received)
 unfolding uplinkSound
 partial-fact fs place offset received e =
     record {
@@ -137,18 +137,18 @@ partial-fact fs place offset received e =
       agree = eqb-true _ _ (rest (eqb (fileAt fs place .time) 0) _ (not-rest (eqb (fileAt fs place .number) 0) _ e));
     }
 
-partial-test : (fs : List File) (place offset received : ℕ) → PartialAt fs place (offset + received) → uplinkSound fs (up.Receiving place offset received) ≡ true
+pub partial-test : (fs : List File) (place offset received : ℕ) → PartialAt fs place (offset + received) → uplinkSound fs (up.Receiving place offset received) ≡ true
 unfolding uplinkSound
 partial-test fs place offset received h =
     rw (ne-eqb (fileAt fs place .number) 0 (h .number), eq-eqb (fileAt fs place .time) 0 (h .time))
     (eq-eqb (offset + received) (fileAt fs place .received) (h .agree))
 
-sending-fact : (fs : List File) (place offset sent : ℕ) → downlinkSound fs (down.Sending place offset sent) ≡ true → SendingAt fs place (offset + sent)
+pub sending-fact : (fs : List File) (place offset sent : ℕ) → downlinkSound fs (down.Sending place offset sent) ≡ true → SendingAt fs place (offset + sent)
 unfolding downlinkSound
 sending-fact fs place offset sent e =
     record { complete = complete-fact fs place (first (completeAt fs place) _ e); within = leb-true _ _ (rest (completeAt fs place) _ e) }
 
-sending-test : (fs : List File) (place offset sent : ℕ) → SendingAt fs place (offset + sent) → downlinkSound fs (down.Sending place offset sent) ≡ true
+pub sending-test : (fs : List File) (place offset sent : ℕ) → SendingAt fs place (offset + sent) → downlinkSound fs (down.Sending place offset sent) ≡ true
 unfolding downlinkSound
 sending-test fs place offset sent h = both _ _ (complete-test fs place (h .complete)) (le-leb _ _ (h .within))
 
@@ -182,7 +182,7 @@ downlink-test fs (down.Aborting place) f g h = complete-test fs place (h place r
 
 -- ---- selections
 
-selectable-fact : (fs : List File) (number : ℕ) → namedSound fs number ≡ true → Selectable fs number
+pub selectable-fact : (fs : List File) (number : ℕ) → namedSound fs number ≡ true → Selectable fs number
 unfolding namedAt
 selectable-fact fs number e = go (findOf fs number) refl e
   where
@@ -190,17 +190,17 @@ selectable-fact fs number e = go (findOf fs number) refl e
     go Nothing q e = absurd (clash e)
     go (At place) q e = record { place = place; found = q; complete = complete-fact fs place e }
 
-selectable-test : (fs : List File) (number : ℕ) → Selectable fs number → namedSound fs number ≡ true
+pub selectable-test : (fs : List File) (number : ℕ) → Selectable fs number → namedSound fs number ≡ true
 unfolding namedAt
 selectable-test fs number h = rw (h .found) (complete-test fs (h .place) (h .complete))
 
-names-fact : (fs : List File) (xs : List ℕ) → namesSound fs xs ≡ true → (k : ℕ) → k < length xs → Selectable fs (getD xs k 0)
+pub names-fact : (fs : List File) (xs : List ℕ) → namesSound fs xs ≡ true → (k : ℕ) → k < length xs → Selectable fs (getD xs k 0)
 unfolding namesSound
 names-fact fs [] e k h = absurd (omega arith)
 names-fact fs (x ∷ xs) e zero h = selectable-fact fs x (first (namedSound fs x) _ e)
 names-fact fs (x ∷ xs) e (suc k) h = names-fact fs xs (rest (namedSound fs x) (namesSound fs xs) e) k (omega arith)
 
-names-test : (fs : List File) (xs : List ℕ) → ((k : ℕ) → k < length xs → Selectable fs (getD xs k 0)) → namesSound fs xs ≡ true
+pub names-test : (fs : List File) (xs : List ℕ) → ((k : ℕ) → k < length xs → Selectable fs (getD xs k 0)) → namesSound fs xs ≡ true
 unfolding namesSound
 names-test fs [] f = refl
 names-test fs (x ∷ xs) f =
@@ -219,7 +219,7 @@ module _ (fs : List File) (xs : List ℕ) (count : ℕ) (fits : count ≤ length
 
 -- ---- unfinished packets
 
-unfinished-fact : (held : ℕ) (part : List ℕ) → packetSound held part ≡ true → 2 ≤ held → Unfinished held part
+pub unfinished-fact : (held : ℕ) (part : List ℕ) → packetSound held part ≡ true → 2 ≤ held → Unfinished held part
 unfolding packetSound
 unfinished-fact held part e h = go (rw (le-ltb held 2 h) at e)
   where
@@ -230,7 +230,7 @@ unfinished-fact held part e h = go (rw (le-ltb held 2 h) at e)
           fewer = ltb-true held (2 + announcedIn part) (rest (leb (announcedIn part) 256) _ e);
         }
 
-unfinished-test : (held : ℕ) (part : List ℕ) → (2 ≤ held → Unfinished held part) → packetSound held part ≡ true
+pub unfinished-test : (held : ℕ) (part : List ℕ) → (2 ≤ held → Unfinished held part) → packetSound held part ≡ true
 unfolding packetSound
 unfinished-test held part f = go (ltb held 2) refl
   where
@@ -244,7 +244,7 @@ unfinished-test held part f = go (ltb held 2) refl
 -- ---- a session
 
 module _ (fs : List File) (most : ℕ) (selected part : List ℕ) (s : Session) (size : length selected ≡ most) where
-  link-fact : linkSound fs most selected part s ≡ true → s .linked ≡ true → LinkFacts fs most selected part s
+  pub link-fact : linkSound fs most selected part s ≡ true → s .linked ≡ true → LinkFacts fs most selected part s
   unfolding linkSound selectionSound
   link-fact e l = go (rw l at e)
     where
@@ -275,7 +275,7 @@ module _ (fs : List File) (most : ℕ) (selected part : List ℕ) (s : Session) 
           let selection = selectionSound fs most selected (s .count) (s .next) in
           chosen (first selection _ e₂) (first (uplinkSound fs (s .up)) _ e) (first (downlinkSound fs (s .down)) _ e₁) (rest selection _ e₂)
 
-  link-test : (s .linked ≡ true → LinkFacts fs most selected part s) → linkSound fs most selected part s ≡ true
+  pub link-test : (s .linked ≡ true → LinkFacts fs most selected part s) → linkSound fs most selected part s ≡ true
   unfolding linkSound selectionSound
   link-test f = go (s .linked) refl
     where
@@ -296,14 +296,14 @@ module _ (fs : List File) (most : ℕ) (selected part : List ℕ) (s : Session) 
 
 -- ---- two sessions
 
-apart-fact : (a b : Session) → apartFrom a b ≡ true → (place : ℕ) → Uploads a place → Uploads b place → ⊥
+pub apart-fact : (a b : Session) → apartFrom a b ≡ true → (place : ℕ) → Uploads a place → Uploads b place → ⊥
 unfolding apartFrom
 apart-fact a b e place u v =
     eqb-false place place
     (not-true _ (rw (u .linked, v .linked, u .receiving, v .receiving) at e))
     refl
 
-apart-test : (a b : Session) → ((place : ℕ) → Uploads a place → Uploads b place → ⊥) → apartFrom a b ≡ true
+pub apart-test : (a b : Session) → ((place : ℕ) → Uploads a place → Uploads b place → ⊥) → apartFrom a b ≡ true
 unfolding apartFrom
 apart-test a b f = go (a .linked) (b .linked) (a .up) (b .up) refl refl refl refl
   where
@@ -412,14 +412,15 @@ module _ (fs : List File) (sessions most : ℕ) (selected held : List ℕ) (link
       facts : Tests → LinksFacts fs sessions most selected held links
       facts t =
           let n : sessions * most ≤ length selected = leb-true _ _ (t .selections) in
+          let m : sessions ≤ 4 = leb-true _ _ (t .number) in
           record {
-            number = leb-true _ _ (t .number);
+            number = m;
             maxsel = leb-true _ _ (t .maxsel);
             selections = n;
             packets = leb-true _ _ (t .packets);
-            each = λ i h. in-fact fs sessions most selected held (link links i) i n (t .each i h);
-            beyond = λ i h. in-closed fs sessions most selected held (link links i) i (t .each i h);
-            apart = λ j h i l. apart-fact (link links i) (link links j) (t .apart j h i l);
+            each = λ i l. in-fact fs sessions most selected held (link links i) i n (t .each i (omega arith)) l;
+            beyond = λ i l h. in-closed fs sessions most selected held (link links i) i (t .each i h) l;
+            apart = λ i j l h. apart-fact (link links i) (link links j) (t .apart j h i l);
           }
 
   -- the facts hold: `linksSound` is true
@@ -435,10 +436,10 @@ module _ (fs : List File) (sessions most : ℕ) (selected held : List ℕ) (link
       (both _ _ (two 1 2 (omega arith) (omega arith)) (both _ _ (two 1 3 (omega arith) (omega arith)) (two 2 3 (omega arith) (omega arith))))))))))))))
     where
       one : (i : ℕ) → i < 4 → linkAt fs sessions most selected held links i ≡ true
-      one i h = in-test fs sessions most selected held (link links i) i (f .selections) (f .each i h) (f .beyond i h)
+      one i h = in-test fs sessions most selected held (link links i) i (f .selections) (f .each i) (λ l. f .beyond i l h)
 
       two : (i j : ℕ) → i < j → j < 4 → apartFrom (link links i) (link links j) ≡ true
-      two i j l h = apart-test (link links i) (link links j) (f .apart j h i l)
+      two i j l h = apart-test (link links i) (link links j) (f .apart i j l h)
 
 -- ---- the state at making
 

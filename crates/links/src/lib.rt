@@ -1,4 +1,8 @@
 // The sessions against the store: whether what their states name is there (refusal 35).
+//
+// `links_sound` takes any sessions, any numbers and slices of any length, and changes nothing. It is true exactly where each open session's
+// upload is of a partial file, its download and its selection of complete ones, and its unfinished packet is unfinished, where the sessions
+// beyond the number in use are closed, and where no two upload the same file. `Facts` in proofs/ has these facts one by one.
 use session::state::Downlink;
 use session::state::Session;
 use session::state::Uplink;
