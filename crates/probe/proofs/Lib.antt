@@ -1,0 +1,2 @@
+-- The laws on the answers as numbers.
+pub mod Ranges

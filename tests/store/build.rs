@@ -1,0 +1,13 @@
+// Links the proved store, which `rt staticlib probe` writes.
+use std::path::Path;
+
+fn main() {
+    let here = std::env::var("CARGO_MANIFEST_DIR").expect("cargo says where the package is");
+    let folder = Path::new(&here).join("../../target/staticlib");
+    println!("cargo:rustc-link-search=native={}", folder.display());
+    println!("cargo:rustc-link-lib=static=probe");
+    println!(
+        "cargo:rerun-if-changed={}",
+        folder.join("libprobe.a").display()
+    );
+}

@@ -1,0 +1,265 @@
+//! The calls of the proved store. A slice passes as a pointer and a length. Nothing checks these declarations against `crates/probe/src/lib.rt`.
+
+extern "C" {
+    fn store_make(map: *mut u64, words: usize, owner: *mut u16, blocks: usize) -> u8;
+    fn store_free(map: *const u64, words: usize) -> usize;
+    fn store_read(
+        disk: *const u8,
+        bytes: usize,
+        owner: *const u16,
+        blocks: usize,
+        place: u16,
+        at: usize,
+        out: *mut u8,
+        n: usize,
+    ) -> u8;
+    fn store_begin(
+        map: *mut u64,
+        words: usize,
+        owner: *mut u16,
+        blocks: usize,
+        table: *mut u32,
+        cells: usize,
+        last: u32,
+        size: u32,
+    ) -> u32;
+    fn store_append(
+        disk: *mut u8,
+        bytes: usize,
+        owner: *const u16,
+        blocks: usize,
+        table: *mut u32,
+        cells: usize,
+        place: usize,
+        more: *const u8,
+        n: usize,
+    ) -> u8;
+    fn store_discard(
+        map: *mut u64,
+        words: usize,
+        owner: *mut u16,
+        blocks: usize,
+        table: *mut u32,
+        cells: usize,
+        place: usize,
+    ) -> u8;
+    fn store_check(
+        disk: *const u8,
+        bytes: usize,
+        owner: *const u16,
+        blocks: usize,
+        table: *const u32,
+        cells: usize,
+        place: usize,
+    ) -> u8;
+    fn store_complete(
+        disk: *mut u8,
+        bytes: usize,
+        owner: *const u16,
+        blocks: usize,
+        table: *mut u32,
+        cells: usize,
+        place: usize,
+        time: u32,
+    ) -> u8;
+    fn store_select(
+        eq: *const u8,
+        n: usize,
+        disk: *const u8,
+        bytes: usize,
+        owner: *const u16,
+        blocks: usize,
+        table: *const u32,
+        cells: usize,
+        selected: *mut u32,
+        room: usize,
+        most: usize,
+    ) -> u32;
+    fn store_sound(
+        map: *const u64,
+        words: usize,
+        owner: *const u16,
+        blocks: usize,
+        table: *const u32,
+        cells: usize,
+        last: u32,
+        latest: u32,
+    ) -> u8;
+}
+
+/// The slices that a caller lends. The calls take any of any lengths, so every function here is safe.
+#[derive(Clone, PartialEq, Eq, Debug)]
+pub struct Store {
+    pub map: Vec<u64>,
+    pub owner: Vec<u16>,
+    pub disk: Vec<u8>,
+    pub table: Vec<u32>,
+}
+
+/// An answer of one number that is a refusal below 256, else 256 plus a value.
+pub type Answer = Result<usize, u8>;
+
+fn answer(code: u32) -> Answer {
+    match u8::try_from(code) {
+        Ok(refused) => Err(refused),
+        Err(_) => Ok(code as usize - 256),
+    }
+}
+
+impl Store {
+    /// Slices for so many blocks and files with arbitrary contents, the table with no file.
+    pub fn lent(blocks: usize, files: usize) -> Store {
+        Store {
+            map: vec![0x5555_5555_5555_5555; blocks.div_ceil(64)],
+            owner: vec![0x7777; blocks],
+            disk: (0..256 * blocks).map(|i| (i * 7 + i / 256) as u8).collect(),
+            table: vec![0; 4 * files],
+        }
+    }
+
+    /// An empty store.
+    pub fn empty(blocks: usize, files: usize) -> Store {
+        let mut s = Store::lent(blocks, files);
+        assert_eq!(s.make(), 0);
+        s
+    }
+
+    pub fn make(&mut self) -> u8 {
+        unsafe {
+            store_make(
+                self.map.as_mut_ptr(),
+                self.map.len(),
+                self.owner.as_mut_ptr(),
+                self.owner.len(),
+            )
+        }
+    }
+
+    pub fn free(&self) -> usize {
+        unsafe { store_free(self.map.as_ptr(), self.map.len()) }
+    }
+
+    pub fn read(&self, place: u16, at: usize, out: &mut [u8]) -> u8 {
+        unsafe {
+            store_read(
+                self.disk.as_ptr(),
+                self.disk.len(),
+                self.owner.as_ptr(),
+                self.owner.len(),
+                place,
+                at,
+                out.as_mut_ptr(),
+                out.len(),
+            )
+        }
+    }
+
+    /// The place of a new file.
+    pub fn begin(&mut self, last: u32, size: u32) -> Answer {
+        answer(unsafe {
+            store_begin(
+                self.map.as_mut_ptr(),
+                self.map.len(),
+                self.owner.as_mut_ptr(),
+                self.owner.len(),
+                self.table.as_mut_ptr(),
+                self.table.len(),
+                last,
+                size,
+            )
+        })
+    }
+
+    pub fn append(&mut self, place: usize, more: &[u8]) -> u8 {
+        unsafe {
+            store_append(
+                self.disk.as_mut_ptr(),
+                self.disk.len(),
+                self.owner.as_ptr(),
+                self.owner.len(),
+                self.table.as_mut_ptr(),
+                self.table.len(),
+                place,
+                more.as_ptr(),
+                more.len(),
+            )
+        }
+    }
+
+    pub fn discard(&mut self, place: usize) -> u8 {
+        unsafe {
+            store_discard(
+                self.map.as_mut_ptr(),
+                self.map.len(),
+                self.owner.as_mut_ptr(),
+                self.owner.len(),
+                self.table.as_mut_ptr(),
+                self.table.len(),
+                place,
+            )
+        }
+    }
+
+    pub fn check(&self, place: usize) -> u8 {
+        unsafe {
+            store_check(
+                self.disk.as_ptr(),
+                self.disk.len(),
+                self.owner.as_ptr(),
+                self.owner.len(),
+                self.table.as_ptr(),
+                self.table.len(),
+                place,
+            )
+        }
+    }
+
+    pub fn complete(&mut self, place: usize, time: u32) -> u8 {
+        unsafe {
+            store_complete(
+                self.disk.as_mut_ptr(),
+                self.disk.len(),
+                self.owner.as_ptr(),
+                self.owner.len(),
+                self.table.as_mut_ptr(),
+                self.table.len(),
+                place,
+                time,
+            )
+        }
+    }
+
+    /// How many files were selected.
+    pub fn select(&self, eq: &[u8], selected: &mut [u32], most: usize) -> Answer {
+        answer(unsafe {
+            store_select(
+                eq.as_ptr(),
+                eq.len(),
+                self.disk.as_ptr(),
+                self.disk.len(),
+                self.owner.as_ptr(),
+                self.owner.len(),
+                self.table.as_ptr(),
+                self.table.len(),
+                selected.as_mut_ptr(),
+                selected.len(),
+                most,
+            )
+        })
+    }
+
+    pub fn sound(&self, last: u32, latest: u32) -> u8 {
+        unsafe {
+            store_sound(
+                self.map.as_ptr(),
+                self.map.len(),
+                self.owner.as_ptr(),
+                self.owner.len(),
+                self.table.as_ptr(),
+                self.table.len(),
+                last,
+                latest,
+            )
+        }
+    }
+}
