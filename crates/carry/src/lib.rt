@@ -1,5 +1,5 @@
 // Acts carried out: what a decided packet does to its session, to the store and to the selection, and the reply to it.
-mod download;
+pub mod download;
 pub mod turn;
 mod upload;
 
