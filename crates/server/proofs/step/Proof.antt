@@ -1,0 +1,81 @@
+use Rattle.server.specs.Calls.{stepOf, heardBy, answeredBy}
+use borrow.Author.Needs.{needs}
+use Rattle.server.proofs.step.Statement.{statement}
+use Rattle.server.proofs.step.Tie as tie
+use Rattle.server.proofs.step.Reads as reads
+use Rattle.server.proofs.step.Lts as lts
+use Rattle.server.proofs.turns.act_on.Reads as act-on-reads
+use Rattle.server.proofs.turns.hear.Reads as hear-reads
+use Rattle.server.proofs.turns.with_turn.Reads as with-turn-reads
+use Rattle.session.proofs.reply.send.Reads as send-reads
+use Rattle.session.proofs.state.with_held.Reads as with-held-reads
+
+mul-s : tie.Need-mul-s
+mul-s c = search needs
+
+element-copy-out-s : tie.Need-element-copy-out-s
+element-copy-out-s c = search needs
+
+hear-requires : tie.Need-hear-requires
+hear-requires c κs = search needs
+
+with-held-requires : tie.Need-with-held-requires
+with-held-requires c κs = search needs
+
+slice-aggregate-act-on : tie.Need-slice-aggregate-act-on
+slice-aggregate-act-on c = search needs
+
+act-on-requires : tie.Need-act-on-requires
+act-on-requires c κs = search needs
+
+with-turn-requires : tie.Need-with-turn-requires
+with-turn-requires c κs = c .before .before .before .before .before .before .before .before .before .before .before .before .before .before .before .before .before .before .before .before .before .before .before .before .before .before .before .before .before .before .before .before .pre .act .session
+
+send-requires : tie.Need-send-requires
+send-requires c κs = search needs
+
+same-length : tie.Need-same-length
+same-length c = search needs
+
+same-length-2 : tie.Need-same-length-2
+same-length-2 c = search needs
+
+same-length-3 : tie.Need-same-length-3
+same-length-3 c = search needs
+
+same-length-4 : tie.Need-same-length-4
+same-length-4 c = search needs
+
+same-length-5 : tie.Need-same-length-5
+same-length-5 c = search needs
+
+same-length-6 : tie.Need-same-length-6
+same-length-6 c = c .before .before .before .before .before .before .before .before .before .before .before .before .before .before .before .before .before .before .before .before .before .before .before .before .before .before .hear .kept .0
+
+same-length-7 : tie.Need-same-length-7
+same-length-7 c = search needs
+
+returns : tie.Need-returns
+unfolding stepOf heardBy answeredBy
+returns c = rw (c .before .before .before .before .with-turn .ensures, ← c .before .before .before .before .before .before .before .before .before .before .before .before .before .before .before .before .before .before .before .before .before .before .before .before .before .before .hear .ensures, ← rw (c .before .before .before .before .before .before .before .before .before .before .before .before .before .before .before .before .before .before .before .before .before .before .before .with-held .ensures) at (c .before .before .before .before .before .before .before .before .before .before .before .before .before .before .before .act-on .ensures), ← c .before .before .send .ensures)
+
+pub step-spec : {M : Type 1} → statement M
+step-spec =
+    tie.close
+    (tie.spec
+    mul-s
+    element-copy-out-s
+    hear-requires
+    with-held-requires
+    slice-aggregate-act-on
+    act-on-requires
+    with-turn-requires
+    send-requires
+    same-length
+    same-length-2
+    same-length-3
+    same-length-4
+    same-length-5
+    same-length-6
+    same-length-7
+    returns)

@@ -1,0 +1,136 @@
+use native.Mathlib.Omega.{arith}
+use mathlib.Core.Path.{_≡_, sym}
+use Prim.Native.Nat.{_+_, _*_, _-_}
+use native.Mathlib.Nat.{add-sub-cancel-left, mul-le-mul}
+use lib.Seq.{length-take-le}
+use Rattle.server.specs.Turns.{actOf, putBack}
+use borrow.Author.Needs.{needs}
+use Rattle.server.proofs.turns.act_on.Statement.{statement}
+use Rattle.server.proofs.turns.act_on.Tie as tie
+use Rattle.server.proofs.turns.act_on.Reads as reads
+use Rattle.server.proofs.turns.act_on.Lts as lts
+use Rattle.carry.proofs.carry_out.Reads as carry-out-reads
+use Rattle.decide.proofs.decide.Reads as decide-reads
+use Rattle.server.proofs.turns.size_in.Reads as size-in-reads
+
+add-w : tie.Need-add-w
+add-w c = search needs
+
+mul-x : tie.Need-mul-x
+mul-x c = search needs
+
+mul-a : tie.Need-mul-a
+mul-a c = search needs
+
+add-e : tie.Need-add-e
+add-e c = search needs
+
+size-in-requires : tie.Need-size-in-requires
+size-in-requires c κs = search needs
+
+slice-reshare-prefix-decide : tie.Need-slice-reshare-prefix-decide
+slice-reshare-prefix-decide c = search needs
+
+slice-aggregate-decide : tie.Need-slice-aggregate-decide
+slice-aggregate-decide c = let e = c .before .before .before .before .before .before .before .before .before .before .before in sym (length-take-le _ (e .args .table .now) (e .pre .records))
+
+mul-decide : tie.Need-mul-decide
+mul-decide c = let e = c .before .before .before .before .before .before .before .before .before .before .before in omega (arith, mul-le-mul (e .pre .session) (e .pre .most))
+
+sub-decide : tie.Need-sub-decide
+sub-decide c = search needs
+
+part-decide-start : tie.Need-part-decide-start
+part-decide-start c = search needs
+
+part-decide-end : tie.Need-part-decide-end
+part-decide-end c = search needs
+
+decide-requires : tie.Need-decide-requires
+decide-requires c κs = search needs
+
+slice-relend-prefix-carry-out : tie.Need-slice-relend-prefix-carry-out
+slice-relend-prefix-carry-out c = search needs
+
+slice-aggregate-carry-out : tie.Need-slice-aggregate-carry-out
+slice-aggregate-carry-out c = let e = c .before .before .before .before .before .before .before .before .before .before .before .before .before .before .before .before in sym (length-take-le _ (e .args .map .now) (e .pre .words))
+
+slice-relend-prefix-carry-out-2 : tie.Need-slice-relend-prefix-carry-out-2
+slice-relend-prefix-carry-out-2 c = search needs
+
+slice-aggregate-carry-out-2 : tie.Need-slice-aggregate-carry-out-2
+slice-aggregate-carry-out-2 c = let e = c .before .before .before .before .before .before .before .before .before .before .before .before .before .before .before .before .before in sym (length-take-le _ (e .args .owner .now) (e .pre .owners))
+
+slice-relend-prefix-carry-out-3 : tie.Need-slice-relend-prefix-carry-out-3
+slice-relend-prefix-carry-out-3 c = search needs
+
+slice-aggregate-carry-out-3 : tie.Need-slice-aggregate-carry-out-3
+slice-aggregate-carry-out-3 c = let e = c .before .before .before .before .before .before .before .before .before .before .before .before .before .before .before .before .before .before in sym (length-take-le _ (e .args .table .now) (e .pre .records))
+
+mul-carry-out : tie.Need-mul-carry-out
+mul-carry-out c = let e = c .before .before .before .before .before .before .before .before .before .before .before .before .before .before .before .before .before .before in omega (arith, mul-le-mul (e .pre .session) (e .pre .most))
+
+sub-carry-out : tie.Need-sub-carry-out
+sub-carry-out c = search needs
+
+part-carry-out-start : tie.Need-part-carry-out-start
+part-carry-out-start c = search needs
+
+part-carry-out-end : tie.Need-part-carry-out-end
+part-carry-out-end c = search needs
+
+carry-out-requires : tie.Need-carry-out-requires
+carry-out-requires c κs = search needs
+
+same-length : tie.Need-same-length
+same-length c = search needs
+
+same-length-2 : tie.Need-same-length-2
+same-length-2 c = search needs
+
+same-length-3 : tie.Need-same-length-3
+same-length-3 c = search needs
+
+same-length-4 : tie.Need-same-length-4
+same-length-4 c = search needs
+
+same-length-5 : tie.Need-same-length-5
+same-length-5 c = search needs
+
+returns : tie.Need-returns
+unfolding actOf putBack
+returns c = let e = c .before .before .before .before .before .before .before .before .before .before .before .before .before .before .before .before .before .before .before .before .before .before .before .before .before .before .before .before .before .before in let d : e .args .i * e .args .server .most + e .args .server .most - e .args .i * e .args .server .most ≡ e .args .server .most = add-sub-cancel-left (e .args .i * e .args .server .most) (e .args .server .most) in rw (d, ← c .before .before .before .before .before .before .before .before .before .before .before .before .before .before .before .before .before .before .before .before .size-in .ensures, ← rw d at (c .before .before .before .before .before .before .before .before .before .before .before .before .before .before .before .before .decide .ensures), ← rw d at (c .before .before .before .before .before .before .before .before .before .before .carry-out .ensures))
+
+pub act-on-spec : {M : Type 1} → statement M
+act-on-spec =
+    tie.close
+    (tie.spec
+    add-w
+    mul-x
+    mul-a
+    add-e
+    size-in-requires
+    slice-reshare-prefix-decide
+    slice-aggregate-decide
+    mul-decide
+    sub-decide
+    part-decide-start
+    part-decide-end
+    decide-requires
+    slice-relend-prefix-carry-out
+    slice-aggregate-carry-out
+    slice-relend-prefix-carry-out-2
+    slice-aggregate-carry-out-2
+    slice-relend-prefix-carry-out-3
+    slice-aggregate-carry-out-3
+    mul-carry-out
+    sub-carry-out
+    part-carry-out-start
+    part-carry-out-end
+    carry-out-requires
+    same-length
+    same-length-2
+    same-length-3
+    same-length-4
+    same-length-5
+    returns)
