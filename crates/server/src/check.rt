@@ -75,7 +75,7 @@ fn room_fits(blocks: usize, files: usize, sessions: usize, most: usize, n: Lengt
 }
 
 // Sizes and lengths, 33.
-fn fits_all(server: Server, n: Lengths) -> bool
+pub(crate) fn fits_all(server: Server, n: Lengths) -> bool
     ensures { λ r. ⌜ r ≡ cond (sizesFit (server .blocks) (server .files) (server .sessions) (server .most))
         (roomFits (server .blocks) (server .files) (server .sessions) (server .most) (n .disk) (n .map) (n .owner) (n .table) (n .selected) (n .held)) false ⌝ }
 {

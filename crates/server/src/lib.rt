@@ -1,6 +1,7 @@
 // The server: sessions over the store, and the calls of its driver: make, login, receive, request, lose. Every call has an answer, whatever
 // it is handed; a local refusal (33, 35, 34, 32, in this order) changes nothing, takes no byte and writes nothing.
 pub mod check;
+mod making;
 mod sending;
 mod turns;
 
@@ -10,7 +11,9 @@ use session::reply::Answer;
 use session::reply::Reply;
 use session::state::Session;
 ghost use mathlib.Core.Path.{_≡_};
+ghost use lib.ListN.{length};
 ghost use Rattle.server.specs.State.{lent, outcome};
+ghost use Rattle.server.specs.Making.{emptied, makes, makeOf};
 ghost use Rattle.server.specs.Calls.{StepPre, stepOf, receiveOf, opened, loginOf, lost, loseOf, requestOf};
 
 // The sizes, fixed when the server is made; the last number and time given; the sessions.
@@ -27,6 +30,61 @@ pub struct Server {
 pub struct Done {
     pub server: Server,
     pub answer: Answer,
+}
+
+// A server just made, and the number of a refusal, 0 for none.
+pub struct Made {
+    pub refused: u8,
+    pub server: Server,
+}
+
+// A server with these sizes, and the empty store in what is lent; 33 and nothing changed where the sizes are outside the table or a slice is too
+// short. The disk is only asked for its length.
+pub fn make(
+    blocks: usize,
+    files: usize,
+    sessions: usize,
+    most: usize,
+    disk: &[u8],
+    map: &mut [u64],
+    owner: &mut [u16],
+    table: &mut [u32],
+    selected: &mut [u32],
+    held: &mut [u8],
+) -> Made
+    ensures { λ r. ⌜ makes r (emptied (now (map .exit)) (now (owner .exit)) (now (table .exit)) (now (selected .exit)) (now (held .exit)))
+        ≡ makeOf blocks files sessions most (length (now (disk .entry))) (now (map .entry)) (now (owner .entry)) (now (table .entry)) (now (selected .entry)) (now (held .entry)) ⌝ }
+{
+    let server = making::new_server(blocks, files, sessions, most);
+    let n = check::Lengths {
+        disk: disk.len(),
+        map: map.len(),
+        owner: owner.len(),
+        table: table.len(),
+        selected: selected.len(),
+        held: held.len(),
+    };
+    if check::fits_all(server, n) {
+        making::empty(
+            blocks,
+            files,
+            sessions,
+            most,
+            map,
+            owner,
+            table,
+            selected,
+            held,
+        );
+        return Made {
+            refused: 0,
+            server: server,
+        };
+    }
+    Made {
+        refused: 33,
+        server: server,
+    }
 }
 
 // Bytes of an open session's link.
