@@ -1,2 +1,4 @@
 pub mod Interface
 pub mod Asked
+pub mod Effects
+pub mod Uploading
