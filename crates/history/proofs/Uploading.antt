@@ -2,9 +2,9 @@
 use mathlib.Core.Path.{_≡_, refl, sym, ap, _∙_, subst}
 use mathlib.Core.Bool.{Bool, true, false, cond}
 use mathlib.Core.List.{List, []}
-use Prim.Native.Nat.{ℕ, _+_, _%_, _≤_, _<_}
+use Prim.Native.Nat.{ℕ, _+_, _≤_, _<_}
 use native.Mathlib.Omega.{arith}
-use lib.Dec.{eqb, ltb}
+use lib.Dec.{ltb}
 use lib.ListN.{length, take}
 use lib.Seq.{length-take-le}
 use borrow.Author.Tests.{ltb-false, eq-eqb, ne-eqb}
@@ -14,7 +14,6 @@ use Rattle.blocks.proofs.Owners.{blocks-le}
 use Rattle.session.specs.declared.state.Session.{Session}
 use Rattle.session.specs.declared.state.Uplink.{Uplink}
 use Rattle.session.specs.declared.state.Uplink.the-variants as up
-use Rattle.session.specs.declared.reply.Reply.{Reply}
 use Rattle.session.specs.declared.reply.Reply.the-variants.{Nothing, Go, UploadError, Ack, Nak}
 use Rattle.session.specs.State.{withUp}
 use Rattle.table.specs.declared.File.{File}
@@ -39,13 +38,13 @@ use Rattle.files.proofs.Discarded.{DiscardLeaves, discard-done, discard-leaves}
 use Rattle.links.proofs.Facts.{PartialAt}
 use Rattle.carry.specs.declared.turn.Last.{Last}
 use Rattle.carry.specs.declared.turn.Turn.{Turn}
-use Rattle.carry.specs.Turn.{lastOf, turnOf, Mem, mem, Turned, turned, Moves, writes}
+use Rattle.carry.specs.Turn.{lastOf, turnOf, Mem, mem, turned, Moves, writes}
 use Rattle.carry.specs.Upload as upload
 use Rattle.carry.specs.Carry.{onFrees, onWrites, onMoves}
-use Rattle.history.specs.Change.{Files, view, Change, same, begins, receives, completes, discards}
-use Rattle.history.proofs.Interface.{filesIn, Stored, SameLengths, Kept}
-use Rattle.history.proofs.Asked.{Uploading, Room}
-use Rattle.history.proofs.Effects.{Ends, Acted}
+use Rattle.history.specs.Change.{view, same, begins, receives, completes, discards}
+use Rattle.history.proofs.Interface.{Stored}
+use Rattle.history.proofs.Asked.{Room}
+use Rattle.history.proofs.Effects.{Acted}
 
 -- ---- lists of the same lengths
 
@@ -83,7 +82,8 @@ unfolding upload.acceptedAs
 accepted refused s last time e = done refused _ (turnOf (withUp s up.Idle) last (Nak refused)) e
 
 finish-checked : (s : Session) (last : Last) (p clock : ℕ) (disk map owner table : List ℕ) → checkOf disk owner table p ≡ 0
-    → upload.finishTurn s last p clock disk map owner table ≡ upload.finishAs (upload.timed (uploadTime clock (last .time))) s last p disk map owner table
+    → upload.finishTurn s last p clock disk map owner table
+    ≡ upload.finishAs (upload.timed (uploadTime clock (last .time))) s last p disk map owner table
 unfolding upload.judgedAt
 finish-checked s last p clock disk map owner table e = rw (eq-eqb (checkOf disk owner table p) 0 e)
 
@@ -101,19 +101,25 @@ module _ (s : Session) (m : Mem) (last : Last) (st : Stored m last) (more : List
   same-store t selected e l =
       record {
         kept = record {
-          stored = record { sound = subst (λ (x : Last). Sound (m .map) (m .owner) (m .table) (x .number) (x .time)) (sym e) (st .sound); sizes = st .sizes };
+          stored = record {
+            sound = subst (λ (x : Last). Sound (m .map) (m .owner) (m .table) (x .number) (x .time)) (sym e) (st .sound);
+            sizes = st .sizes;
+          };
           lengths = record { disk = refl; map = refl; owner = refl; table = refl; selected = l };
           change = same (record { files = λ q. refl; given = e });
         };
         own = tt;
         free = refl;
+        order = λ from. refl;
       }
 
   -- ---- UPLOAD_CMD
 
-  begun : (size p : ℕ) (b : files.Begins) → BeginLeaves (m .map) (m .owner) (m .table) (last .number) (last .time) size p b → (number : ℕ) → number ≡ last .number + 1
+  begun : (size p : ℕ) (b : files.Begins) → BeginLeaves (m .map) (m .owner) (m .table) (last .number) (last .time) size p b
+      → (number : ℕ) → number ≡ last .number + 1
       → Acted s more m last
-      (turned (turnOf (withUp s (up.Receiving p 0 0)) (lastOf number (last .time)) (Go number 0)) (mem (m .disk) (b .map) (b .owner) (b .table) (m .selected)))
+      (turned (turnOf (withUp s (up.Receiving p 0 0)) (lastOf number (last .time)) (Go number 0))
+      (mem (m .disk) (b .map) (b .owner) (b .table) (m .selected)))
   begun size p b l number e =
       record {
         kept = record {
@@ -123,7 +129,8 @@ module _ (s : Session) (m : Mem) (last : Last) (st : Stored m last) (more : List
           };
           lengths = record {
             disk = refl;
-            map = map-same (m .map) (m .owner) (m .table) (b .map) (b .owner) (b .table) (last .number) (last .time) (last .number + 1) (last .time) (st .sound) (l .sound) (l .blocks-size);
+            map = map-same (m .map) (m .owner) (m .table) (b .map) (b .owner) (b .table) (last .number) (last .time) (last .number + 1)
+                (last .time) (st .sound) (l .sound) (l .blocks-size);
             owner = l .blocks-size;
             table = l .table-size;
             selected = refl;
@@ -139,14 +146,17 @@ module _ (s : Session) (m : Mem) (last : Last) (st : Stored m last) (more : List
         };
         own = refl;
         free = l .fewer;
+        order = l .order;
       }
 
-  begun-or-not : (size number : ℕ) → number ≡ last .number + 1 → (a : Begun) → files.beginOf (m .map) (m .owner) (m .table) (last .number) size .answer ≡ a
+  begun-or-not : (size number : ℕ) → number ≡ last .number + 1 → (a : Begun)
+      → files.beginOf (m .map) (m .owner) (m .table) (last .number) size .answer ≡ a
       → (b : files.Begins) → b ≡ files.beginOf (m .map) (m .owner) (m .table) (last .number) size
       → Acted s more m last (turned (upload.begunTurn a s last number) (mem (m .disk) (b .map) (b .owner) (b .table) (m .selected)))
   unfolding upload.begunTurn
   begun-or-not size number e (Refused n) q b w =
-      subst (λ (c : files.Begins). Acted s more m last (turned (turnOf s last (UploadError n)) (mem (m .disk) (c .map) (c .owner) (c .table) (m .selected))))
+      subst (λ (c : files.Begins). Acted s more m last (turned (turnOf s last (UploadError n))
+      (mem (m .disk) (c .map) (c .owner) (c .table) (m .selected))))
       (sym (w ∙ begin-kept (m .map) (m .owner) (m .table) (last .number) size n q))
       (same-store (turnOf s last (UploadError n)) (m .selected) refl refl)
   begun-or-not size number e (Started p) q b w =
@@ -159,7 +169,8 @@ module _ (s : Session) (m : Mem) (last : Last) (st : Stored m last) (more : List
   unfolding onFrees upload.beginWith upload.begunAs
   begin-acts size = go (nextNumber (last .number)) refl
     where
-      go : (g : Given) → nextNumber (last .number) ≡ g → Acted s more m last (onFrees m (upload.beginWith g s last size (m .map) (m .owner) (m .table)))
+      go : (g : Given) → nextNumber (last .number) ≡ g
+          → Acted s more m last (onFrees m (upload.beginWith g s last size (m .map) (m .owner) (m .table)))
       go UsedUp q = same-store (turnOf s last (UploadError 3)) (m .selected) refl refl
       go (Next number) q =
           begun-or-not size number (number-given (last .number) number q .next)
@@ -191,6 +202,7 @@ module _ (s : Session) (m : Mem) (last : Last) (st : Stored m last) (more : List
         };
         own = (refl, record { offset = offset; received = received; receiving = e; onward = ap (λ (n : ℕ). up.Receiving p offset n) o });
         free = refl;
+        order = l .order;
       }
 
   -- ---- a partial discarded
@@ -205,7 +217,8 @@ module _ (s : Session) (m : Mem) (last : Last) (st : Stored m last) (more : List
           stored = record { sound = l .sound; sizes = sizes-of (m .disk) (m .owner) (m .disk) (d .owner) (st .sizes) refl (l .blocks-size) };
           lengths = record {
             disk = refl;
-            map = map-same (m .map) (m .owner) (m .table) (d .map) (d .owner) (d .table) (last .number) (last .time) (last .number) (last .time) (st .sound) (l .sound) (l .blocks-size);
+            map = map-same (m .map) (m .owner) (m .table) (d .map) (d .owner) (d .table) (last .number) (last .time) (last .number)
+                (last .time) (st .sound) (l .sound) (l .blocks-size);
             owner = l .blocks-size;
             table = l .table-size;
             selected = refl;
@@ -218,8 +231,12 @@ module _ (s : Session) (m : Mem) (last : Last) (st : Stored m last) (more : List
             given = refl;
           });
         };
-        own = record { uploading = record { offset = offset; received = received; receiving = e }; over = λ q g. over q (g .offset) (g .received) (g .receiving) };
+        own = record {
+          uploading = record { offset = offset; received = received; receiving = e };
+          over = λ q g. over q (g .offset) (g .received) (g .receiving);
+        };
         free = l .free;
+        order = l .order (f .time);
       }
 
   pub discard-acts : (p offset received : ℕ) → s .up ≡ up.Receiving p offset received → PartialAt (table.files (m .table)) p (offset + received)
@@ -237,12 +254,14 @@ module _ (s : Session) (m : Mem) (last : Last) (st : Stored m last) (more : List
   completed : (p time : ℕ) (c : files.Writes) → CompleteLeaves (m .map) (m .disk) (m .owner) (m .table) (last .number) (last .time) p time c
       → (offset received : ℕ) → s .up ≡ up.Receiving p offset received → PartialAt (table.files (m .table)) p (offset + received)
       → checkOf (m .disk) (m .owner) (m .table) p ≡ 0 → last .time < time
-      → Acted s more m last (turned (turnOf (withUp s up.Idle) (lastOf (last .number) time) Ack) (mem (c .disk) (m .map) (m .owner) (c .table) (m .selected)))
+      → Acted s more m last (turned (turnOf (withUp s up.Idle) (lastOf (last .number) time) Ack)
+      (mem (c .disk) (m .map) (m .owner) (c .table) (m .selected)))
   completed p time c l offset received e f z h =
       record {
         kept = record {
           stored = record {
-            sound = l .sound h (check-whole (m .map) (m .disk) (m .owner) (m .table) (last .number) (last .time) (st .sound) (st .sizes) p (f .number) z);
+            sound = l .sound h
+                (check-whole (m .map) (m .disk) (m .owner) (m .table) (last .number) (last .time) (st .sound) (st .sizes) p (f .number) z);
             sizes = sizes-of (m .disk) (m .owner) (c .disk) (m .owner) (st .sizes) (l .disk-size) refl;
           };
           lengths = record { disk = l .disk-size; map = refl; owner = refl; table = l .table-size; selected = refl };
@@ -257,8 +276,12 @@ module _ (s : Session) (m : Mem) (last : Last) (st : Stored m last) (more : List
             given = refl;
           });
         };
-        own = record { uploading = record { offset = offset; received = received; receiving = e }; over = λ q g. idle-over q (g .offset) (g .received) (g .receiving) };
+        own = record {
+          uploading = record { offset = offset; received = received; receiving = e };
+          over = λ q g. idle-over q (g .offset) (g .received) (g .receiving);
+        };
         free = refl;
+        order = l .order h (f .time);
       }
 
   module _ (p offset received : ℕ) (e : s .up ≡ up.Receiving p offset received) (f : PartialAt (table.files (m .table)) p (offset + received)) where
@@ -270,9 +293,12 @@ module _ (s : Session) (m : Mem) (last : Last) (st : Stored m last) (more : List
         let a = complete-done (m .map) (m .disk) (m .owner) (m .table) (last .number) (last .time) (st .sound) (st .sizes) p (f .number) z time in
         subst (λ (t : Turn). Acted s more m last (turned t (mem (c .disk) (m .map) (m .owner) (c .table) (m .selected))))
         (sym (accepted (c .answer) s last time a))
-        (completed p time c (complete-leaves (m .map) (m .disk) (m .owner) (m .table) (last .number) (last .time) (st .sound) p time a) offset received e f z h)
+        (completed p time c
+        (complete-leaves (m .map) (m .disk) (m .owner) (m .table) (last .number) (last .time) (st .sound) p time a)
+        offset received e f z h)
 
-    reject-acts : (number : ℕ) → Acted s more m last (onMoves m (upload.withDisk (m .disk) (upload.discardTurn s last p up.Idle number (m .map) (m .owner) (m .table))))
+    reject-acts : (number : ℕ)
+        → Acted s more m last (onMoves m (upload.withDisk (m .disk) (upload.discardTurn s last p up.Idle number (m .map) (m .owner) (m .table))))
     unfolding onMoves onFrees upload.withDisk
     reject-acts number = discard-acts p offset received e f up.Idle idle-over number
 
@@ -294,8 +320,8 @@ module _ (s : Session) (m : Mem) (last : Last) (st : Stored m last) (more : List
 
 -- ---- the information of a DATA
 
-module _ (s : Session) (m : Mem) (last : Last) (st : Stored m last) (p offset received size : ℕ) (r : Room s size (table.files (m .table)) p offset received)
-    (f : PartialAt (table.files (m .table)) p (offset + received)) (info : List ℕ) where
+module _ (s : Session) (m : Mem) (last : Last) (st : Stored m last) (p offset received size : ℕ)
+    (r : Room s size (table.files (m .table)) p offset received) (f : PartialAt (table.files (m .table)) p (offset + received)) (info : List ℕ) where
   -- a file of at most 4,096 blocks has fewer bytes than 32 bits count
   onward : size ≤ length info → upload.grown received size ≡ received + length (take size info)
   onward h =
@@ -308,8 +334,10 @@ module _ (s : Session) (m : Mem) (last : Last) (st : Stored m last) (p offset re
       → Acted s (take size info) m last (onWrites m (upload.appendedAs s last p offset (upload.grown received size) w))
   unfolding onWrites upload.appendedAs
   taken h w q =
-      let k : recordAt (m .table) p .received + length (take size info) ≤ recordAt (m .table) p .size = omega (arith, length-take-le size info h, r .fits) in
-      let a = append-done (m .map) (m .disk) (m .owner) (m .table) (last .number) (last .time) (st .sound) (st .sizes) p (f .number) (take size info) k in
+      let k : recordAt (m .table) p .received + length (take size info) ≤ recordAt (m .table) p .size =
+      omega (arith, length-take-le size info h, r .fits) in
+      let a = append-done (m .map) (m .disk) (m .owner) (m .table) (last .number) (last .time) (st .sound) (st .sizes) p (f .number)
+      (take size info) k in
       subst (λ (t : Turn). Acted s (take size info) m last (turned t (mem (w .disk) (m .map) (m .owner) (w .table) (m .selected))))
       (sym (stored (w .answer) s last p offset (upload.grown received size) (ap (λ (v : files.Writes). v .answer) q ∙ a)))
       (appended s m last st (take size info) p offset received w
