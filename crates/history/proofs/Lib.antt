@@ -1,3 +1,4 @@
 pub mod Interface
 pub mod Others
 pub mod Decided
+pub mod Acted
