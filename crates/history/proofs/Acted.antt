@@ -210,8 +210,12 @@ module _ (links : List Session) (most : ℕ) (m : Mem) (s : Session) (last : Las
   -- a file is no longer than the store
   size-most : (q : ℕ) → (recordAt (m .table) q .number ≡ 0 → ⊥) → recordAt (m .table) q .size ≤ 1048576
   size-most q n =
-      omega (arith, file-room (m .map) (m .owner) (m .table) (last .number) (last .time) (stored .sound) q n, blocks-le (q + 1) (m .owner),
-      stored .sizes .most)
+      omega (
+        arith,
+        file-room (m .map) (m .owner) (m .table) (last .number) (last .time) (stored .sound) q n,
+        blocks-le (q + 1) (m .owner),
+        stored .sizes .most,
+      )
 
   module _ (place offset received size : ℕ) (info : List ℕ) (f : Stores (files (m .table)) (s .up) size place offset received) where
     own : Own (s .up) place
