@@ -96,7 +96,8 @@ reads-with fs most selected s s′ r d c n =
     }
 
 -- a session with another uplink
-pub reads-up : (fs : List File) (most : ℕ) (selected : List ℕ) (s : Session) (v : Uplink) → Reads fs most selected s → Reads fs most selected (withUp s v)
+pub reads-up : (fs : List File) (most : ℕ) (selected : List ℕ) (s : Session) (v : Uplink)
+    → Reads fs most selected s → Reads fs most selected (withUp s v)
 reads-up fs most selected s v r =
     record { sending = r .sending; ended = r .ended; aborting = r .aborting; at-most = r .at-most; next = r .next; names = r .names }
 
@@ -266,7 +267,8 @@ module _ (links : List Session) (most : ℕ) (m : Mem) (s : Session) (last : Las
     append-done h k e =
         by-number k
         (λ z. rw (eq-eqb k 0 z)
-        (append-new h (append-leaves (m .map) (m .disk) (m .owner) (m .table) (last .number) (last .time) (stored .sound) place (take size info) (e ∙ z))))
+        (append-new h
+        (append-leaves (m .map) (m .disk) (m .owner) (m .table) (last .number) (last .time) (stored .sound) place (take size info) (e ∙ z))))
         (λ z. rw (ne-eqb k 0 z)
         (quiet _ (ap (λ (x : uploads.Writes). x .table) (append-kept (m .disk) (m .owner) (m .table) place (take size info) k e z)) refl refl r))
 
@@ -296,7 +298,8 @@ module _ (links : List Session) (most : ℕ) (m : Mem) (s : Session) (last : Las
         (eqb (uploads.discardNumber (m .map) (m .owner) place (recordAt (m .table) place)) 0) _ _
         (λ e. get-put-other (m .table) place noFile q (other q o)) (λ e. refl)
 
-    complete-other : (time q : ℕ) → (Own (s .up) q → ⊥) → recordAt (completeOf (m .disk) (m .owner) (m .table) place time .table) q ≡ recordAt (m .table) q
+    complete-other : (time q : ℕ) → (Own (s .up) q → ⊥)
+        → recordAt (completeOf (m .disk) (m .owner) (m .table) place time .table) q ≡ recordAt (m .table) q
     unfolding completeOf
     complete-other time q o =
         by-test (λ (x : uploads.Writes). recordAt (x .table) q ≡ recordAt (m .table) q)
@@ -418,7 +421,8 @@ module _ (links : List Session) (most : ℕ) (m : Mem) (s : Session) (last : Las
       → Done (onChooses m (download.selectTurn s last most size info (m .disk) (m .owner) (m .table) (m .selected)))
   unfolding download.selectTurn onChooses
   select-done size info =
-      by-test (λ (x : Chooses). Done (onChooses m x)) (ltb (length info) size) _ _ (λ e. quiet _ refl refl refl r) (λ e. selected-done (take size info))
+      by-test (λ (x : Chooses). Done (onChooses m x)) (ltb (length info) size) _ _ (λ e. quiet _ refl refl refl r)
+      (λ e. selected-done (take size info))
 
   -- ---- every act
 

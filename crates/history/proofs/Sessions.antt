@@ -116,7 +116,8 @@ module _ (sessions i : ℕ) (p held : List ℕ) (h : i < sessions) (lent : sessi
 -- ---- one session moves
 
 -- two sessions that differ do not upload the same file
-pub apart-both : (fs : List File) (sessions most : ℕ) (selected held : List ℕ) (links : List Session) → LinksFacts fs sessions most selected held links
+pub apart-both : (fs : List File) (sessions most : ℕ) (selected held : List ℕ) (links : List Session)
+    → LinksFacts fs sessions most selected held links
     → (i j : ℕ) → (j ≡ i → ⊥) → i < 4 → j < 4 → (place : ℕ) → Uploads (link links i) place → Uploads (link links j) place → ⊥
 apart-both fs sessions most selected held links f i j n a b place u v = go (ltb i j) refl
   where
@@ -125,7 +126,8 @@ apart-both fs sessions most selected held links f i j n a b place u v = go (ltb 
     go false e = f .apart j i (omega (arith, ltb-false i j e, n)) a place v u
 
 -- a session that uploads is one of those in use, and its file is there
-pub uploads-live : (fs : List File) (sessions most : ℕ) (selected held : List ℕ) (links : List Session) → LinksFacts fs sessions most selected held links
+pub uploads-live : (fs : List File) (sessions most : ℕ) (selected held : List ℕ) (links : List Session)
+    → LinksFacts fs sessions most selected held links
     → (j place : ℕ) → j < 4 → Uploads (link links j) place → fileAt fs place .number ≡ 0 → ⊥
 uploads-live fs sessions most selected held links f j place h v = go (ltb j sessions) refl
   where
@@ -244,7 +246,8 @@ module _ (sessions most : ℕ) (selected held held′ : List ℕ) (links : List 
           let v : Uploads (link links j) place = record { linked = o; offset = offset; received = received; receiving = e } in
           a .kept place (f .each j l o .receiving place offset received e .number)
           (λ w.
-          apart-both fs sessions most selected held links f i j ne (omega (arith, f .number)) (omega (arith, f .number)) place (uploads-own place w) v)
+          apart-both fs sessions most selected held links f i j ne (omega (arith, f .number)) (omega (arith, f .number)) place
+          (uploads-own place w) v)
 
   own-holds : LinkFacts fs′ most (selectionOf most selected′ i) (packetOf held′ i) (t .turn .session)
   own-holds =
@@ -353,7 +356,8 @@ module _ (fs : List File) (sessions most : ℕ) (selected held : List ℕ) (link
   lose-links =
       one-moves fs fs sessions most selected (withPart (i * most) most (replicate most 0) selected) held
       (withPart (i * 258) 258 (replicate 258 0) held) links i closedSession f h four
-      (part-length (i * most) most (replicate most 0) selected (length-replicate {A = ℕ} most 0) (omega (arith, f .selections, part-end i sessions most h)))
+      (part-length (i * most) most (replicate most 0) selected (length-replicate {A = ℕ} most 0)
+      (omega (arith, f .selections, part-end i sessions most h)))
       (part-length (i * 258) 258 (replicate 258 0) held (length-replicate {A = ℕ} 258 0) (omega (arith, f .packets)))
       stays
       (λ o. absurd (let z : _≡_ {A = ℕ} 0 1 = cc in omega arith))
@@ -382,7 +386,8 @@ unfolding leastOf
 least-le n = by-test (λ (x : ℕ). x ≤ n) (ltb n 256) _ _ (λ e. omega arith) (λ e. ltb-false n 256 e)
 
 -- the downlink after a request, that of a file no longer than the store
-module _ (fs : List File) (s : Session) (disk owner out : List ℕ) (most : (q : ℕ) → CompleteAt fs q → fileAt fs q .size ≤ 1048576) (P : Session → Type 0)
+module _ (fs : List File) (s : Session) (disk owner out : List ℕ)
+    (most : (q : ℕ) → CompleteAt fs q → fileAt fs q .size ≤ 1048576) (P : Session → Type 0)
     (stays : P s) (moves : (v : Downlink) → Down fs v → P (withDown s v)) where
   sending-moves : (place offset sent : ℕ) → SendingAt fs place (offset + sent) → P (sendingOf s place offset sent disk owner fs out .asked .session)
   unfolding sendingOf dataOf
