@@ -3,3 +3,7 @@ pub mod Asked
 pub mod Effects
 pub mod Uploading
 pub mod Acts
+pub mod Others
+pub mod Decided
+pub mod Acted
+pub mod Sessions
