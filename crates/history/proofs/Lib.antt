@@ -1,3 +1,4 @@
 pub mod Interface
 pub mod Parts
 pub mod GoodFacts
+pub mod Hearing
