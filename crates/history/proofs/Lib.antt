@@ -2,3 +2,4 @@ pub mod Interface
 pub mod Parts
 pub mod GoodFacts
 pub mod Hearing
+pub mod Counts
