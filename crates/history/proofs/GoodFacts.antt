@@ -36,7 +36,7 @@ pub record Facts (sv : Server) (l : Lent) : Type 0 where
   pub sessions : LinksFacts (files (tablePart sv l)) (sv .sessions) (sv .most) (l .selected) (l .held) (sv .links)
   pub links : length (sv .links) ≡ 4
 
-least-blocks : (b f s m : ℕ) → sizesFit b f s m ≡ true → 1 ≤ b
+pub least-blocks : (b f s m : ℕ) → sizesFit b f s m ≡ true → 1 ≤ b
 unfolding sizesFit
 least-blocks b f s m e = leb-true 1 b (both-true (leb 1 b) _ e .0)
 

@@ -3,3 +3,4 @@ pub mod Parts
 pub mod GoodFacts
 pub mod Hearing
 pub mod Counts
+pub mod Made
