@@ -4,3 +4,4 @@ pub mod GoodFacts
 pub mod Hearing
 pub mod Counts
 pub mod Made
+pub mod Leaves
