@@ -5,3 +5,7 @@ pub mod Hearing
 pub mod Counts
 pub mod Made
 pub mod Leaves
+pub mod Asked
+pub mod Effects
+pub mod Uploading
+pub mod Acts
