@@ -9,3 +9,4 @@ pub mod Asked
 pub mod Effects
 pub mod Uploading
 pub mod Acts
+pub mod Kept
