@@ -10,3 +10,4 @@ pub mod Effects
 pub mod Uploading
 pub mod Acts
 pub mod Kept
+pub mod Never
