@@ -73,7 +73,8 @@ module _ (s : Session) (last : Last) where
   unfolding download.selectTurn download.selectedAs
   select-held most size info disk owner table selected =
       either (λ (c : Chooses). c .turn .session .held) (s .held) (ltb (length info) size) _ _ refl
-      (either (λ (c : Chooses). c .turn .session .held) (s .held) (eqb (selectOf (take size info) disk owner table selected most .answer .refused) 0) _ _ refl refl)
+      (either (λ (c : Chooses). c .turn .session .held) (s .held)
+      (eqb (selectOf (take size info) disk owner table selected most .answer .refused) 0) _ _ refl refl)
 
   send-held : (place offset lock passed : ℕ) (disk owner table : List ℕ)
       → download.beginTurn s last place offset lock passed disk owner table .session .held ≡ s .held
@@ -81,7 +82,8 @@ module _ (s : Session) (last : Last) where
   send-held place offset lock passed disk owner table =
       either (λ (t : Turn). t .session .held) (s .held) (ltb (destinationsAt disk owner table place) lock) _ _ refl refl
 
-  confirm-held : (place destination : ℕ) (disk owner table : List ℕ) → download.confirmTurn s last place destination disk owner table .session .held ≡ s .held
+  confirm-held : (place destination : ℕ) (disk owner table : List ℕ)
+      → download.confirmTurn s last place destination disk owner table .session .held ≡ s .held
   unfolding download.confirmTurn
   confirm-held place destination disk owner table =
       either (λ (t : Turn). t .session .held) (s .held) (ltb (destinationsAt disk owner table place) destination) _ _ refl refl

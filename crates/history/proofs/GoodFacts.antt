@@ -67,7 +67,9 @@ module _ (sv : Server) (l : Lent) where
       go t =
           let some : 1 ≤ sv .blocks = least-blocks (sv .blocks) (sv .files) (sv .sessions) (sv .most) (t .sizes) in
           let s = sizes-true (sv .blocks) (sv .files) (sv .sessions) (sv .most) (t .sizes) in
-          let r = room-true (sv .blocks) (sv .files) (sv .sessions) (sv .most) (length (l .disk)) (length (l .map)) (length (l .owner)) (length (l .table)) (length (l .selected)) (length (l .held)) (t .room) in
+          let r =
+          room-true (sv .blocks) (sv .files) (sv .sessions) (sv .most) (length (l .disk)) (length (l .map)) (length (l .owner)) (length (l .table))
+          (length (l .selected)) (length (l .held)) (t .room) in
           let n : length (ownerPart sv l) ≡ sv .blocks = length-take-le (sv .blocks) (l .owner) (r .owner) in
           record {
             some = some;
@@ -109,7 +111,9 @@ module _ (sv : Server) (l : Lent) where
       rw (good-check g session wanted out)
       (go (eqb session 0) refl (ltb (sv .sessions) session) refl (inState wanted (linkOf sv (session - 1) .linked)) refl (ltb out 258) refl)
     where
-      go : (t : Bool) → eqb session 0 ≡ t → (u : Bool) → ltb (sv .sessions) session ≡ u → (v : Bool) → inState wanted (linkOf sv (session - 1) .linked) ≡ v
+      go : (t : Bool) → eqb session 0 ≡ t → (u : Bool) → ltb (sv .sessions) session ≡ u
+          → (v : Bool)
+          → inState wanted (linkOf sv (session - 1) .linked) ≡ v
           → (w : Bool)
           → ltb out 258 ≡ w
           → P (cond t (Refuse 34) (cond u (Refuse 34) (cond v (cond w (Refuse 32) (Go (session - 1))) (Refuse 34))))

@@ -12,7 +12,8 @@ use lib.ListN.{length, set, replicate, length-set, length-replicate}
 use Rattle.packet.specs.Machine.{Step, more, ends, Call, call, called}
 use Rattle.packet.specs.declared.frame.Frame.{Frame}
 use Rattle.packet.specs.declared.frame.Frame.the-variants.{Open, TooLong, Whole, Refused}
-use Rattle.packet.specs.Frame.{Held, Event, Heard, packet, too-long, none-held, announcedIn, packetIn, judged, byte, answerBy, answerOf, withoutPacket, receiveOf}
+use Rattle.packet.specs.Frame.{Held, Event, Heard, packet, too-long, none-held, announcedIn, packetIn}
+use Rattle.packet.specs.Frame.{judged, byte, answerBy, answerOf, withoutPacket, receiveOf}
 use Rattle.links.proofs.Facts.{Unfinished, packetOf}
 use Rattle.server.specs.State.{part, withPart}
 use Rattle.server.specs.Turns.{HeardIn, heardIn, hearOf}
@@ -45,7 +46,8 @@ no-event : (e : Event) → none ≡ some e → ⊥
 no-event e q = let z : _≡_ {A = ℕ} 0 1 = cc in omega arith
 
 -- the step of n bytes in p: it goes on with an unfinished packet, or ends with none
-settled-step : (n : ℕ) (p : List ℕ) (k : Held → Call Held Event) → length p ≡ 258 → ((h : Held) → Unended h → Settled (k h)) → Settled (called (judged n p) k)
+settled-step : (n : ℕ) (p : List ℕ) (k : Held → Call Held Event) → length p ≡ 258 → ((h : Held) → Unended h → Settled (k h))
+    → Settled (called (judged n p) k)
 unfolding judged called
 settled-step n p k size ih = go (ltb n 2) refl (ltb 256 (announcedIn p)) refl (ltb n (2 + announcedIn p)) refl
   where
@@ -58,7 +60,8 @@ settled-step n p k size ih = go (ltb n 2) refl (ltb 256 (announcedIn p)) refl (l
     go : (a : Bool) → ltb n 2 ≡ a → (b : Bool) → ltb 256 (announcedIn p) ≡ b → (c : Bool) → ltb n (2 + announcedIn p) ≡ c
         → Settled
         (called
-        (cond a (more (record { count = n; part = p })) (cond b (ends none-held too-long) (cond c (more (record { count = n; part = p })) (ends none-held (packetIn p)))))
+        (cond a (more (record { count = n; part = p })) (cond b (ends none-held too-long)
+        (cond c (more (record { count = n; part = p })) (ends none-held (packetIn p)))))
         k)
     go true d b e c f = on (λ h. absurd (omega (arith, ltb-true n 2 d)))
     go false d true e c f = stop too-long
@@ -86,7 +89,8 @@ answer-well : (c : Call Held Event) → Settled c → HeardWell (answerOf c .ans
 unfolding answerOf answerBy withoutPacket
 answer-well c s = go (c .event) refl
   where
-    go : (e : Option Event) → c .event ≡ e → HeardWell (answerBy (c .taken) (c .state) e .frame) (answerBy (c .taken) (c .state) e .held) (c .state .part)
+    go : (e : Option Event) → c .event ≡ e
+        → HeardWell (answerBy (c .taken) (c .state) e .frame) (answerBy (c .taken) (c .state) e .held) (c .state .part)
     go none q =
         record {
           size = s .state .size;

@@ -41,8 +41,8 @@ memOf l = mem (l .disk) (l .map) (l .owner) (l .table) (l .selected)
 -- the parts of a turn put back, and all unfinished packets
 abbrev pub backIn : Server → ℕ → Lent → Mem → List ℕ → Lent
 backIn sv i l m held =
-    lent (m .disk) (m .map ++ drop (words (sv .blocks)) (l .map)) (m .owner ++ drop (sv .blocks) (l .owner)) (m .table ++ drop (4 * sv .files) (l .table))
-    (withPart (i * sv .most) (sv .most) (m .selected) (l .selected)) held
+    lent (m .disk) (m .map ++ drop (words (sv .blocks)) (l .map)) (m .owner ++ drop (sv .blocks) (l .owner))
+    (m .table ++ drop (4 * sv .files) (l .table)) (withPart (i * sv .most) (sv .most) (m .selected) (l .selected)) held
 
 module _ (sv : Server) (l : Lent) (g : Good sv l) where
   -- a call that refuses
@@ -99,7 +99,8 @@ module _ (sv : Server) (l : Lent) (g : Good sv l) where
           (set (sv .links) i (t .turn .session))
           → Leaves sv l server left
       leaves-turn h k =
-          let mine : length (t .mem .selected) ≡ sv .most = kept .lengths .selected ∙ part-length (i * sv .most) (sv .most) (l .selected) selected-room in
+          let mine : length (t .mem .selected) ≡ sv .most =
+          kept .lengths .selected ∙ part-length (i * sv .most) (sv .most) (l .selected) selected-room in
           record {
             good = facts-good server left
                 (rw (
@@ -114,8 +115,10 @@ module _ (sv : Server) (l : Lent) (g : Good sv l) where
                 (rw table-back k)
                 (length-set (sv .links) i (t .turn .session) ∙ g .links);
             change =
-                subst (λ (o : List ℕ). Change (sv .last) (filesOf sv l) (t .turn .last) (λ q. viewAt (t .mem .disk) o (tablePart server left) q)) (sym owner-back)
-                (subst (λ (r : List ℕ). Change (sv .last) (filesOf sv l) (t .turn .last) (λ q. viewAt (t .mem .disk) (t .mem .owner) r q)) (sym table-back)
+                subst (λ (o : List ℕ). Change (sv .last) (filesOf sv l) (t .turn .last) (λ q. viewAt (t .mem .disk) o (tablePart server left) q))
+                (sym owner-back)
+                (subst (λ (r : List ℕ). Change (sv .last) (filesOf sv l) (t .turn .last) (λ q. viewAt (t .mem .disk) (t .mem .owner) r q))
+                (sym table-back)
                 (kept .change));
             sizes = record { blocks = refl; files = refl; sessions = refl; most = refl };
           }

@@ -35,7 +35,8 @@ module _ (s : Start) where
   -- what making leaves of what is lent
   abbrev left : Lent
   left =
-      lent (s .lent .disk) (mapOf (words (s .blocks)) (replicate (s .blocks) 0) ++ drop (words (s .blocks)) (s .lent .map)) (zeroed (s .blocks) (s .lent .owner))
+      lent (s .lent .disk)
+      (mapOf (words (s .blocks)) (replicate (s .blocks) 0) ++ drop (words (s .blocks)) (s .lent .map)) (zeroed (s .blocks) (s .lent .owner))
       (zeroed (4 * s .files) (s .lent .table)) (zeroed (s .sessions * s .most) (s .lent .selected)) (zeroed (s .sessions * 258) (s .lent .held))
 
   record Sized : Type 0 where
@@ -50,7 +51,9 @@ module _ (s : Start) where
       record {
         some = least-blocks (s .blocks) (s .files) (s .sessions) (s .most) (t .0);
         sizes = sizes-true (s .blocks) (s .files) (s .sessions) (s .most) (t .0);
-        room = room-true (s .blocks) (s .files) (s .sessions) (s .most) (length (s .lent .disk)) (length (s .lent .map)) (length (s .lent .owner)) (length (s .lent .table)) (length (s .lent .selected)) (length (s .lent .held)) (t .1);
+        room =
+            room-true (s .blocks) (s .files) (s .sessions) (s .most) (length (s .lent .disk)) (length (s .lent .map)) (length (s .lent .owner))
+            (length (s .lent .table)) (length (s .lent .selected)) (length (s .lent .held)) (t .1);
       }
 
   made-is : legal s ≡ true → Sized → made s ≡ state server left

@@ -69,7 +69,8 @@ module _ (a n : ℕ) (p l : List ℕ) (within : a + n ≤ length l) (size : leng
       ap (λ (j : ℕ). take m (drop j (withPart a n p l))) e ∙ ap (take m) (beyond (k - (a + n))) ∙ ap (λ (j : ℕ). take m (drop j l)) (sym e)
 
 -- one of equal parts: the others stay
-pub part-other : (n i j : ℕ) (p l : List ℕ) → i * n + n ≤ length l → length p ≡ n → (j ≡ i → ⊥) → part (j * n) n (withPart (i * n) n p l) ≡ part (j * n) n l
+pub part-other : (n i j : ℕ) (p l : List ℕ) → i * n + n ≤ length l → length p ≡ n → (j ≡ i → ⊥)
+    → part (j * n) n (withPart (i * n) n p l) ≡ part (j * n) n l
 part-other n i j p l within size ne = go (ltb j i) refl
   where
     go : (t : Bool) → ltb j i ≡ t → part (j * n) n (withPart (i * n) n p l) ≡ part (j * n) n l
