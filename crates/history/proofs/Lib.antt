@@ -11,3 +11,7 @@ pub mod Uploading
 pub mod Acts
 pub mod Kept
 pub mod Never
+pub mod Others
+pub mod Decided
+pub mod Acted
+pub mod Sessions

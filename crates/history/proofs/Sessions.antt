@@ -1,0 +1,282 @@
+-- The sessions' facts after each call: what refusal 35 says of the sessions ("a length, offset or name points at what the store lacks") never
+-- comes to hold. One session moves; the others keep theirs, since no file but the session's own upload changes.
+use mathlib.Core.Path.{_≡_, refl, sym, ap, _∙_, subst}
+use mathlib.Core.Bool.{Bool, true, false, cond}
+use mathlib.Core.List.{List, _++_}
+use Prim.Native.Nat.{ℕ, _+_, _*_, _-_, _≤_, _<_}
+use native.Mathlib.Omega.{arith}
+use borrow.Author.Tests.{ltb-true, ltb-false}
+use lib.Dec.{ltb}
+use lib.ListN.{length, length-append, length-drop, getD, set, take, drop, List·getD-append}
+use lib.Seq.{length-take-le, getD-take, getD-drop, getD-append-add, getD-set-same, getD-set-other, take-at, drop-at}
+use Rattle.packet.specs.declared.frame.Frame.{Frame}
+use Rattle.session.specs.declared.state.Session.{Session}
+use Rattle.session.specs.declared.state.Uplink.the-variants as up
+use Rattle.session.specs.State.{closedSession, withHeld}
+use Rattle.table.specs.declared.File.{File}
+use Rattle.table.specs.Table.{files, fileAt, numbers}
+use Rattle.table.specs.Fit.{Distinct}
+use Rattle.table.proofs.Finding.{by-equal}
+use Rattle.files.specs.View.{recordAt}
+use Rattle.links.specs.Sound.{link}
+use Rattle.links.proofs.Facts.{CompleteAt, PartialAt, Unfinished, LinkFacts, Uploads, selectionOf, packetOf, LinksFacts, part-end}
+use Rattle.decide.specs.Decide.{decideOf}
+use Rattle.carry.specs.declared.turn.Last.{Last}
+use Rattle.carry.specs.Turn.{Mem, Turned}
+use Rattle.carry.specs.Carry.{carryOut}
+use Rattle.server.specs.State.{withPart}
+use Rattle.server.specs.Turns.{sizeIn}
+use Rattle.history.proofs.Interface.{Stored, Kept}
+use Rattle.history.proofs.Others.{Reads, reads-of, reads-still, link-still}
+use Rattle.history.proofs.Decided.{Own, decide-fit}
+use Rattle.history.proofs.Acted.{Up, up-of, receiving-of, Acted, acted}
+
+-- ---- a session's part of what is lent
+
+module _ (a n : ℕ) (p l : List ℕ) (size : length p ≡ n) (room : a + n ≤ length l) where
+  front : length (take a l) ≡ a
+  front = length-take-le a l (omega arith)
+
+  rest : length (drop n (drop a l)) ≡ length l - a - n
+  rest = length-drop n (drop a l) ∙ ap (λ (k : ℕ). k - n) (length-drop a l)
+
+  pub part-length : length (withPart a n p l) ≡ length l
+  part-length =
+      omega (arith, length-append (take a l) (p ++ drop n (drop a l)), length-append p (drop n (drop a l)), front, rest)
+
+  pub part-own : take n (drop a (withPart a n p l)) ≡ p
+  part-own = ap (take n) (drop-at (take a l) (p ++ drop n (drop a l)) a front) ∙ take-at p (drop n (drop a l)) n size
+
+  part-below : (k : ℕ) → k < a → getD (withPart a n p l) k 0 ≡ getD l k 0
+  part-below k h = List·getD-append (take a l) (p ++ drop n (drop a l)) 0 k (omega (arith, front)) ∙ getD-take a l k 0 h
+
+  part-above : (k : ℕ) → getD (withPart a n p l) (a + n + k) 0 ≡ getD l (a + n + k) 0
+  part-above k =
+      let e : a + n + k ≡ length (take a l) + (length p + k) = omega (arith, front) in
+      let d : a + n + k ≡ a + (n + k) = omega arith in
+      ap (λ (x : ℕ). getD (withPart a n p l) x 0) e
+      ∙ getD-append-add (take a l) (p ++ drop n (drop a l)) (length p + k) 0
+      ∙ getD-append-add p (drop n (drop a l)) k 0
+      ∙ getD-drop n (drop a l) k 0
+      ∙ getD-drop a l (n + k) 0
+      ∙ ap (λ (x : ℕ). getD l x 0) (sym d)
+
+  part-after : (k : ℕ) → a + n ≤ k → getD (withPart a n p l) k 0 ≡ getD l k 0
+  part-after k h =
+      let e : k ≡ a + n + (k - (a + n)) = omega arith in
+      ap (λ (x : ℕ). getD (withPart a n p l) x 0) e ∙ part-above (k - (a + n)) ∙ ap (λ (x : ℕ). getD l x 0) (sym e)
+
+-- session i's part of the selections is replaced, and the others' stay
+module _ (sessions most i : ℕ) (p selected : List ℕ) (h : i < sessions) (lent : sessions * most ≤ length selected) (size : length p ≡ most) where
+  room-at : i * most + most ≤ length selected
+  room-at = omega (arith, part-end i sessions most h)
+
+  pub selection-own : selectionOf most (withPart (i * most) most p selected) i ≡ p
+  selection-own = part-own (i * most) most p selected size room-at
+
+  pub selection-other : (j : ℕ) → (j ≡ i → ⊥) → (k : ℕ) → k < most
+      → getD (selectionOf most (withPart (i * most) most p selected) j) k 0 ≡ getD (selectionOf most selected j) k 0
+  selection-other j n k l =
+      at-part (withPart (i * most) most p selected) ∙ go (ltb j i) refl ∙ sym (at-part selected)
+    where
+      at-part : (x : List ℕ) → getD (selectionOf most x j) k 0 ≡ getD x (j * most + k) 0
+      at-part x = getD-take most (drop (j * most) x) k 0 l ∙ getD-drop (j * most) x k 0
+
+      go : (t : Bool) → ltb j i ≡ t → getD (withPart (i * most) most p selected) (j * most + k) 0 ≡ getD selected (j * most + k) 0
+      go true e =
+          part-below (i * most) most p selected size room-at (j * most + k) (omega (arith, part-end j i most (ltb-true j i e)))
+      go false e =
+          let b : i < j = omega (arith, ltb-false j i e, n) in
+          part-after (i * most) most p selected size room-at (j * most + k) (omega (arith, part-end i j most b))
+
+-- ---- one session moves
+
+-- two sessions that differ do not upload the same file
+pub apart-both : (fs : List File) (sessions most : ℕ) (selected held : List ℕ) (links : List Session) → LinksFacts fs sessions most selected held links
+    → (i j : ℕ) → (j ≡ i → ⊥) → i < 4 → j < 4 → (place : ℕ) → Uploads (link links i) place → Uploads (link links j) place → ⊥
+apart-both fs sessions most selected held links f i j n a b place u v = go (ltb i j) refl
+  where
+    go : (t : Bool) → ltb i j ≡ t → ⊥
+    go true e = f .apart i j (ltb-true i j e) b place u v
+    go false e = f .apart j i (omega (arith, ltb-false i j e, n)) a place v u
+
+-- a session that uploads is one of those in use, and its file is there
+pub uploads-live : (fs : List File) (sessions most : ℕ) (selected held : List ℕ) (links : List Session) → LinksFacts fs sessions most selected held links
+    → (j place : ℕ) → j < 4 → Uploads (link links j) place → fileAt fs place .number ≡ 0 → ⊥
+uploads-live fs sessions most selected held links f j place h v = go (ltb j sessions) refl
+  where
+    go : (t : Bool) → ltb j sessions ≡ t → fileAt fs place .number ≡ 0 → ⊥
+    go true e = f .each j (ltb-true j sessions e) (v .linked) .receiving place (v .offset) (v .received) (v .receiving) .number
+    go false e =
+        let c = f .beyond j (ltb-false j sessions e) h in
+        let d = v .linked in
+        absurd (let z : _≡_ {A = ℕ} 0 1 = cc in omega arith)
+
+module _ (fs fs′ : List File) (sessions most : ℕ) (selected selected′ held held′ : List ℕ) (links : List Session) (i : ℕ) (s : Session)
+    (f : LinksFacts fs sessions most selected held links) (h : i < sessions) (four : length links ≡ 4) where
+  here : (j : ℕ) → j ≡ i → link (set links i s) j ≡ s
+  here j e =
+      ap (λ (k : ℕ). link (set links i s) k) e ∙ getD-set-same links i s closedSession (omega (arith, f .number))
+
+  there : (j : ℕ) → (j ≡ i → ⊥) → link (set links i s) j ≡ link links j
+  there j n = getD-set-other links i j s closedSession n
+
+  -- the others have their facts over the new files, and the session has its own and uploads what no other does
+  pub one-moves : length selected′ ≡ length selected → length held′ ≡ length held
+      → ((j : ℕ) → j < sessions → (j ≡ i → ⊥) → link links j .linked ≡ true
+      → LinkFacts fs′ most (selectionOf most selected′ j) (packetOf held′ j) (link links j))
+      → (s .linked ≡ true → LinkFacts fs′ most (selectionOf most selected′ i) (packetOf held′ i) s)
+      → ((place : ℕ) → Uploads s place → (j : ℕ) → j < 4 → (j ≡ i → ⊥) → Uploads (link links j) place → ⊥)
+      → LinksFacts fs′ sessions most selected′ held′ (set links i s)
+  one-moves ls lh others own sole =
+      record {
+        number = f .number;
+        maxsel = f .maxsel;
+        selections = omega (arith, f .selections);
+        packets = omega (arith, f .packets);
+        each = λ j l o. by-equal j i (mine j l o) (theirs j l o);
+        beyond = λ j l k. ap (λ (x : Session). x .linked) (there j (λ e. omega arith)) ∙ f .beyond j l k;
+        apart = pairs;
+      }
+    where
+      mine : (j : ℕ) → j < sessions → link (set links i s) j .linked ≡ true → j ≡ i
+          → LinkFacts fs′ most (selectionOf most selected′ j) (packetOf held′ j) (link (set links i s) j)
+      mine j l o e =
+          subst (λ (x : Session). LinkFacts fs′ most (selectionOf most selected′ j) (packetOf held′ j) x) (sym (here j e))
+          (subst (λ (x : ℕ). LinkFacts fs′ most (selectionOf most selected′ x) (packetOf held′ x) s) (sym e)
+          (own (sym (ap (λ (x : Session). x .linked) (here j e)) ∙ o)))
+
+      theirs : (j : ℕ) → j < sessions → link (set links i s) j .linked ≡ true → (j ≡ i → ⊥)
+          → LinkFacts fs′ most (selectionOf most selected′ j) (packetOf held′ j) (link (set links i s) j)
+      theirs j l o n =
+          subst (λ (x : Session). LinkFacts fs′ most (selectionOf most selected′ j) (packetOf held′ j) x) (sym (there j n))
+          (others j l n (sym (ap (λ (x : Session). x .linked) (there j n)) ∙ o))
+
+      pairs : (a b : ℕ) → a < b → b < 4 → (place : ℕ) → Uploads (link (set links i s) a) place → Uploads (link (set links i s) b) place → ⊥
+      pairs a b l k place u v =
+          by-equal a i
+          (λ e.
+          let n : b ≡ i → ⊥ = λ d. omega arith in
+          sole place (subst (λ (x : Session). Uploads x place) (here a e) u) b k n (subst (λ (x : Session). Uploads x place) (there b n) v))
+          (λ n.
+          by-equal b i
+          (λ e.
+          sole place (subst (λ (x : Session). Uploads x place) (here b e) v) a (omega arith) n
+          (subst (λ (x : Session). Uploads x place) (there a n) u))
+          (λ d.
+          f .apart a b l k place (subst (λ (x : Session). Uploads x place) (there a n) u)
+          (subst (λ (x : Session). Uploads x place) (there b d) v)))
+
+-- ---- an act
+
+-- the session's downlink and selection do not see how many bytes of a packet are held
+reads-held : (fs : List File) (most : ℕ) (selected : List ℕ) (s : Session) (n : ℕ) → Reads fs most selected s → Reads fs most selected (withHeld s n)
+reads-held fs most selected s n r =
+    record { sending = r .sending; ended = r .ended; aborting = r .aborting; at-most = r .at-most; next = r .next; names = r .names }
+
+module _ (sessions most : ℕ) (selected held held′ : List ℕ) (links : List Session) (i n : ℕ) (m : Mem) (last : Last) (t : Turned)
+    (f : LinksFacts (files (m .table)) sessions most selected held links) (h : i < sessions) (linked : link links i .linked ≡ true)
+    (four : length links ≡ 4) (k : Kept m last t) (part : m .selected ≡ selectionOf most selected i) (lengths : length held′ ≡ length held)
+    (packets : (j : ℕ) → (j ≡ i → ⊥) → packetOf held′ j ≡ packetOf held j)
+    (unfinished : 2 ≤ t .turn .session .held → Unfinished (t .turn .session .held) (packetOf held′ i))
+    (a : Acted links most m (withHeld (link links i) n) t) where
+  abbrev fs : List File
+  fs = files (m .table)
+
+  abbrev fs′ : List File
+  fs′ = files (t .mem .table)
+
+  abbrev selected′ : List ℕ
+  selected′ = withPart (i * most) most (t .mem .selected) selected
+
+  uploads-own : (place : ℕ) → Own (link links i .up) place → Uploads (link links i) place
+  uploads-own place o = record { linked = linked; offset = o .offset; received = o .received; receiving = o .receiving }
+
+  own-of : (j place : ℕ) → Uploads (link links j) place → Own (link links j .up) place
+  own-of j place v = record { offset = v .offset; received = v .received; receiving = v .receiving }
+
+  complete-kept : (q : ℕ) → CompleteAt fs q → fileAt fs′ q ≡ fileAt fs q
+  complete-kept q c =
+      a .kept q (c .number) (λ o. c .time (f .each i h linked .receiving q (o .offset) (o .received) (o .receiving) .time))
+
+  numbers-once : Distinct (numbers fs′)
+  numbers-once = k .stored .sound .files .numbers
+
+  part-room : length (t .mem .selected) ≡ most
+  part-room =
+      k .lengths .selected ∙ ap length part
+      ∙ length-take-le most (drop (i * most) selected)
+      (omega (arith, f .selections, part-end i sessions most h, length-drop (i * most) selected))
+
+  others-keep : (j : ℕ) → j < sessions → (j ≡ i → ⊥) → link links j .linked ≡ true
+      → LinkFacts fs′ most (selectionOf most selected′ j) (packetOf held′ j) (link links j)
+  others-keep j l ne o =
+      subst (λ (x : List ℕ). LinkFacts fs′ most (selectionOf most selected′ j) x (link links j)) (sym (packets j ne))
+      (link-still fs fs′ complete-kept numbers-once most (selectionOf most selected j) (selectionOf most selected′ j) (packetOf held j) (link links j)
+      (f .each j l o) apart (selection-other sessions most i (t .mem .selected) selected h (f .selections) part-room j ne))
+    where
+      apart : (place offset received : ℕ) → link links j .up ≡ up.Receiving place offset received → fileAt fs′ place ≡ fileAt fs place
+      apart place offset received e =
+          let v : Uploads (link links j) place = record { linked = o; offset = offset; received = received; receiving = e } in
+          a .kept place (f .each j l o .receiving place offset received e .number)
+          (λ w.
+          apart-both fs sessions most selected held links f i j ne (omega (arith, f .number)) (omega (arith, f .number)) place (uploads-own place w) v)
+
+  own-holds : LinkFacts fs′ most (selectionOf most selected′ i) (packetOf held′ i) (t .turn .session)
+  own-holds =
+      let e = selection-own sessions most i (t .mem .selected) selected h (f .selections) part-room in
+      let r = reads-still fs fs′ complete-kept numbers-once most (t .mem .selected) (selectionOf most selected′ i) (t .turn .session) (a .reads)
+      (λ x l. ap (λ (y : List ℕ). getD y x 0) e) in
+      record {
+        receiving = receiving-of fs′ (t .turn .session .up) (a .receiving);
+        sending = r .sending;
+        ended = r .ended;
+        aborting = r .aborting;
+        at-most = r .at-most;
+        next = r .next;
+        names = r .names;
+        packet = unfinished;
+      }
+
+  sole : (place : ℕ) → Uploads (t .turn .session) place → (j : ℕ) → j < 4 → (j ≡ i → ⊥) → Uploads (link links j) place → ⊥
+  sole place u j l ne v =
+      let o : Own (t .turn .session .up) place = record { offset = u .offset; received = u .received; receiving = u .receiving } in
+      apart-both fs sessions most selected held links f i j ne (omega (arith, f .number)) l place (uploads-own place (a .alone place o j l v)) v
+
+  acted-links : LinksFacts fs′ sessions most selected′ held′ (set links i (t .turn .session))
+  acted-links =
+      one-moves fs fs′ sessions most selected selected′ held held′ links i (t .turn .session) f h four
+      (part-length (i * most) most (t .mem .selected) selected part-room (omega (arith, f .selections, part-end i sessions most h)))
+      lengths others-keep (λ o. own-holds) sole
+
+-- an act of session i, decided on what it has received, with the facts that the session had. The hypotheses follow from a sound state: Stored
+-- and LinksFacts are what refusal 35 tests; m has the session's part of the selections; hearing leaves the other sessions' packets.
+pub turn-links : (sessions most : ℕ) (selected held held′ : List ℕ) (links : List Session) (i n : ℕ) (m : Mem) (last : Last) (clock : ℕ)
+    (frame : Frame) (info : List ℕ)
+    → let s = withHeld (link links i) n in
+    let t = carryOut (decideOf s links frame info (files (m .table)) (m .selected)) s last clock most (sizeIn frame) info m in
+    LinksFacts (files (m .table)) sessions most selected held links
+    → i < sessions
+    → link links i .linked ≡ true
+    → length links ≡ 4
+    → Stored m last
+    → Kept m last t
+    → m .selected ≡ selectionOf most selected i
+    → length held′ ≡ length held
+    → ((j : ℕ) → (j ≡ i → ⊥) → packetOf held′ j ≡ packetOf held j)
+    → (2 ≤ t .turn .session .held → Unfinished (t .turn .session .held) (packetOf held′ i))
+    → LinksFacts (files (t .mem .table)) sessions most (withPart (i * most) most (t .mem .selected) selected) held′ (set links i (t .turn .session))
+turn-links sessions most selected held held′ links i n m last clock frame info f h linked four st k part lengths packets unfinished =
+    let s = withHeld (link links i) n in
+    let g = f .each i h linked in
+    let r : Reads (files (m .table)) most (m .selected) s =
+    reads-held (files (m .table)) most (m .selected) (link links i) n
+    (subst (λ (x : List ℕ). Reads (files (m .table)) most x (link links i)) (sym part)
+    (reads-of (files (m .table)) most (selectionOf most selected i) (packetOf held i) (link links i) g)) in
+    acted-links sessions most selected held held′ links i n m last
+    (carryOut (decideOf s links frame info (files (m .table)) (m .selected)) s last clock most (sizeIn frame) info m)
+    f h linked four k part lengths packets unfinished
+    (acted links most m s last st (up-of (files (m .table)) (s .up) (g .receiving)) r
+    (uploads-live (files (m .table)) sessions most selected held links f)
+    (decideOf s links frame info (files (m .table)) (m .selected)) clock (sizeIn frame) info
+    (decide-fit (files (m .table)) links s most (m .selected) r frame info))
