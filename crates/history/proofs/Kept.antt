@@ -32,6 +32,7 @@ use Rattle.history.specs.Good.{Good}
 use Rattle.history.specs.Stored.{filesOf}
 use Rattle.history.proofs.Interface.{Stored, Kept}
 use Rattle.history.proofs.Acts.{act-kept, turnAfter}
+use Rattle.history.proofs.Sessions.{turn-links}
 use Rattle.history.proofs.Parts.{with-length}
 use Rattle.history.proofs.GoodFacts.{Facts, good-facts, checked}
 use Rattle.history.proofs.Hearing.{HeardOf, hear-well}
@@ -40,23 +41,6 @@ use Rattle.history.proofs.Made.{made-good}
 use Rattle.history.proofs.Leaves.{SameSizes, Leaves, memOf, backIn, leaves-all, leaves-store, stored-parts, leaves-turn}
 
 module _
-    (turn-links : (links : List Session) (i n : ℕ) (frame : Frame) (info : List ℕ) (m : Mem) (last : Last) (clock : ℕ)
-    (sessions most : ℕ) (selected held : List ℕ)
-    → LinksFacts (files (m .table)) sessions most selected held links
-    → i < sessions
-    → link links i .linked ≡ true
-    → length links ≡ 4
-    → Stored m last
-    → Kept m last (turnAfter (withHeld (link links i) n) links frame info m last clock most)
-    → m .selected ≡ selectionOf most selected i
-    → (held′ : List ℕ)
-    → length held′ ≡ length held
-    → ((j : ℕ) → (j ≡ i → ⊥) → packetOf held′ j ≡ packetOf held j)
-    → (2 ≤ turnAfter (withHeld (link links i) n) links frame info m last clock most .turn .session .held
-    → Unfinished (turnAfter (withHeld (link links i) n) links frame info m last clock most .turn .session .held) (packetOf held′ i))
-    → LinksFacts (files (turnAfter (withHeld (link links i) n) links frame info m last clock most .mem .table)) sessions most
-    (withPart (i * most) most (turnAfter (withHeld (link links i) n) links frame info m last clock most .mem .selected) selected) held′
-    (set links i (turnAfter (withHeld (link links i) n) links frame info m last clock most .turn .session)))
     (login-links : (fs : List File) (sessions most : ℕ) (selected held : List ℕ) (links : List Session) (i : ℕ)
     → LinksFacts fs sessions most selected held links
     → i < sessions
@@ -143,9 +127,9 @@ module _
           unfolding heardBy answeredBy actOf putBack
           heard-leaves out w =
               leaves-turn sv l g i inside turned kept (h .held) (w .lengths)
-              (turn-links (sv .links) i (h .framed .held) (h .framed .frame) (h .framed .info) parts (sv .last) clock (sv .sessions) (sv .most)
-              (l .selected) (l .held) (facts .sessions) inside linked (facts .links) (stored-parts sv l g i) kept refl (h .held) (w .lengths) (w .others)
-              (packet-left w))
+              (turn-links (sv .sessions) (sv .most) (l .selected) (l .held) (h .held) (sv .links) i (h .framed .held) parts (sv .last) clock
+            (h .framed .frame) (h .framed .info) (facts .sessions) inside linked (facts .links) (stored-parts sv l g i) kept refl (w .lengths) (w .others)
+            (packet-left w))
 
         step-leaves : (clock : ℕ) (input out : List ℕ) → Leaves sv l (stepOf sv i clock input l out .done .server) (stepOf sv i clock input l out .lent)
         unfolding stepOf
