@@ -9,6 +9,7 @@ pub mod Asked
 pub mod Effects
 pub mod Uploading
 pub mod Acts
+pub mod Receiving
 pub mod Kept
 pub mod Never
 pub mod Others
