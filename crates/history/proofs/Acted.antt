@@ -105,7 +105,7 @@ own-place : (p offset received place : ℕ) → Own (up.Receiving p offset recei
 own-place p offset received place o = let e = o .receiving in cc
 
 -- what holds of both things that a test picks from
-by-test : {A : Type 0} (P : A → Type 0) (b : Bool) (x y : A) → (b ≡ true → P x) → (b ≡ false → P y) → P (cond b x y)
+pub by-test : {A : Type 0} (P : A → Type 0) (b : Bool) (x y : A) → (b ≡ true → P x) → (b ≡ false → P y) → P (cond b x y)
 by-test P true x y f g = f refl
 by-test P false x y f g = g refl
 
@@ -119,6 +119,16 @@ mapped-at : (f : ℕ → ℕ) (l : List ℕ) (k : ℕ) → k < length l → getD
 mapped-at f [] k h = absurd (omega arith)
 mapped-at f (x ∷ l) zero h = refl
 mapped-at f (x ∷ l) (suc k) h = mapped-at f l k (omega arith)
+
+-- a file is no longer than the store, 4,096 blocks of 256 bytes
+pub file-most : (m : Mem) (last : Last) → Stored m last → (q : ℕ) → (recordAt (m .table) q .number ≡ 0 → ⊥) → recordAt (m .table) q .size ≤ 1048576
+file-most m last stored q n =
+    omega (
+      arith,
+      file-room (m .map) (m .owner) (m .table) (last .number) (last .time) (stored .sound) q n,
+      blocks-le (q + 1) (m .owner),
+      stored .sizes .most,
+    )
 
 -- ---- what an act leaves
 
@@ -207,16 +217,6 @@ module _ (links : List Session) (most : ℕ) (m : Mem) (s : Session) (last : Las
 
   -- ---- DATA
 
-  -- a file is no longer than the store
-  size-most : (q : ℕ) → (recordAt (m .table) q .number ≡ 0 → ⊥) → recordAt (m .table) q .size ≤ 1048576
-  size-most q n =
-      omega (
-        arith,
-        file-room (m .map) (m .owner) (m .table) (last .number) (last .time) (stored .sound) q n,
-        blocks-le (q + 1) (m .owner),
-        stored .sizes .most,
-      )
-
   module _ (place offset received size : ℕ) (info : List ℕ) (f : Stores (files (m .table)) (s .up) size place offset received) where
     own : Own (s .up) place
     own = record { offset = offset; received = received; receiving = f .own }
@@ -232,7 +232,7 @@ module _ (links : List Session) (most : ℕ) (m : Mem) (s : Session) (last : Las
 
     counted : size ≤ length info → offset + upload.grown received size ≡ recordAt (m .table) place .received + length (take size info)
     counted h =
-        let n = size-most place (partial .number) in
+        let n = file-most m last stored place (partial .number) in
         let z = length-take-le size info h in
         let e = partial .agree in
         let g = f .room in

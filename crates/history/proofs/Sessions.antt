@@ -3,33 +3,37 @@
 use mathlib.Core.Path.{_≡_, refl, sym, ap, _∙_, subst}
 use mathlib.Core.Bool.{Bool, true, false, cond}
 use mathlib.Core.List.{List, _++_}
-use Prim.Native.Nat.{ℕ, _+_, _*_, _-_, _≤_, _<_}
+use Prim.Native.Nat.{ℕ, _+_, _*_, _-_, _%_, _≤_, _<_, min}
 use native.Mathlib.Omega.{arith}
 use borrow.Author.Tests.{ltb-true, ltb-false}
 use lib.Dec.{ltb}
-use lib.ListN.{length, length-append, length-drop, getD, set, take, drop, List·getD-append}
-use lib.Seq.{length-take-le, getD-take, getD-drop, getD-append-add, getD-set-same, getD-set-other, take-at, drop-at}
+use lib.ListN.{length, length-append, length-take, length-drop, length-replicate, replicate, getD, set, take, drop, List·getD-append}
+use lib.Seq.{length-take-le, getD-take, getD-drop, getD-append-add, getD-set-same, getD-set-other, take-at, drop-at, ext-getD}
 use Rattle.packet.specs.declared.frame.Frame.{Frame}
 use Rattle.session.specs.declared.state.Session.{Session}
 use Rattle.session.specs.declared.state.Uplink.the-variants as up
-use Rattle.session.specs.State.{closedSession, withHeld}
+use Rattle.session.specs.declared.state.Downlink.{Downlink}
+use Rattle.session.specs.declared.state.Downlink.the-variants as down
+use Rattle.session.specs.State.{closedSession, freshSession, withHeld, withDown}
 use Rattle.table.specs.declared.File.{File}
 use Rattle.table.specs.Table.{files, fileAt, numbers}
 use Rattle.table.specs.Fit.{Distinct}
 use Rattle.table.proofs.Finding.{by-equal}
 use Rattle.files.specs.View.{recordAt}
+use Rattle.files.proofs.Choice.{take-le}
 use Rattle.links.specs.Sound.{link}
-use Rattle.links.proofs.Facts.{CompleteAt, PartialAt, Unfinished, LinkFacts, Uploads, selectionOf, packetOf, LinksFacts, part-end}
+use Rattle.links.proofs.Facts.{CompleteAt, PartialAt, SendingAt, Unfinished, LinkFacts, Uploads, selectionOf, packetOf, LinksFacts, part-end}
 use Rattle.decide.specs.Decide.{decideOf}
 use Rattle.carry.specs.declared.turn.Last.{Last}
 use Rattle.carry.specs.Turn.{Mem, Turned}
 use Rattle.carry.specs.Carry.{carryOut}
 use Rattle.server.specs.State.{withPart}
 use Rattle.server.specs.Turns.{sizeIn}
+use Rattle.server.specs.Sending.{Due, leastOf, dataOf, sendingOf, dueOf}
 use Rattle.history.proofs.Interface.{Stored, Kept}
 use Rattle.history.proofs.Others.{Reads, reads-of, reads-still, link-still}
 use Rattle.history.proofs.Decided.{Own, decide-fit}
-use Rattle.history.proofs.Acted.{Up, up-of, receiving-of, Acted, acted}
+use Rattle.history.proofs.Acted.{Up, up-of, receiving-of, Down, reads-with, by-test, file-most, own-idle, Acted, acted}
 
 -- ---- a session's part of what is lent
 
@@ -88,6 +92,19 @@ module _ (sessions most i : ℕ) (p selected : List ℕ) (h : i < sessions) (len
       go false e =
           let b : i < j = omega (arith, ltb-false j i e, n) in
           part-after (i * most) most p selected size room-at (j * most + k) (omega (arith, part-end i j most b))
+
+  part-size : (x : List ℕ) (j : ℕ) → length x ≡ length selected → length (selectionOf most x j) ≡ length (selectionOf most selected j)
+  part-size x j e =
+      length-take most (drop (j * most) x)
+      ∙ ap (min most) (length-drop (j * most) x ∙ ap (λ (y : ℕ). y - j * most) e ∙ sym (length-drop (j * most) selected))
+      ∙ sym (length-take most (drop (j * most) selected))
+
+  pub part-stays : (j : ℕ) → (j ≡ i → ⊥) → selectionOf most (withPart (i * most) most p selected) j ≡ selectionOf most selected j
+  part-stays j n =
+      let q = selectionOf most (withPart (i * most) most p selected) j in
+      ext-getD 0 q (selectionOf most selected j)
+      (part-size (withPart (i * most) most p selected) j (part-length (i * most) most p selected size room-at))
+      (λ k l. selection-other j n k (omega (arith, take-le most (drop (j * most) (withPart (i * most) most p selected)))))
 
 -- ---- one session moves
 
@@ -280,3 +297,149 @@ turn-links sessions most selected held held′ links i n m last clock frame info
     (uploads-live (files (m .table)) sessions most selected held links f)
     (decideOf s links frame info (files (m .table)) (m .selected)) clock (sizeIn frame) info
     (decide-fit (files (m .table)) links s most (m .selected) r frame info))
+
+-- ---- login, a lost link
+
+-- a session whose uplink is idle uploads nothing
+idle-none : (s : Session) → s .up ≡ up.Idle → (place : ℕ) → Uploads s place → ⊥
+idle-none s e place u =
+    own-idle place (record { offset = u .offset; received = u .received; receiving = sym e ∙ u .receiving })
+
+-- a session at login names nothing
+fresh-facts : (fs : List File) (most : ℕ) (selected part : List ℕ) → LinkFacts fs most selected part freshSession
+fresh-facts fs most selected part =
+    record {
+      receiving = λ place offset received e. absurd (let z : _≡_ {A = ℕ} 0 1 = cc in omega arith);
+      sending = λ place offset sent e. absurd (let z : _≡_ {A = ℕ} 0 1 = cc in omega arith);
+      ended = λ place e. absurd (let z : _≡_ {A = ℕ} 0 1 = cc in omega arith);
+      aborting = λ place e. absurd (let z : _≡_ {A = ℕ} 0 1 = cc in omega arith);
+      at-most = omega arith;
+      next = omega arith;
+      names = λ k h. absurd (omega arith);
+      packet = λ h. absurd (omega arith);
+    }
+
+module _ (fs : List File) (sessions most : ℕ) (selected held : List ℕ) (links : List Session) (i : ℕ)
+    (f : LinksFacts fs sessions most selected held links) (h : i < sessions) (four : length links ≡ 4) where
+  pub login-links : LinksFacts fs sessions most selected held (set links i freshSession)
+  login-links =
+      one-moves fs fs sessions most selected selected held held links i freshSession f h four refl refl (λ j l n o. f .each j l o)
+      (λ o. fresh-facts fs most (selectionOf most selected i) (packetOf held i))
+      (λ place u j l n v. idle-none freshSession refl place u)
+
+  -- "The unfinished packet and the selection are forgotten."
+  pub lose-links : LinksFacts fs sessions most (withPart (i * most) most (replicate most 0) selected) (withPart (i * 258) 258 (replicate 258 0) held)
+      (set links i closedSession)
+  lose-links =
+      one-moves fs fs sessions most selected selected′ held held′ links i closedSession f h four
+      (part-length (i * most) most (replicate most 0) selected (length-replicate {A = ℕ} most 0) (omega (arith, f .selections, part-end i sessions most h)))
+      (part-length (i * 258) 258 (replicate 258 0) held (length-replicate {A = ℕ} 258 0) (omega (arith, f .packets)))
+      stays
+      (λ o. absurd (let z : _≡_ {A = ℕ} 0 1 = cc in omega arith))
+      (λ place u j l n v. idle-none closedSession refl place u)
+    where
+      selected′ : List ℕ
+      selected′ = withPart (i * most) most (replicate most 0) selected
+
+      held′ : List ℕ
+      held′ = withPart (i * 258) 258 (replicate 258 0) held
+
+      stays : (j : ℕ) → j < sessions → (j ≡ i → ⊥) → link links j .linked ≡ true
+          → LinkFacts fs most (selectionOf most (withPart (i * most) most (replicate most 0) selected) j)
+          (packetOf (withPart (i * 258) 258 (replicate 258 0) held) j) (link links j)
+      stays j l n o =
+          let e = part-stays sessions most i (replicate most 0) selected h (f .selections) (length-replicate {A = ℕ} most 0) j n in
+          let d = part-stays sessions 258 i (replicate 258 0) held h (f .packets) (length-replicate {A = ℕ} 258 0) j n in
+          subst (λ (x : List ℕ). LinkFacts fs most x (packetOf (withPart (i * 258) 258 (replicate 258 0) held) j) (link links j)) (sym e)
+          (subst (λ (x : List ℕ). LinkFacts fs most (selectionOf most selected j) x (link links j)) (sym d) (f .each j l o))
+
+-- ---- a request
+
+down-of : (fs : List File) (most : ℕ) (selected : List ℕ) (s : Session) → Reads fs most selected s → (d : Downlink) → s .down ≡ d → Down fs d
+down-of fs most selected s r down.Idle e = tt
+down-of fs most selected s r (down.Sending place offset sent) e = r .sending place offset sent e
+down-of fs most selected s r (down.Ended place) e = r .ended place e
+down-of fs most selected s r (down.Aborting place) e = r .aborting place e
+
+-- "up to 256 bytes": no more than there are
+least-le : (n : ℕ) → leastOf n ≤ n
+unfolding leastOf
+least-le n = by-test (λ (x : ℕ). x ≤ n) (ltb n 256) _ _ (λ e. omega arith) (λ e. ltb-false n 256 e)
+
+-- the downlink after a request, that of a file no longer than the store
+module _ (fs : List File) (s : Session) (disk owner out : List ℕ) (most : (q : ℕ) → CompleteAt fs q → fileAt fs q .size ≤ 1048576) (P : Session → Type 0)
+    (stays : P s) (moves : (v : Downlink) → Down fs v → P (withDown s v)) where
+  sending-moves : (place offset sent : ℕ) → SendingAt fs place (offset + sent) → P (sendingOf s place offset sent disk owner fs out .asked .session)
+  unfolding sendingOf dataOf
+  sending-moves place offset sent c =
+      by-test (λ (x : Due). P (x .asked .session)) (ltb (offset + sent) (fileAt fs place .size)) _ _
+      (λ e. moves (down.Sending place offset ((sent + leastOf (fileAt fs place .size - (offset + sent))) % 4294967296)) (further e))
+      (λ e. moves (down.Ended place) (c .complete))
+    where
+      further : ltb (offset + sent) (fileAt fs place .size) ≡ true
+          → SendingAt fs place (offset + (sent + leastOf (fileAt fs place .size - (offset + sent))) % 4294967296)
+      further e =
+          record {
+            complete = c .complete;
+            within =
+                omega (
+                  arith,
+                  least-le (fileAt fs place .size - (offset + sent)),
+                  ltb-true (offset + sent) (fileAt fs place .size) e,
+                  most place (c .complete),
+                );
+          }
+
+  due-moves : (d : Downlink) → Down fs d → P (dueOf d s disk owner fs out .asked .session)
+  unfolding dueOf
+  due-moves down.Idle c = stays
+  due-moves (down.Sending place offset sent) c = sending-moves place offset sent c
+  due-moves (down.Ended place) c = stays
+  due-moves (down.Aborting place) c = moves down.Idle tt
+
+-- the bytes that a request sends do not matter to the sessions: any disk, owners and output
+pub request-links : (sessions most : ℕ) (selected held : List ℕ) (links : List Session) (i : ℕ) (m : Mem) (last : Last) (disk owner out : List ℕ)
+    → LinksFacts (files (m .table)) sessions most selected held links
+    → i < sessions
+    → link links i .linked ≡ true
+    → length links ≡ 4
+    → Stored m last
+    → LinksFacts (files (m .table)) sessions most selected held
+    (set links i (dueOf (link links i .down) (link links i) disk owner (files (m .table)) out .asked .session))
+request-links sessions most selected held links i m last disk owner out f h linked four st =
+    due-moves (files (m .table)) (link links i) disk owner out (λ q c. file-most m last st q (c .number))
+    (λ (x : Session). LinksFacts (files (m .table)) sessions most selected held (set links i x))
+    (moved (link links i) refl refl (f .each i h linked))
+    (λ v c. moved (withDown (link links i) v) refl refl (facts v c))
+    (link links i .down) (down-of (files (m .table)) most (selectionOf most selected i) (link links i) r (link links i .down) refl)
+  where
+    g : LinkFacts (files (m .table)) most (selectionOf most selected i) (packetOf held i) (link links i)
+    g = f .each i h linked
+
+    r : Reads (files (m .table)) most (selectionOf most selected i) (link links i)
+    r = reads-of (files (m .table)) most (selectionOf most selected i) (packetOf held i) (link links i) (f .each i h linked)
+
+    facts : (v : Downlink) → Down (files (m .table)) v
+        → LinkFacts (files (m .table)) most (selectionOf most selected i) (packetOf held i) (withDown (link links i) v)
+    facts v c =
+        let w = reads-with (files (m .table)) most (selectionOf most selected i) (link links i) (withDown (link links i) v) r c refl (r .next) in
+        record {
+          receiving = f .each i h linked .receiving;
+          sending = w .sending;
+          ended = w .ended;
+          aborting = w .aborting;
+          at-most = w .at-most;
+          next = w .next;
+          names = w .names;
+          packet = f .each i h linked .packet;
+        }
+
+    moved : (s : Session) → s .up ≡ link links i .up → s .linked ≡ link links i .linked
+        → LinkFacts (files (m .table)) most (selectionOf most selected i) (packetOf held i) s
+        → LinksFacts (files (m .table)) sessions most selected held (set links i s)
+    moved s e d w =
+        one-moves (files (m .table)) (files (m .table)) sessions most selected selected held held links i s f h four refl refl
+        (λ j l n o. f .each j l o) (λ o. w)
+        (λ place u j l n v.
+        apart-both (files (m .table)) sessions most selected held links f i j n (omega (arith, f .number)) l place
+        (record { linked = linked; offset = u .offset; received = u .received; receiving = sym e ∙ u .receiving }) v)
