@@ -19,7 +19,7 @@ use Rattle.decide.specs.declared.act.Act.{Act}
 use Rattle.decide.specs.declared.act.Act.the-variants as act
 use Rattle.carry.specs.declared.turn.Last.{Last}
 use Rattle.carry.specs.declared.turn.Turn.{Turn}
-use Rattle.carry.specs.Turn.{Mem, Writes, Moves, Chooses}
+use Rattle.carry.specs.Turn.{Mem, Writes, Chooses}
 use Rattle.carry.specs.Carry.{carryOut, onFrees, onWrites, onMoves, onChooses}
 use Rattle.carry.specs.Upload as upload
 use Rattle.carry.specs.Download as download

@@ -1,6 +1,6 @@
 -- What hearing leaves of the unfinished packets: those of the other sessions as they were, and in the session's own part fewer bytes than its
 -- head announces. A call that ended in a packet, or in a closing, leaves no byte.
-use mathlib.Core.Path.{_≡_, refl, sym, ap, _∙_, subst}
+use mathlib.Core.Path.{_≡_, refl, sym, _∙_, subst}
 use mathlib.Core.Bool.{Bool, true, false, cond}
 use mathlib.Core.List.{List, [], _∷_}
 use mathlib.Core.Option.{Option, none, some}
@@ -8,10 +8,10 @@ use Prim.Native.Nat.{ℕ, _+_, _*_, _≤_, _<_}
 use native.Mathlib.Omega.{arith}
 use borrow.Author.Tests.{ltb-true, ltb-false, eq-eqb, lt-ltb}
 use lib.Dec.{ltb}
-use lib.ListN.{length, set, replicate, length-set, length-replicate}
-use Rattle.packet.specs.Machine.{Step, more, ends, Call, call, called}
+use lib.ListN.{length, set, length-set, length-replicate}
+use Rattle.packet.specs.Machine.{more, ends, Call, call, called}
 use Rattle.packet.specs.declared.frame.Frame.{Frame}
-use Rattle.packet.specs.declared.frame.Frame.the-variants.{Open, TooLong, Whole, Refused}
+use Rattle.packet.specs.declared.frame.Frame.the-variants.{Open, Refused}
 use Rattle.packet.specs.Frame.{Held, Event, Heard, packet, too-long, none-held, announcedIn, packetIn}
 use Rattle.packet.specs.Frame.{judged, byte, answerBy, answerOf, withoutPacket, receiveOf}
 use Rattle.links.proofs.Facts.{Unfinished, packetOf}

@@ -2,7 +2,6 @@
 use mathlib.Core.Path.{_≡_, refl, _∙_}
 use mathlib.Core.Bool.{true}
 use Rattle.session.specs.declared.reply.Answer.the-variants as answer
-use Rattle.server.specs.Making.{newServer}
 use Rattle.history.specs.Calls.{Call, callOf, Start, legal, made, History, start, _▸_, after}
 use Rattle.history.specs.Change.{Change}
 use Rattle.history.specs.Good.{Good}

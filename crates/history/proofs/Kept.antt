@@ -59,8 +59,8 @@ module _ (sv : Server) (l : Lent) (g : Good sv l) (i : ℕ) (inside : i < sv .se
       leaves-store sv l g i
       (dueOf (linkOf sv i .down) (linkOf sv i) (l .disk) (ownerPart sv l) (files (tablePart sv l)) out .asked .session)
       (l .selected) (l .held) refl refl
-      (request-links (sv .sessions) (sv .most) (l .selected) (l .held) (sv .links) i (partsOf sv i (memOf l)) (sv .last) (l .disk) (ownerPart sv l) out
-      (facts .sessions) inside linked (facts .links) (stored-parts sv l g i))
+      (request-links (sv .sessions) (sv .most) (l .selected) (l .held) (sv .links) i (partsOf sv i (memOf l)) (sv .last) (l .disk)
+      (ownerPart sv l) out (facts .sessions) inside linked (facts .links) (stored-parts sv l g i))
 
 -- ---- every call
 

@@ -1,24 +1,21 @@
 -- A turn's parts put back into what is lent: the state stays good, its files changed as the turn's did, and the sizes are as they were.
-use mathlib.Core.Path.{_≡_, refl, sym, ap, _∙_, subst}
+use mathlib.Core.Path.{_≡_, refl, sym, _∙_, subst}
 use mathlib.Core.List.{List, _++_}
 use Prim.Native.Nat.{ℕ, _+_, _*_, _≤_, _<_}
 use native.Mathlib.Omega.{arith}
-use lib.ListN.{length, take, drop, set, length-set}
-use lib.Seq.{length-take-le}
+use lib.ListN.{length, drop, set, length-set}
 use Rattle.session.specs.declared.state.Session.{Session}
 use Rattle.table.specs.Table.{files}
 use Rattle.files.specs.View.{viewAt}
-use Rattle.files.specs.Sound.{Sound}
 use Rattle.links.proofs.Facts.{LinksFacts, part-end}
-use Rattle.carry.specs.declared.turn.Last.{Last}
 use Rattle.carry.specs.Turn.{Mem, mem, Turned}
 use Rattle.server.specs.declared.Server.{Server}
-use Rattle.server.specs.State.{Lent, lent, words, part, withPart, withLink, withTurn, mapPart, ownerPart, tablePart}
+use Rattle.server.specs.State.{Lent, lent, words, withPart, withLink, withTurn, mapPart, ownerPart, tablePart}
 use Rattle.server.specs.Turns.{partsOf}
-use Rattle.history.specs.Change.{Files, Change, same}
+use Rattle.history.specs.Change.{Change, same}
 use Rattle.history.specs.Good.{Good}
 use Rattle.history.specs.Stored.{filesOf}
-use Rattle.history.proofs.Interface.{filesIn, Stored, SameLengths, Kept}
+use Rattle.history.proofs.Interface.{Stored, Kept}
 use Rattle.history.proofs.Parts.{front-back, front-length, part-length, with-length}
 use Rattle.history.proofs.GoodFacts.{Facts, good-facts, facts-good}
 

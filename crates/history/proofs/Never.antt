@@ -1,8 +1,8 @@
 -- For a good state no call answers 33 or 35: what is refused locally is refused by 34 or 32.
-use mathlib.Core.Path.{_≡_, refl, sym, ap, _∙_, subst}
+use mathlib.Core.Path.{_≡_, refl, subst}
 use mathlib.Core.Bool.{Bool, true, false, cond}
 use mathlib.Core.List.{List}
-use Prim.Native.Nat.{ℕ, _+_, _-_, _≤_, _<_}
+use Prim.Native.Nat.{ℕ, _+_, _-_, _≤_}
 use native.Mathlib.Omega.{arith}
 use borrow.Author.Tests.{le-ltb}
 use lib.Dec.{ltb}
@@ -20,10 +20,10 @@ use Rattle.table.specs.declared.File.{File}
 use Rattle.table.specs.Table.{files, fileAt}
 use Rattle.server.specs.declared.Server.{Server}
 use Rattle.server.specs.declared.check.Check.{Check}
-use Rattle.server.specs.declared.check.Check.the-variants.{Go, Refuse}
+use Rattle.server.specs.declared.check.Check.the-variants.{Go}
 use Rattle.server.specs.State.{Lent, linkOf, ownerPart, tablePart}
 use Rattle.server.specs.Turns.{hearOf}
-use Rattle.server.specs.Sending.{Due, told, leastOf, dataOf, sendingOf, dueOf}
+use Rattle.server.specs.Sending.{told, leastOf, dataOf, sendingOf, dueOf}
 use Rattle.server.specs.Calls.{answeredBy, heardBy, stepOf, onCheck, receiveOf, onLogin, loginOf, onLose, loseOf, dueAs, onRequest, requestOf}
 use Rattle.history.specs.Calls.{Call, login, receive, request, lose, callOf}
 use Rattle.history.specs.Good.{Good}

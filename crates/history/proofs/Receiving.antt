@@ -54,7 +54,8 @@ module _ (sv : Server) (l : Lent) (g : Good sv l) (i : ℕ) (inside : i < sv .se
     packet-left w two =
         let e : turned .turn .session .held ≡ h .framed .held =
         act-held session (sv .last)
-        (decideOf session (sv .links) (h .framed .frame) (h .framed .info) (files (tablePart sv l)) (parts .selected)) clock (sv .most) (sizeIn (h .framed .frame)) (h .framed .info) parts two in
+        (decideOf session (sv .links) (h .framed .frame) (h .framed .info) (files (tablePart sv l)) (parts .selected))
+        clock (sv .most) (sizeIn (h .framed .frame)) (h .framed .info) parts two in
         subst (λ (n : ℕ). Unfinished n (packetOf (h .held) i)) (sym e) (w .own .fewer (subst (λ (n : ℕ). 2 ≤ n) e two))
 
     -- what was heard is acted on
