@@ -2,12 +2,12 @@
 -- changes, and the session afterwards names what the store has.
 use mathlib.Core.Path.{_≡_, refl, sym, ap, _∙_, subst}
 use mathlib.Core.Bool.{Bool, true, false, cond}
-use mathlib.Core.List.{List, [], _∷_, _++_, map, List·Memᴰ, List·Memᴰ·head, List·Memᴰ·tail}
-use Prim.Native.Nat.{ℕ, zero, suc, _+_, _*_, _-_, _%_, _≤_, _<_}
+use mathlib.Core.List.{List, [], _∷_, map, List·Memᴰ, List·Memᴰ·head, List·Memᴰ·tail}
+use Prim.Native.Nat.{ℕ, zero, suc, _+_, _≤_, _<_}
 use native.Mathlib.Omega.{arith}
-use borrow.Author.Tests.{eqb-true, eqb-false, eq-eqb, ne-eqb, ltb-true, ltb-false}
+use borrow.Author.Tests.{eq-eqb, ne-eqb, ltb-false}
 use lib.Dec.{eqb, ltb}
-use lib.ListN.{length, length-map, getD, take, drop, replicate, List·getD-append, List·getD-map}
+use lib.ListN.{length, length-map, getD, take, List·getD-append}
 use lib.Seq.{length-take-le}
 use Rattle.session.specs.declared.state.Session.{Session}
 use Rattle.session.specs.declared.state.Uplink.{Uplink}
@@ -15,16 +15,15 @@ use Rattle.session.specs.declared.state.Uplink.the-variants as up
 use Rattle.session.specs.declared.state.Downlink.{Downlink}
 use Rattle.session.specs.declared.state.Downlink.the-variants as down
 use Rattle.session.specs.declared.reply.Reply.{Reply}
-use Rattle.session.specs.declared.reply.Reply.the-variants.{Nothing, DataEnd, DownloadError, Completed, Aborted, Ack, Nak, Selected}
-use Rattle.session.specs.State.{closedSession, withUp, withDown, withNext, withSelection}
+use Rattle.session.specs.declared.reply.Reply.the-variants.{Nothing, DataEnd, Completed, Aborted}
+use Rattle.session.specs.State.{withUp, withDown, withNext, withSelection}
 use Rattle.blocks.proofs.Owners.{blocks-le}
 use Rattle.blocks.specs.Owners.{blocks}
 use Rattle.table.specs.declared.File.{File}
 use Rattle.table.specs.declared.Given.{Given}
 use Rattle.table.specs.declared.Given.the-variants.{UsedUp, Next}
-use Rattle.table.specs.Table.{noFile, files, fileAt, numbers, uploaded, putTable}
+use Rattle.table.specs.Table.{noFile, files, numbers, uploaded}
 use Rattle.table.specs.Given.{nextNumber, uploadTime}
-use Rattle.table.specs.Fit.{Distinct}
 use Rattle.table.proofs.Finding.{find-own}
 use Rattle.table.proofs.Records.{get-put-other, uploaded-file, uploaded-time}
 use Rattle.files.specs.declared.Begun.{Begun}
@@ -32,8 +31,8 @@ use Rattle.files.specs.declared.Begun.the-variants.{Refused, Started}
 use Rattle.files.specs.View.{View, recordAt}
 use Rattle.files.specs.Uploads as uploads
 use Rattle.files.specs.Completion.{checkOf, completed, completeNumber, completeOf, destinationsAt}
-use Rattle.files.specs.Selection.{Selects, selects, selectNumber, selectOf, chosen, numbersAt, listed}
-use Rattle.files.proofs.Calls.{by-number, done, refused}
+use Rattle.files.specs.Selection.{Selects, selectNumber, selectOf, chosen, numbersAt, listed}
+use Rattle.files.proofs.Calls.{by-number}
 use Rattle.files.proofs.Beginning.{BeginLeaves, begin-leaves, begin-kept}
 use Rattle.files.proofs.Received.{append-kept, append-leaves, AppendLeaves}
 use Rattle.files.proofs.Soundness.{file-room}
@@ -97,7 +96,8 @@ reads-with fs most selected s s′ r d c n =
     }
 
 -- a session with another uplink
-pub reads-up : (fs : List File) (most : ℕ) (selected : List ℕ) (s : Session) (v : Uplink) → Reads fs most selected s → Reads fs most selected (withUp s v)
+pub reads-up : (fs : List File) (most : ℕ) (selected : List ℕ) (s : Session) (v : Uplink)
+    → Reads fs most selected s → Reads fs most selected (withUp s v)
 reads-up fs most selected s v r =
     record { sending = r .sending; ended = r .ended; aborting = r .aborting; at-most = r .at-most; next = r .next; names = r .names }
 
@@ -139,6 +139,8 @@ pub record Acted (links : List Session) (most : ℕ) (m : Mem) (s : Session) (t 
   -- a file that some session uploads is taken up by no other
   pub alone : (place : ℕ) → Own (t .turn .session .up) place → (j : ℕ) → j < 4 → Uploads (link links j) place → Own (s .up) place
   pub reads : Reads (files (m .table)) most (t .mem .selected) (t .turn .session)
+  -- of an unfinished packet no act changes the bytes held; closing forgets it
+  pub held : 2 ≤ t .turn .session .held → t .turn .session .held ≡ s .held
 
 module _ (links : List Session) (most : ℕ) (m : Mem) (s : Session) (last : Last) (stored : Stored m last) (u : Up (files (m .table)) (s .up))
     (r : Reads (files (m .table)) most (m .selected) s)
@@ -147,22 +149,24 @@ module _ (links : List Session) (most : ℕ) (m : Mem) (s : Session) (last : Las
   Done t = Acted links most m s t
 
   -- the files and the upload stay
-  quiet : (t : Turned) → t .mem .table ≡ m .table → t .turn .session .up ≡ s .up
+  quiet : (t : Turned) → t .mem .table ≡ m .table → t .turn .session .up ≡ s .up → t .turn .session .held ≡ s .held
       → Reads (files (m .table)) most (t .mem .selected) (t .turn .session) → Done t
-  quiet t e f g =
+  quiet t e f b g =
       record {
         kept = λ q n o. ap (λ (x : List ℕ). recordAt x q) e;
         receiving = subst (λ (x : List ℕ). Up (files x) (t .turn .session .up)) (sym e) (subst (λ (x : Uplink). Up (files (m .table)) x) (sym f) u);
         alone = λ place o j h v. subst (λ (x : Uplink). Own x place) f o;
         reads = g;
+        held = λ h. b;
       }
 
   -- the upload ends, and no other file changes
   ended : (t : Turned) → ((q : ℕ) → (Own (s .up) q → ⊥) → recordAt (t .mem .table) q ≡ recordAt (m .table) q)
       → ((place : ℕ) → Own (t .turn .session .up) place → ⊥) → Up (files (t .mem .table)) (t .turn .session .up)
+      → (2 ≤ t .turn .session .held → t .turn .session .held ≡ s .held)
       → Reads (files (m .table)) most (t .mem .selected) (t .turn .session) → Done t
-  ended t k n f g =
-      record { kept = λ q z o. k q o; receiving = f; alone = λ place o j h v. absurd (n place o); reads = g }
+  ended t k n f b g =
+      record { kept = λ q z o. k q o; receiving = f; alone = λ place o j h v. absurd (n place o); reads = g; held = b }
 
   -- ---- UPLOAD_CMD
 
@@ -190,17 +194,18 @@ module _ (links : List Session) (most : ℕ) (m : Mem) (s : Session) (last : Las
           alone = λ place o j h v.
               absurd (live j place h v (ap (λ (k : ℕ). recordAt (m .table) k .number) (own-place p 0 0 place o) ∙ l .free));
           reads = reads-up (files (m .table)) most (m .selected) s (up.Receiving p 0 0) r;
+          held = λ b. refl;
         }
 
     begun : (a : Begun) → b .answer ≡ a → Done (turned (upload.begunTurn a s last number) begunMem)
     unfolding upload.begunTurn
     begun (Refused n) e =
-        quiet _ (ap (λ (x : uploads.Begins). x .table) (begin-kept (m .map) (m .owner) (m .table) (last .number) size n e)) refl r
+        quiet _ (ap (λ (x : uploads.Begins). x .table) (begin-kept (m .map) (m .owner) (m .table) (last .number) size n e)) refl refl r
     begun (Started p) e = begun-new p (begin-leaves (m .map) (m .owner) (m .table) (last .number) (last .time) (stored .sound) size p e)
 
   begin-done : (size : ℕ) (g : Given) → Done (onFrees m (upload.beginWith g s last size (m .map) (m .owner) (m .table)))
   unfolding upload.beginWith upload.begunAs onFrees
-  begin-done size UsedUp = quiet _ refl refl r
+  begin-done size UsedUp = quiet _ refl refl refl r
   begin-done size (Next number) = begun size number (b size number .answer) refl
 
   resume-done : (place number received : ℕ) → Resumes (files (m .table)) links place received
@@ -213,6 +218,7 @@ module _ (links : List Session) (most : ℕ) (m : Mem) (s : Session) (last : Las
         alone = λ q o j l v.
             absurd (h .alone j l (subst (λ (x : ℕ). Uploads (link links j) x) (own-place place received 0 q o) v));
         reads = reads-up (files (m .table)) most (m .selected) s (up.Receiving place received 0) r;
+        held = λ b. refl;
       }
 
   -- ---- DATA
@@ -252,6 +258,7 @@ module _ (links : List Session) (most : ℕ) (m : Mem) (s : Session) (last : Las
               };
           alone = λ q o j b v. subst (λ (x : ℕ). Own (s .up) x) (sym (own-place place offset (upload.grown received size) q o)) own;
           reads = reads-up (files (m .table)) most (m .selected) s (up.Receiving place offset (upload.grown received size)) r;
+          held = λ b. refl;
         }
 
     append-done : size ≤ length info → (k : ℕ) → w .answer ≡ k
@@ -260,14 +267,15 @@ module _ (links : List Session) (most : ℕ) (m : Mem) (s : Session) (last : Las
     append-done h k e =
         by-number k
         (λ z. rw (eq-eqb k 0 z)
-        (append-new h (append-leaves (m .map) (m .disk) (m .owner) (m .table) (last .number) (last .time) (stored .sound) place (take size info) (e ∙ z))))
+        (append-new h
+        (append-leaves (m .map) (m .disk) (m .owner) (m .table) (last .number) (last .time) (stored .sound) place (take size info) (e ∙ z))))
         (λ z. rw (ne-eqb k 0 z)
-        (quiet _ (ap (λ (x : uploads.Writes). x .table) (append-kept (m .disk) (m .owner) (m .table) place (take size info) k e z)) refl r))
+        (quiet _ (ap (λ (x : uploads.Writes). x .table) (append-kept (m .disk) (m .owner) (m .table) place (take size info) k e z)) refl refl r))
 
     store-done : Done (onWrites m (upload.storeTurn s last place offset received size info (m .disk) (m .owner) (m .table)))
     unfolding upload.storeTurn upload.appendedAs onWrites
     store-done =
-        by-test (λ (x : Writes). Done (onWrites m x)) (ltb (length info) size) _ _ (λ e. quiet _ refl refl r)
+        by-test (λ (x : Writes). Done (onWrites m x)) (ltb (length info) size) _ _ (λ e. quiet _ refl refl refl r)
         (λ e. append-done (ltb-false (length info) size e) (w .answer) refl)
 
   -- ---- an upload that ends
@@ -290,7 +298,8 @@ module _ (links : List Session) (most : ℕ) (m : Mem) (s : Session) (last : Las
         (eqb (uploads.discardNumber (m .map) (m .owner) place (recordAt (m .table) place)) 0) _ _
         (λ e. get-put-other (m .table) place noFile q (other q o)) (λ e. refl)
 
-    complete-other : (time q : ℕ) → (Own (s .up) q → ⊥) → recordAt (completeOf (m .disk) (m .owner) (m .table) place time .table) q ≡ recordAt (m .table) q
+    complete-other : (time q : ℕ) → (Own (s .up) q → ⊥)
+        → recordAt (completeOf (m .disk) (m .owner) (m .table) place time .table) q ≡ recordAt (m .table) q
     unfolding completeOf
     complete-other time q o =
         by-test (λ (x : uploads.Writes). recordAt (x .table) q ≡ recordAt (m .table) q)
@@ -299,12 +308,12 @@ module _ (links : List Session) (most : ℕ) (m : Mem) (s : Session) (last : Las
 
     overrun-done : Done (onFrees m (upload.discardTurn s last place up.Ignoring 16 (m .map) (m .owner) (m .table)))
     unfolding upload.discardTurn onFrees
-    overrun-done = ended _ discard-other own-ignoring tt (reads-then up.Ignoring)
+    overrun-done = ended _ discard-other own-ignoring tt (λ h. refl) (reads-then up.Ignoring)
 
     rejected-done : (number : ℕ)
         → Done (onMoves m (upload.withDisk (m .disk) (upload.discardTurn s last place up.Idle number (m .map) (m .owner) (m .table))))
     unfolding upload.withDisk upload.discardTurn onMoves
-    rejected-done number = ended _ discard-other own-idle tt (reads-then up.Idle)
+    rejected-done number = ended _ discard-other own-idle tt (λ h. refl) (reads-then up.Idle)
 
     accepted-done : (time : ℕ)
         → Done (onMoves m (upload.withBlocks (m .map) (m .owner) (upload.acceptTurn s last place time (m .disk) (m .owner) (m .table))))
@@ -312,8 +321,8 @@ module _ (links : List Session) (most : ℕ) (m : Mem) (s : Session) (last : Las
     accepted-done time =
         let c = completeOf (m .disk) (m .owner) (m .table) place time in
         by-test (λ (x : Turn). Done (turned x (mem (c .disk) (m .map) (m .owner) (c .table) (m .selected)))) (eqb (c .answer) 0) _ _
-        (λ e. ended _ (complete-other time) own-idle tt (reads-then up.Idle))
-        (λ e. ended _ (complete-other time) own-idle tt (reads-then up.Idle))
+        (λ e. ended _ (complete-other time) own-idle tt (λ h. refl) (reads-then up.Idle))
+        (λ e. ended _ (complete-other time) own-idle tt (λ h. refl) (reads-then up.Idle))
 
     timed-done : (g : Given) → Done (onMoves m (upload.finishAs (upload.timed g) s last place (m .disk) (m .map) (m .owner) (m .table)))
     unfolding upload.finishAs upload.timed
@@ -332,7 +341,7 @@ module _ (links : List Session) (most : ℕ) (m : Mem) (s : Session) (last : Las
   close-done : Done (onChooses m (download.closeTurn last (m .selected)))
   unfolding download.closeTurn onChooses
   close-done =
-      ended _ (λ q o. refl) own-idle tt
+      ended _ (λ q o. refl) own-idle tt (λ h. absurd (omega arith))
       (record {
         sending = λ place offset sent e. absurd (let z : _≡_ {A = ℕ} 0 1 = cc in omega arith);
         ended = λ place e. absurd (let z : _≡_ {A = ℕ} 0 1 = cc in omega arith);
@@ -347,15 +356,15 @@ module _ (links : List Session) (most : ℕ) (m : Mem) (s : Session) (last : Las
   unfolding download.beginTurn
   send-done place offset lock passed h =
       by-test (λ (x : Turn). Done (turned x m)) (ltb (destinationsAt (m .disk) (m .owner) (m .table) place) lock) _ _
-      (λ e. quiet _ refl refl r)
+      (λ e. quiet _ refl refl refl r)
       (λ e.
-      quiet _ refl refl
+      quiet _ refl refl refl
       (reads-with (files (m .table)) most (m .selected) s (withDown (withNext s passed) (down.Sending place offset 0)) r
       (record { complete = h .sending .complete; within = omega (arith, h .sending .within) }) refl (h .few)))
 
   -- a session with another downlink
   down-done : (v : Downlink) (reply : Reply) → Down (files (m .table)) v → Done (turned (turnOf (withDown s v) last reply) m)
-  down-done v reply h = quiet _ refl refl (reads-with (files (m .table)) most (m .selected) s (withDown s v) r h refl (r .next))
+  down-done v reply h = quiet _ refl refl refl (reads-with (files (m .table)) most (m .selected) s (withDown s v) r h refl (r .next))
 
   confirm-done : (place destination : ℕ) → Done (turned (download.confirmTurn s last place destination (m .disk) (m .owner) (m .table)) m)
   unfolding download.confirmTurn
@@ -405,27 +414,28 @@ module _ (links : List Session) (most : ℕ) (m : Mem) (s : Session) (last : Las
     selected-done =
         let k = selectNumber eq (length (m .selected)) most in
         by-test (λ (x : Selects). Done (onChooses m (download.selectedAs s last x))) (eqb k 0) _ _
-        (λ e. quiet _ refl refl chosen-reads)
-        (λ e. rw e (quiet _ refl refl r))
+        (λ e. quiet _ refl refl refl chosen-reads)
+        (λ e. rw e (quiet _ refl refl refl r))
 
   select-done : (size : ℕ) (info : List ℕ)
       → Done (onChooses m (download.selectTurn s last most size info (m .disk) (m .owner) (m .table) (m .selected)))
   unfolding download.selectTurn onChooses
   select-done size info =
-      by-test (λ (x : Chooses). Done (onChooses m x)) (ltb (length info) size) _ _ (λ e. quiet _ refl refl r) (λ e. selected-done (take size info))
+      by-test (λ (x : Chooses). Done (onChooses m x)) (ltb (length info) size) _ _ (λ e. quiet _ refl refl refl r)
+      (λ e. selected-done (take size info))
 
   -- ---- every act
 
   pub acted : (a : Act) (clock size : ℕ) (info : List ℕ) → Fit (files (m .table)) links s size a → Done (carryOut a s last clock most size info m)
   unfolding carryOut
   acted act.Close clock size info f = close-done
-  acted act.Ignore clock size info f = quiet _ refl refl r
-  acted (act.Tell reply) clock size info f = quiet _ refl refl r
+  acted act.Ignore clock size info f = quiet _ refl refl refl r
+  acted (act.Tell reply) clock size info f = quiet _ refl refl refl r
   acted (act.Begin n) clock size info f = begin-done n (nextNumber (last .number))
   acted (act.Resume place number received) clock size info f = resume-done place number received f
   acted (act.Store place offset received) clock size info f = store-done place offset received size info f
   acted (act.Overrun place) clock size info f = overrun-done place f
-  acted act.Stop clock size info f = ended _ (λ q o. refl) own-idle tt (reads-then up.Idle)
+  acted act.Stop clock size info f = ended _ (λ q o. refl) own-idle tt (λ h. refl) (reads-then up.Idle)
   acted (act.Finish place) clock size info f = finish-done place f clock
   acted act.Select clock size info f = select-done size info
   acted (act.Send place offset lock passed) clock size info f = send-done place offset lock passed f

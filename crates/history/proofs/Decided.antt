@@ -1,12 +1,12 @@
 -- What an act that was decided on says of the session and of the files: an upload acted on is the session's own, a file taken up again is a
 -- partial one that no session uploads, and a file sent is a complete one.
-use mathlib.Core.Path.{_≡_, refl, sym, ap, _∙_}
+use mathlib.Core.Path.{_≡_, refl, sym, _∙_}
 use mathlib.Core.Bool.{Bool, true, false, cond}
 use mathlib.Core.List.{List}
 use Prim.Native.Nat.{ℕ, _+_, _≤_, _<_}
 use native.Mathlib.Omega.{arith}
 use borrow.Author.Count.{below-none, below-more}
-use borrow.Author.Tests.{eqb-true, eqb-false, eq-eqb, ltb-true, ltb-false}
+use borrow.Author.Tests.{eqb-true, eqb-false, ltb-true, ltb-false}
 use lib.Dec.{eqb, ltb}
 use lib.ListN.{length, getD}
 use Rattle.packet.specs.declared.frame.Frame.{Frame}
@@ -17,7 +17,6 @@ use Rattle.session.specs.declared.state.Uplink.the-variants as up
 use Rattle.session.specs.declared.state.Downlink.{Downlink}
 use Rattle.session.specs.declared.state.Downlink.the-variants as down
 use Rattle.session.specs.Expected.{expected}
-use Rattle.session.specs.State.{closedSession}
 use Rattle.table.specs.declared.File.{File}
 use Rattle.table.specs.declared.Found.{Found}
 use Rattle.table.specs.declared.Found.the-variants.{Nothing, At}
@@ -26,7 +25,7 @@ use Rattle.table.proofs.Finding.{find-found, find-number}
 use Rattle.links.specs.Sound.{link}
 use Rattle.links.proofs.Facts.{CompleteAt, PartialAt, SendingAt, Uploads}
 use Rattle.decide.specs.Words.{wordAt}
-use Rattle.decide.specs.Uplink.{uploadsIn, uploads, uploading, onContinued, onUpload, onData, onEnd, onUplink}
+use Rattle.decide.specs.Uplink.{uploads, uploading, onContinued, onUpload, onData, onEnd, onUplink}
 use Rattle.decide.specs.Downlink.{onFound, onNumbered, onDownload, onAck, onNak, onDownlink}
 use Rattle.decide.specs.Decide.{onPacket, onFrame, decideOf}
 use Rattle.decide.specs.declared.act.Act.{Act}

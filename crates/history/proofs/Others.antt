@@ -14,7 +14,7 @@ use Rattle.table.specs.Table.{files, fileAt, findOf, numbers}
 use Rattle.table.specs.Fit.{Distinct}
 use Rattle.table.proofs.Finding.{find-number, find-own}
 use Rattle.files.specs.View.{View}
-use Rattle.links.proofs.Facts.{CompleteAt, PartialAt, SendingAt, Selectable, Unfinished, LinkFacts}
+use Rattle.links.proofs.Facts.{CompleteAt, SendingAt, Selectable, LinkFacts}
 use Rattle.carry.specs.declared.turn.Last.{Last}
 use Rattle.carry.specs.Turn.{Mem}
 use Rattle.history.specs.Change.{Files, Change, same, begins, receives, completes, discards}

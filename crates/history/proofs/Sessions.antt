@@ -1,7 +1,7 @@
 -- The sessions' facts after each call: what refusal 35 says of the sessions ("a length, offset or name points at what the store lacks") never
 -- comes to hold. One session moves; the others keep theirs, since no file but the session's own upload changes.
 use mathlib.Core.Path.{_≡_, refl, sym, ap, _∙_, subst}
-use mathlib.Core.Bool.{Bool, true, false, cond}
+use mathlib.Core.Bool.{Bool, true, false}
 use mathlib.Core.List.{List, _++_}
 use Prim.Native.Nat.{ℕ, _+_, _*_, _-_, _%_, _≤_, _<_, min}
 use native.Mathlib.Omega.{arith}
@@ -19,10 +19,9 @@ use Rattle.table.specs.declared.File.{File}
 use Rattle.table.specs.Table.{files, fileAt, numbers}
 use Rattle.table.specs.Fit.{Distinct}
 use Rattle.table.proofs.Finding.{by-equal}
-use Rattle.files.specs.View.{recordAt}
 use Rattle.files.proofs.Choice.{take-le}
 use Rattle.links.specs.Sound.{link}
-use Rattle.links.proofs.Facts.{CompleteAt, PartialAt, SendingAt, Unfinished, LinkFacts, Uploads, selectionOf, packetOf, LinksFacts, part-end}
+use Rattle.links.proofs.Facts.{CompleteAt, SendingAt, Unfinished, LinkFacts, Uploads, selectionOf, packetOf, LinksFacts, part-end}
 use Rattle.decide.specs.Decide.{decideOf}
 use Rattle.carry.specs.declared.turn.Last.{Last}
 use Rattle.carry.specs.Turn.{Mem, Turned}
@@ -33,7 +32,7 @@ use Rattle.server.specs.Sending.{Due, leastOf, dataOf, sendingOf, dueOf}
 use Rattle.history.proofs.Interface.{Stored, Kept}
 use Rattle.history.proofs.Others.{Reads, reads-of, reads-still, link-still}
 use Rattle.history.proofs.Decided.{Own, decide-fit}
-use Rattle.history.proofs.Acted.{Up, up-of, receiving-of, Down, reads-with, by-test, file-most, own-idle, Acted, acted}
+use Rattle.history.proofs.Acted.{up-of, receiving-of, Down, reads-with, by-test, file-most, own-idle, Acted, acted}
 
 -- ---- a session's part of what is lent
 
@@ -106,10 +105,19 @@ module _ (sessions most i : ℕ) (p selected : List ℕ) (h : i < sessions) (len
       (part-size (withPart (i * most) most p selected) j (part-length (i * most) most p selected size room-at))
       (λ k l. selection-other j n k (omega (arith, take-le most (drop (j * most) (withPart (i * most) most p selected)))))
 
+-- hearing replaces session i's part of the unfinished packets
+module _ (sessions i : ℕ) (p held : List ℕ) (h : i < sessions) (lent : sessions * 258 ≤ length held) (size : length p ≡ 258) where
+  pub packet-own : packetOf (withPart (i * 258) 258 p held) i ≡ p
+  packet-own = selection-own sessions 258 i p held h lent size
+
+  pub packet-stays : (j : ℕ) → (j ≡ i → ⊥) → packetOf (withPart (i * 258) 258 p held) j ≡ packetOf held j
+  packet-stays = part-stays sessions 258 i p held h lent size
+
 -- ---- one session moves
 
 -- two sessions that differ do not upload the same file
-pub apart-both : (fs : List File) (sessions most : ℕ) (selected held : List ℕ) (links : List Session) → LinksFacts fs sessions most selected held links
+pub apart-both : (fs : List File) (sessions most : ℕ) (selected held : List ℕ) (links : List Session)
+    → LinksFacts fs sessions most selected held links
     → (i j : ℕ) → (j ≡ i → ⊥) → i < 4 → j < 4 → (place : ℕ) → Uploads (link links i) place → Uploads (link links j) place → ⊥
 apart-both fs sessions most selected held links f i j n a b place u v = go (ltb i j) refl
   where
@@ -118,7 +126,8 @@ apart-both fs sessions most selected held links f i j n a b place u v = go (ltb 
     go false e = f .apart j i (omega (arith, ltb-false i j e, n)) a place v u
 
 -- a session that uploads is one of those in use, and its file is there
-pub uploads-live : (fs : List File) (sessions most : ℕ) (selected held : List ℕ) (links : List Session) → LinksFacts fs sessions most selected held links
+pub uploads-live : (fs : List File) (sessions most : ℕ) (selected held : List ℕ) (links : List Session)
+    → LinksFacts fs sessions most selected held links
     → (j place : ℕ) → j < 4 → Uploads (link links j) place → fileAt fs place .number ≡ 0 → ⊥
 uploads-live fs sessions most selected held links f j place h v = go (ltb j sessions) refl
   where
@@ -237,7 +246,8 @@ module _ (sessions most : ℕ) (selected held held′ : List ℕ) (links : List 
           let v : Uploads (link links j) place = record { linked = o; offset = offset; received = received; receiving = e } in
           a .kept place (f .each j l o .receiving place offset received e .number)
           (λ w.
-          apart-both fs sessions most selected held links f i j ne (omega (arith, f .number)) (omega (arith, f .number)) place (uploads-own place w) v)
+          apart-both fs sessions most selected held links f i j ne (omega (arith, f .number)) (omega (arith, f .number)) place
+          (uploads-own place w) v)
 
   own-holds : LinkFacts fs′ most (selectionOf most selected′ i) (packetOf held′ i) (t .turn .session)
   own-holds =
@@ -266,8 +276,31 @@ module _ (sessions most : ℕ) (selected held held′ : List ℕ) (links : List 
       (part-length (i * most) most (t .mem .selected) selected part-room (omega (arith, f .selections, part-end i sessions most h)))
       lengths others-keep (λ o. own-holds) sole
 
--- an act of session i, decided on what it has received, with the facts that the session had. The hypotheses follow from a sound state: Stored
--- and LinksFacts are what refusal 35 tests; m has the session's part of the selections; hearing leaves the other sessions' packets.
+-- an act of session i, decided on what was heard on its link, with the facts that the session had
+module _ (sessions most : ℕ) (selected held : List ℕ) (links : List Session) (i n : ℕ) (m : Mem) (last : Last) (clock : ℕ) (frame : Frame)
+    (info : List ℕ) where
+  abbrev pub acting : Session
+  acting = withHeld (link links i) n
+
+  abbrev pub turnAt : Turned
+  turnAt = carryOut (decideOf acting links frame info (files (m .table)) (m .selected)) acting last clock most (sizeIn frame) info m
+
+  pub turn-acted : LinksFacts (files (m .table)) sessions most selected held links → i < sessions → link links i .linked ≡ true → Stored m last
+      → m .selected ≡ selectionOf most selected i → Acted links most m acting turnAt
+  turn-acted f h linked st part =
+      let g = f .each i h linked in
+      let r : Reads (files (m .table)) most (m .selected) acting =
+      reads-held (files (m .table)) most (m .selected) (link links i) n
+      (subst (λ (x : List ℕ). Reads (files (m .table)) most x (link links i)) (sym part)
+      (reads-of (files (m .table)) most (selectionOf most selected i) (packetOf held i) (link links i) g)) in
+      acted links most m acting last st (up-of (files (m .table)) (link links i .up) (g .receiving)) r
+      (uploads-live (files (m .table)) sessions most selected held links f)
+      (decideOf acting links frame info (files (m .table)) (m .selected)) clock (sizeIn frame) info
+      (decide-fit (files (m .table)) links acting most (m .selected) r frame info)
+
+-- The hypotheses follow from a sound state: LinksFacts and Stored are what refusal 35 tests, Kept is what an act leaves of a sound store, m has
+-- the session's part of the selections, and hearing leaves the other sessions' packets (`packet-stays`). The last one is about the bytes held
+-- that were heard, since an act leaves them or forgets them (`turn-acted`, field held).
 pub turn-links : (sessions most : ℕ) (selected held held′ : List ℕ) (links : List Session) (i n : ℕ) (m : Mem) (last : Last) (clock : ℕ)
     (frame : Frame) (info : List ℕ)
     → let s = withHeld (link links i) n in
@@ -284,19 +317,9 @@ pub turn-links : (sessions most : ℕ) (selected held held′ : List ℕ) (links
     → (2 ≤ t .turn .session .held → Unfinished (t .turn .session .held) (packetOf held′ i))
     → LinksFacts (files (t .mem .table)) sessions most (withPart (i * most) most (t .mem .selected) selected) held′ (set links i (t .turn .session))
 turn-links sessions most selected held held′ links i n m last clock frame info f h linked four st k part lengths packets unfinished =
-    let s = withHeld (link links i) n in
-    let g = f .each i h linked in
-    let r : Reads (files (m .table)) most (m .selected) s =
-    reads-held (files (m .table)) most (m .selected) (link links i) n
-    (subst (λ (x : List ℕ). Reads (files (m .table)) most x (link links i)) (sym part)
-    (reads-of (files (m .table)) most (selectionOf most selected i) (packetOf held i) (link links i) g)) in
-    acted-links sessions most selected held held′ links i n m last
-    (carryOut (decideOf s links frame info (files (m .table)) (m .selected)) s last clock most (sizeIn frame) info m)
+    acted-links sessions most selected held held′ links i n m last (turnAt sessions most selected held links i n m last clock frame info)
     f h linked four k part lengths packets unfinished
-    (acted links most m s last st (up-of (files (m .table)) (s .up) (g .receiving)) r
-    (uploads-live (files (m .table)) sessions most selected held links f)
-    (decideOf s links frame info (files (m .table)) (m .selected)) clock (sizeIn frame) info
-    (decide-fit (files (m .table)) links s most (m .selected) r frame info))
+    (turn-acted sessions most selected held links i n m last clock frame info f h linked st part)
 
 -- ---- login, a lost link
 
@@ -331,25 +354,21 @@ module _ (fs : List File) (sessions most : ℕ) (selected held : List ℕ) (link
   pub lose-links : LinksFacts fs sessions most (withPart (i * most) most (replicate most 0) selected) (withPart (i * 258) 258 (replicate 258 0) held)
       (set links i closedSession)
   lose-links =
-      one-moves fs fs sessions most selected selected′ held held′ links i closedSession f h four
-      (part-length (i * most) most (replicate most 0) selected (length-replicate {A = ℕ} most 0) (omega (arith, f .selections, part-end i sessions most h)))
+      one-moves fs fs sessions most selected (withPart (i * most) most (replicate most 0) selected) held
+      (withPart (i * 258) 258 (replicate 258 0) held) links i closedSession f h four
+      (part-length (i * most) most (replicate most 0) selected (length-replicate {A = ℕ} most 0)
+      (omega (arith, f .selections, part-end i sessions most h)))
       (part-length (i * 258) 258 (replicate 258 0) held (length-replicate {A = ℕ} 258 0) (omega (arith, f .packets)))
       stays
       (λ o. absurd (let z : _≡_ {A = ℕ} 0 1 = cc in omega arith))
       (λ place u j l n v. idle-none closedSession refl place u)
     where
-      selected′ : List ℕ
-      selected′ = withPart (i * most) most (replicate most 0) selected
-
-      held′ : List ℕ
-      held′ = withPart (i * 258) 258 (replicate 258 0) held
-
       stays : (j : ℕ) → j < sessions → (j ≡ i → ⊥) → link links j .linked ≡ true
           → LinkFacts fs most (selectionOf most (withPart (i * most) most (replicate most 0) selected) j)
           (packetOf (withPart (i * 258) 258 (replicate 258 0) held) j) (link links j)
       stays j l n o =
           let e = part-stays sessions most i (replicate most 0) selected h (f .selections) (length-replicate {A = ℕ} most 0) j n in
-          let d = part-stays sessions 258 i (replicate 258 0) held h (f .packets) (length-replicate {A = ℕ} 258 0) j n in
+          let d = packet-stays sessions i (replicate 258 0) held h (f .packets) (length-replicate {A = ℕ} 258 0) j n in
           subst (λ (x : List ℕ). LinkFacts fs most x (packetOf (withPart (i * 258) 258 (replicate 258 0) held) j) (link links j)) (sym e)
           (subst (λ (x : List ℕ). LinkFacts fs most (selectionOf most selected j) x (link links j)) (sym d) (f .each j l o))
 
@@ -367,7 +386,8 @@ unfolding leastOf
 least-le n = by-test (λ (x : ℕ). x ≤ n) (ltb n 256) _ _ (λ e. omega arith) (λ e. ltb-false n 256 e)
 
 -- the downlink after a request, that of a file no longer than the store
-module _ (fs : List File) (s : Session) (disk owner out : List ℕ) (most : (q : ℕ) → CompleteAt fs q → fileAt fs q .size ≤ 1048576) (P : Session → Type 0)
+module _ (fs : List File) (s : Session) (disk owner out : List ℕ)
+    (most : (q : ℕ) → CompleteAt fs q → fileAt fs q .size ≤ 1048576) (P : Session → Type 0)
     (stays : P s) (moves : (v : Downlink) → Down fs v → P (withDown s v)) where
   sending-moves : (place offset sent : ℕ) → SendingAt fs place (offset + sent) → P (sendingOf s place offset sent disk owner fs out .asked .session)
   unfolding sendingOf dataOf
@@ -409,13 +429,10 @@ pub request-links : (sessions most : ℕ) (selected held : List ℕ) (links : Li
 request-links sessions most selected held links i m last disk owner out f h linked four st =
     due-moves (files (m .table)) (link links i) disk owner out (λ q c. file-most m last st q (c .number))
     (λ (x : Session). LinksFacts (files (m .table)) sessions most selected held (set links i x))
-    (moved (link links i) refl refl (f .each i h linked))
-    (λ v c. moved (withDown (link links i) v) refl refl (facts v c))
+    (moved (link links i) refl (f .each i h linked))
+    (λ v c. moved (withDown (link links i) v) refl (facts v c))
     (link links i .down) (down-of (files (m .table)) most (selectionOf most selected i) (link links i) r (link links i .down) refl)
   where
-    g : LinkFacts (files (m .table)) most (selectionOf most selected i) (packetOf held i) (link links i)
-    g = f .each i h linked
-
     r : Reads (files (m .table)) most (selectionOf most selected i) (link links i)
     r = reads-of (files (m .table)) most (selectionOf most selected i) (packetOf held i) (link links i) (f .each i h linked)
 
@@ -434,10 +451,10 @@ request-links sessions most selected held links i m last disk owner out f h link
           packet = f .each i h linked .packet;
         }
 
-    moved : (s : Session) → s .up ≡ link links i .up → s .linked ≡ link links i .linked
+    moved : (s : Session) → s .up ≡ link links i .up
         → LinkFacts (files (m .table)) most (selectionOf most selected i) (packetOf held i) s
         → LinksFacts (files (m .table)) sessions most selected held (set links i s)
-    moved s e d w =
+    moved s e w =
         one-moves (files (m .table)) (files (m .table)) sessions most selected selected held held links i s f h four refl refl
         (λ j l n o. f .each j l o) (λ o. w)
         (λ place u j l n v.
