@@ -14,10 +14,11 @@ use Rattle.packet.specs.declared.frame.Frame.{Frame}
 use Rattle.packet.specs.declared.frame.Frame.the-variants.{Open, Refused}
 use Rattle.packet.specs.Frame.{Held, Event, Heard, packet, too-long, none-held, announcedIn, packetIn}
 use Rattle.packet.specs.Frame.{judged, byte, answerBy, answerOf, withoutPacket, receiveOf}
-use Rattle.links.proofs.Facts.{Unfinished, packetOf}
+use Rattle.links.proofs.Facts.{Unfinished, packetOf, part-end}
 use Rattle.server.specs.State.{part, withPart}
 use Rattle.server.specs.Turns.{HeardIn, heardIn, hearOf}
-use Rattle.history.proofs.Parts.{part-length, with-length, part-back, part-other}
+use Rattle.history.proofs.Parts.{part-size}
+use Rattle.history.proofs.Sessions.{part-length, packet-own, packet-stays}
 
 -- ---- one link
 
@@ -129,21 +130,23 @@ pub record HeardOf (held : List ℕ) (i : ℕ) (h : HeardIn) : Type 0 where
   pub others : (j : ℕ) → (j ≡ i → ⊥) → packetOf (h .held) j ≡ packetOf held j
   pub own : HeardWell (h .framed .frame) (h .framed .held) (packetOf (h .held) i)
 
--- what a call on session i's part came to is put back
-heard-in : (held : List ℕ) (i : ℕ) (r : Heard) → i * 258 + 258 ≤ length held → HeardWell (r .answer .frame) (r .answer .held) (r .part)
-    → HeardOf held i (heardIn (r .answer) (withPart (i * 258) 258 (r .part) held))
-heard-in held i r room w =
-    record {
-      lengths = with-length (i * 258) 258 (r .part) held room (w .size);
-      others = λ j ne. part-other 258 i j (r .part) held room (w .size) ne;
-      own =
-          subst (λ (p : List ℕ). HeardWell (r .answer .frame) (r .answer .held) p)
-          (sym (part-back (i * 258) 258 (r .part) held room (w .size))) w;
-    }
+-- session i of so many, whose packets are all lent
+module _ (sessions i : ℕ) (held : List ℕ) (inside : i < sessions) (lent : sessions * 258 ≤ length held) where
+  room : i * 258 + 258 ≤ length held
+  room = omega (arith, part-end i sessions 258 inside)
 
-pub hear-well : (held : List ℕ) (i count : ℕ) (input : List ℕ) → i * 258 + 258 ≤ length held → (2 ≤ count → Unfinished count (packetOf held i))
-    → HeardOf held i (hearOf held i count input)
-unfolding hearOf
-hear-well held i count input room fewer =
-    heard-in held i (receiveOf (packetOf held i) count input) room
-    (receive-well (packetOf held i) count input (part-length (i * 258) 258 held room) fewer)
+  -- what a call on its part came to is put back
+  heard-in : (r : Heard) → HeardWell (r .answer .frame) (r .answer .held) (r .part)
+      → HeardOf held i (heardIn (r .answer) (withPart (i * 258) 258 (r .part) held))
+  heard-in r w =
+      record {
+        lengths = part-length (i * 258) 258 (r .part) held (w .size) room;
+        others = packet-stays sessions i (r .part) held inside lent (w .size);
+        own = subst (λ (p : List ℕ). HeardWell (r .answer .frame) (r .answer .held) p)
+            (sym (packet-own sessions i (r .part) held inside lent (w .size))) w;
+      }
+
+  pub hear-well : (count : ℕ) (input : List ℕ) → (2 ≤ count → Unfinished count (packetOf held i)) → HeardOf held i (hearOf held i count input)
+  unfolding hearOf
+  hear-well count input fewer =
+      heard-in (receiveOf (packetOf held i) count input) (receive-well (packetOf held i) count input (part-size (i * 258) 258 held room) fewer)

@@ -10,7 +10,6 @@ pub mod Sessions
 pub mod Parts
 pub mod GoodFacts
 pub mod Hearing
-pub mod Counts
 pub mod Made
 pub mod Leaves
 pub mod Receiving

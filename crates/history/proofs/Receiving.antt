@@ -2,34 +2,27 @@
 use mathlib.Core.Path.{_≡_, refl, sym, subst}
 use mathlib.Core.Bool.{true}
 use mathlib.Core.List.{List}
-use Prim.Native.Nat.{ℕ, _+_, _*_, _≤_, _<_}
-use native.Mathlib.Omega.{arith}
-use lib.ListN.{length}
+use Prim.Native.Nat.{ℕ, _≤_, _<_}
 use Rattle.session.specs.declared.state.Session.{Session}
 use Rattle.session.specs.State.{withHeld}
 use Rattle.table.specs.Table.{files}
-use Rattle.links.proofs.Facts.{LinkFacts, Unfinished, selectionOf, packetOf, part-end}
-use Rattle.decide.specs.Decide.{decideOf}
+use Rattle.links.proofs.Facts.{LinkFacts, Unfinished, selectionOf, packetOf}
 use Rattle.carry.specs.Turn.{Mem, Turned}
 use Rattle.server.specs.declared.Server.{Server}
 use Rattle.server.specs.State.{Lent, linkOf, tablePart}
-use Rattle.server.specs.Turns.{HeardIn, hearOf, sizeIn, partsOf, putBack, actOf}
+use Rattle.server.specs.Turns.{HeardIn, hearOf, partsOf, putBack, actOf}
 use Rattle.server.specs.Calls.{answeredBy, heardBy, stepOf}
 use Rattle.history.specs.Good.{Good}
 use Rattle.history.proofs.Interface.{Kept}
 use Rattle.history.proofs.Acts.{act-kept, turnAfter}
-use Rattle.history.proofs.Sessions.{turn-links}
+use Rattle.history.proofs.Sessions.{turn-acted, turn-links}
 use Rattle.history.proofs.GoodFacts.{Facts, good-facts}
 use Rattle.history.proofs.Hearing.{HeardOf, hear-well}
-use Rattle.history.proofs.Counts.{act-held}
 use Rattle.history.proofs.Leaves.{Leaves, memOf, stored-parts, leaves-turn}
 
 module _ (sv : Server) (l : Lent) (g : Good sv l) (i : ℕ) (inside : i < sv .sessions) (linked : linkOf sv i .linked ≡ true) where
   facts : Facts sv l
   facts = good-facts sv l g
-
-  held-room : i * 258 + 258 ≤ length (l .held)
-  held-room = omega (arith, part-end i (sv .sessions) 258 inside, facts .room .held)
 
   own : LinkFacts (files (tablePart sv l)) (sv .most) (selectionOf (sv .most) (l .selected) i) (packetOf (l .held) i) (linkOf sv i)
   own = facts .sessions .each i inside linked
@@ -53,9 +46,8 @@ module _ (sv : Server) (l : Lent) (g : Good sv l) (i : ℕ) (inside : i < sv .se
     packet-left : HeardOf (l .held) i h → 2 ≤ turned .turn .session .held → Unfinished (turned .turn .session .held) (packetOf (h .held) i)
     packet-left w two =
         let e : turned .turn .session .held ≡ h .framed .held =
-        act-held session (sv .last)
-        (decideOf session (sv .links) (h .framed .frame) (h .framed .info) (files (tablePart sv l)) (parts .selected))
-        clock (sv .most) (sizeIn (h .framed .frame)) (h .framed .info) parts two in
+        turn-acted (sv .sessions) (sv .most) (l .selected) (l .held) (sv .links) i (h .framed .held) parts (sv .last) clock (h .framed .frame)
+        (h .framed .info) (facts .sessions) inside linked (stored-parts sv l g i) refl .held two in
         subst (λ (n : ℕ). Unfinished n (packetOf (h .held) i)) (sym e) (w .own .fewer (subst (λ (n : ℕ). 2 ≤ n) e two))
 
     -- what was heard is acted on
@@ -73,4 +65,4 @@ module _ (sv : Server) (l : Lent) (g : Good sv l) (i : ℕ) (inside : i < sv .se
   unfolding stepOf
   step-leaves clock input out =
       heard-leaves clock (hearOf (l .held) i (linkOf sv i .held) input) out
-      (hear-well (l .held) i (linkOf sv i .held) input held-room (own .packet))
+      (hear-well (sv .sessions) i (l .held) inside (facts .room .held) (linkOf sv i .held) input (own .packet))
