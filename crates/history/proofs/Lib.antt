@@ -7,3 +7,12 @@ pub mod Others
 pub mod Decided
 pub mod Acted
 pub mod Sessions
+pub mod Parts
+pub mod GoodFacts
+pub mod Hearing
+pub mod Made
+pub mod Leaves
+pub mod Receiving
+pub mod Kept
+pub mod Never
+pub mod Histories
