@@ -1,2 +1,4 @@
 pub mod Examples
 pub mod Stamp
+pub mod Hearing
+pub mod Asking
