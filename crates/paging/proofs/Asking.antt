@@ -45,7 +45,7 @@ use Rattle.paging.proofs.Hearing.{packet-heard}
 -- ---- the call goes through
 
 -- none of 33, 35, 34 and 32 is given
-goes : (sv : Server) (l : Lent) (session : ℕ) (out : List ℕ) → Good sv l → MayAsk sv session out → checkOf sv l session true (length out) ≡ Go (session - 1)
+pub goes : (sv : Server) (l : Lent) (session : ℕ) (out : List ℕ) → Good sv l → MayAsk sv session out → checkOf sv l session true (length out) ≡ Go (session - 1)
 unfolding checkParts sessionCheck inState
 goes sv l session out g m =
     rw (
@@ -98,11 +98,8 @@ module _ (s : Session) (last : Last) (clock most : ℕ) (eq : List ℕ) (m : Mem
 
 -- ---- the whole call
 
-abbrev session-part : ℕ → ℕ → List ℕ → List ℕ
-session-part i n l = part (i * n) n l
-
 -- a session's part of a slice that has room for all sessions
-within : (i n k size : ℕ) → i < k → k * n ≤ size → i * n + n ≤ size
+pub within : (i n k size : ℕ) → i < k → k * n ≤ size → i * n + n ≤ size
 within i n k size h r = let a : (i + 1) * n ≤ k * n = mul-le-mul-right n (omega arith) in let b = one-more i n in omega arith
   where
     one-more : (i n : ℕ) → (i + 1) * n ≡ i * n + n
