@@ -5,3 +5,4 @@ pub mod Asking
 pub mod Facts
 pub mod Above
 pub mod Page
+pub mod Clock
