@@ -6,3 +6,5 @@ pub mod Facts
 pub mod Above
 pub mod Page
 pub mod Clock
+pub mod Growth
+pub mod After

@@ -93,8 +93,7 @@ module _ (s : Start) (eq : List ℕ) where
   abbrev pub Finished : Client → Type 0
   Finished (begins h) = ⊥
   Finished (waits c call) = ⊥
-  Finished (asks c session clock out) =
-      length (pageFor (pagedBy c) session clock out) < after s (asked (pagedBy c) session clock out) .server .most
+  Finished (asks c session clock out) = length (pageFor (pagedBy c) session clock out) < s .most
 
 -- ---- the clock
 
