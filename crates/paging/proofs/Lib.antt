@@ -8,3 +8,5 @@ pub mod Page
 pub mod Clock
 pub mod Growth
 pub mod After
+pub mod Entries
+pub mod Paging
