@@ -30,7 +30,7 @@ use Rattle.history.specs.Calls.{Call, callOf, State, state, next, Start, legal,
 use Rattle.history.specs.Good.{Good}
 use Rattle.history.specs.Change.{Files, Change}
 use Rattle.paging.specs.Client.{filesOf, Complete, matching, asking, MayAsk, pageOf, newerPlaces, oldest, Answers}
-use Rattle.paging.specs.Paging.{Entry, entry, timeAt, timeOf, pageIn, newestOf, Client, begins, waits, asks, Paged, paged, asked, pageFor, askedOf, pagedBy, Allowed, Finished, Clocked, Clocks, Stands, EachStood, Rises, AllGiven, Paging}
+use Rattle.paging.specs.Paging.{Entry, entry, timeAt, timeOf, pageIn, newestOf, Client, begins, waits, asks, Paged, paged, asked, pageFor, askedOf, pagedBy, Allowed, Finished, Clocked, Clocks, Stands, EachStood, Rises, AllGiven, Paging, PagingWhole}
 use Rattle.paging.proofs.Page.{page-answer}
 use Rattle.paging.proofs.Facts.{Facts, facts}
 use Rattle.paging.proofs.Growth.{New, time-grows, complete-kept, complete-new, time-given}
@@ -261,3 +261,167 @@ module _ (sv : Server) (l : Lent) (g : Facts sv l) (sv′ : Server) (l′ : Lent
       (λ p m.
       ap (λ (n : ℕ). entry n (timeOf (files (tablePart sv′ l′)) n)) (ap (λ (v : View). v .file .number) (sym (unchanged p)))
       ∙ ap (entry (filesOf sv′ l′ p .file .number)) (own-time p (due-is sv l g eq t p m .above)))
+
+-- ---- the client
+
+module _ (good-after : (s : Start) → legal s ≡ true → (h : History) → Good (after s h .server) (after s h .lent))
+    (call-change : (sv : Server) (l : Lent) → Good sv l → (c : Call)
+    → Change (sv .last) (filesOf sv l) (callOf sv l c .done .server .last) (filesOf (callOf sv l c .done .server) (callOf sv l c .lent)))
+    (s : Start) (ok : legal s ≡ true) (eq : List ℕ) (valid : validityOf eq ≡ 0) (room : length eq + 9 ≤ 256) where
+  -- a state is good, so it has its facts
+  here : (h : History) → Facts (after s h .server) (after s h .lent)
+  here h = facts (after s h .server) (after s h .lent) (good-after s ok h)
+
+  abbrev InvAt : History → ℕ → List Entry → Type 0
+  InvAt h t given = Inv (after s h .server) (after s h .lent) eq t given
+
+  any-call : (h : History) (c : Call) (t : ℕ) (given : List Entry) → InvAt h t given → InvAt (h ▸ c) t given
+  unfolding after
+  any-call h c t given i =
+      inv-call (after s h .server) (after s h .lent) (after s (h ▸ c) .server) (after s (h ▸ c) .lent)
+      (call-change (after s h .server) (after s h .lent) (good-after s ok h) c) eq t given i
+
+  -- the call that asks for a page, at a history and with what is known then
+  module _ (h : History) (clocks : Clocks h) (t : ℕ) (given : List Entry) (i : InvAt h t given) (session clock : ℕ) (out : List ℕ)
+      (may : MayAsk (after s h .server) session out) where
+    abbrev h′ : History
+    h′ = h ▸ asking eq t session clock out
+
+    answers : Answers (after s h .server) (after s h .lent) eq t session clock out
+    answers =
+        let k = after-known good-after call-change s ok h clocks in
+        page-answer (after s h .server) (after s h .lent) (good-after s ok h) (k .stamped) eq valid room t
+        (let a = i .low in let b = k .small in omega arith) session clock out may
+
+    same-files : (p : ℕ) → filesOf (after s h′ .server) (after s h′ .lent) p ≡ filesOf (after s h .server) (after s h .lent) p
+    unfolding after
+    same-files p = answers .unchanged p
+
+    abbrev given-page : List Entry
+    given-page = page (after s h .server) (after s h .lent) (here h) (after s h′ .server) (after s h′ .lent) (here h′) same-files eq t
+
+    entries : pageIn (after s h′) session ≡ given-page
+    entries = page-entries (after s h .server) (after s h .lent) (here h) (after s h′ .server) (after s h′ .lent) (here h′) same-files eq t session oldest-now
+      where
+        oldest-now : pageOf (after s h′ .server) (after s h′ .lent) session ≡ oldest (after s h .server) (after s h .lent) eq t
+        oldest-now = unfold after in answers .page
+
+    before-page : InvAt h′ t given
+    before-page = any-call h (asking eq t session clock out) t given i
+
+    with-page : InvAt h′ (newestOf t (pageIn (after s h′) session)) (given ++ pageIn (after s h′) session)
+    with-page =
+        subst (λ (pg : List Entry). InvAt h′ (newestOf t pg) (given ++ pg)) (sym entries)
+        (inv-asks (after s h .server) (after s h .lent) (here h) (after s h′ .server) (after s h′ .lent) (here h′) same-files eq t given before-page)
+
+    page-stands : (e : Entry) → List·Memᴰ e (pageIn (after s h′) session) → Stands (after s h′) eq e
+    page-stands e m =
+        page-is (after s h .server) (after s h .lent) (here h) (after s h′ .server) (after s h′ .lent) (here h′) same-files eq t e
+        (subst (λ (pg : List Entry). List·Memᴰ e pg) entries m) .stands
+
+    all-given : length (pageIn (after s h′) session) < s .most → (p : ℕ)
+        → Complete (filesOf (after s h′ .server) (after s h′ .lent) p)
+        → matching eq (filesOf (after s h′ .server) (after s h′ .lent) p) ≡ true
+        → List·Memᴰ (entryAt (filesOf (after s h′ .server) (after s h′ .lent)) p) (given ++ pageIn (after s h′) session)
+    all-given k p c m =
+        let n = after-most s ok h in
+        let z = ap length entries in
+        subst (λ (pg : List Entry). List·Memᴰ (entryAt (filesOf (after s h′ .server) (after s h′ .lent)) p) (given ++ pg)) (sym entries)
+        (last-page (after s h .server) (after s h .lent) (here h) (after s h′ .server) (after s h′ .lent) (here h′) same-files eq t given before-page
+        (omega arith) p c m)
+
+  client-inv : (c : Client) → Allowed s eq c → Clocks (pagedBy s eq c .history) → InvAt (pagedBy s eq c .history) (pagedBy s eq c .newest) (pagedBy s eq c .given)
+  unfolding pagedBy
+  client-inv (begins h) a k = inv-begins (after s h .server) (after s h .lent) eq
+  client-inv (waits c call) a k = any-call (pagedBy s eq c .history) call (pagedBy s eq c .newest) (pagedBy s eq c .given) (client-inv c a (k .0))
+  client-inv (asks c session clock out) a k =
+      with-page (pagedBy s eq c .history) (k .0) (pagedBy s eq c .newest) (pagedBy s eq c .given) (client-inv c (a .0) (k .0)) session clock out (a .1)
+
+  client-stood : (c : Client) → Allowed s eq c → Clocks (pagedBy s eq c .history) → EachStood s eq c
+  unfolding pagedBy
+  client-stood (begins h) a k = tt
+  client-stood (waits c call) a k = client-stood c a (k .0)
+  client-stood (asks c session clock out) a k = (
+    client-stood c (a .0) (k .0),
+    page-stands (pagedBy s eq c .history) (k .0) (pagedBy s eq c .newest) (pagedBy s eq c .given) (client-inv c (a .0) (k .0)) session clock out (a .1),
+  )
+
+  -- two entries with the same number are the same file
+  same-number : (h : History) (e f : Entry) → Stands (after s h) eq e → Stands (after s h) eq f → e .number ≡ f .number → e .time ≡ f .time
+  same-number h e f a b n =
+      let fs = files (tablePart (after s h .server) (after s h .lent)) in
+      let p = key-at Number fs (a .place) in
+      let q = key-at Number fs (b .place) in
+      let z = uploaded-file (fileAt fs (a .place)) (λ y. let c = a .complete in omega arith) in
+      let w = here h .sound .files .numbers (a .place) (b .place) (λ y. z (sym p ∙ y)) (p ∙ a .number ∙ n ∙ sym (b .number) ∙ sym q) in
+      sym (a .time) ∙ ap (λ (k : ℕ). uploaded (fileAt fs k)) w ∙ b .time
+
+  pub paging-from : (c : Client) → Allowed s eq c → Clocks (pagedBy s eq c .history) → Finished s eq c → AllGiven s eq c
+  paging-from (begins h) a k f = absurd f
+  paging-from (waits c call) a k f = absurd f
+  paging-from (asks c session clock out) a k f = go (client-inv (asks c session clock out) a k)
+    where
+      r : Paged
+      r = pagedBy s eq (asks c session clock out)
+
+      go : InvAt (r .history) (r .newest) (r .given) → AllGiven s eq (asks c session clock out)
+      go i =
+          record {
+            stood = client-stood (asks c session clock out) a k;
+            once = rises-once 0 (r .given) (i .rises) (λ e f m n. same-number (r .history) e f (i .each e m) (i .each f n));
+            oldest-first = i .rises;
+            every =
+                unfold pagedBy in
+                all-given (pagedBy s eq c .history) (k .0) (pagedBy s eq c .newest) (pagedBy s eq c .given) (client-inv c (a .0) (k .0)) session clock out (a .1) f;
+          }
+
+  -- what has been given is all that matches, oldest first
+  given-whole : (h : History) (t : ℕ) (given : List Entry) → InvAt h t given
+      → ((p : ℕ) → Complete (filesOf (after s h .server) (after s h .lent) p) → matching eq (filesOf (after s h .server) (after s h .lent) p) ≡ true
+      → List·Memᴰ (entryAt (filesOf (after s h .server) (after s h .lent)) p) given)
+      → given ≡ map (entryAt (filesOf (after s h .server) (after s h .lent))) (newerPlaces (after s h .server) (after s h .lent) eq 0)
+  given-whole h t given i every =
+      rises-unique 0 0 given (map (entryAt F) (newerPlaces sv l eq 0)) (i .rises)
+      (rises-entries sv l (here h) eq 0 0 (newerPlaces sv l eq 0) (newer-rises sv l (here h) eq 0)) forth back
+    where
+      sv : Server
+      sv = after s h .server
+
+      l : Lent
+      l = after s h .lent
+
+      F : Files
+      F = filesOf (after s h .server) (after s h .lent)
+
+      forth : (e : Entry) → List·Memᴰ e given → List·Memᴰ e (map (entryAt F) (newerPlaces sv l eq 0))
+      forth e m =
+          let k = i .each e m in
+          subst (λ (x : Entry). List·Memᴰ x (map (entryAt F) (newerPlaces sv l eq 0))) (ap₂ entry (k .number) (k .time))
+          (map-in (entryAt F) (k .place) (newerPlaces sv l eq 0) (newer-all sv l (here h) eq 0 (k .place) (k .complete) (k .matched)))
+
+      back : (e : Entry) → List·Memᴰ e (map (entryAt F) (newerPlaces sv l eq 0)) → List·Memᴰ e given
+      back e m =
+          let f = in-map (entryAt F) e (newerPlaces sv l eq 0) m in
+          let d = newer-is sv l (here h) eq 0 (f .of) (f .inside) in
+          subst (λ (x : Entry). List·Memᴰ x given) (sym (f .same)) (every (f .of) (d .above) (d .matched))
+
+  pub whole-from : (c : Client) → Allowed s eq c → Clocks (pagedBy s eq c .history) → Finished s eq c
+      → numbersIn (pagedBy s eq c .given)
+      ≡ numbersAt (tablePart (after s (pagedBy s eq c .history) .server) (after s (pagedBy s eq c .history) .lent))
+      (newerPlaces (after s (pagedBy s eq c .history) .server) (after s (pagedBy s eq c .history) .lent) eq 0)
+  whole-from c a k f =
+      let h = pagedBy s eq c .history in
+      let i = client-inv c a k in
+      ap numbersIn (given-whole h (pagedBy s eq c .newest) (pagedBy s eq c .given) i (paging-from c a k f .every))
+      ∙ map-map (λ (e : Entry). e .number) (entryAt (filesOf (after s h .server) (after s h .lent))) (newerPlaces (after s h .server) (after s h .lent) eq 0)
+
+-- ---- THE THEOREMS
+
+module _ (good-after : (s : Start) → legal s ≡ true → (h : History) → Good (after s h .server) (after s h .lent))
+    (call-change : (sv : Server) (l : Lent) → Good sv l → (c : Call)
+    → Change (sv .last) (filesOf sv l) (callOf sv l c .done .server .last) (filesOf (callOf sv l c .done .server) (callOf sv l c .lent))) where
+  pub paging : Paging
+  paging s ok eq valid room c a k f = paging-from good-after call-change s ok eq valid room c a k f
+
+  pub paging-whole : PagingWhole
+  paging-whole s ok eq valid room c a k f = whole-from good-after call-change s ok eq valid room c a k f

@@ -14,10 +14,11 @@ use Rattle.table.specs.declared.Found.the-variants.{Nothing, At}
 use Rattle.table.specs.Table.{files, fileAt, findOf, uploaded}
 use Rattle.table.specs.Fit.{Distinct}
 use Rattle.files.specs.View.{View}
+use Rattle.files.specs.Selection.{numbersAt}
 use Rattle.server.specs.declared.Server.{Server}
 use Rattle.server.specs.State.{Lent, tablePart}
 use Rattle.history.specs.Calls.{Call, login, receive, request, lose, State, Start, legal, History, start, _▸_, after}
-use Rattle.paging.specs.Client.{filesOf, Complete, matching, asking, MayAsk, pageOf}
+use Rattle.paging.specs.Client.{filesOf, Complete, matching, asking, MayAsk, pageOf, newerPlaces}
 
 -- ---- what is given
 
@@ -152,3 +153,13 @@ abbrev pub Paging : Type 0
 Paging =
     (s : Start) → legal s ≡ true → (eq : List ℕ) → validityOf eq ≡ 0 → length eq + 9 ≤ 256
     → (c : Client) → Allowed s eq c → Clocks (pagedBy s eq c .history) → Finished s eq c → AllGiven s eq c
+
+-- The same in the words of the paper, for a store from which nothing is removed: what has been given is the numbers of all matching complete files
+-- of the state that the last page leaves, oldest first.
+abbrev pub PagingWhole : Type 0
+PagingWhole =
+    (s : Start) → legal s ≡ true → (eq : List ℕ) → validityOf eq ≡ 0 → length eq + 9 ≤ 256
+    → (c : Client) → Allowed s eq c → Clocks (pagedBy s eq c .history) → Finished s eq c
+    → map (λ (e : Entry). e .number) (pagedBy s eq c .given)
+    ≡ numbersAt (tablePart (after s (pagedBy s eq c .history) .server) (after s (pagedBy s eq c .history) .lent))
+    (newerPlaces (after s (pagedBy s eq c .history) .server) (after s (pagedBy s eq c .history) .lent) eq 0)
