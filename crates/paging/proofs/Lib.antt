@@ -10,3 +10,4 @@ pub mod Growth
 pub mod After
 pub mod Entries
 pub mod Paging
+pub mod Worked
