@@ -1,4 +1,5 @@
 pub mod Examples
+pub mod Bytes
 pub mod Stamp
 pub mod Hearing
 pub mod Asking
