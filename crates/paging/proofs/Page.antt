@@ -7,9 +7,11 @@ use native.Mathlib.Omega.{arith}
 use lib.Dec.{ltb}
 use lib.ListN.{length, getD, set, take, drop, replicate, length-map, take-append-drop, length-append}
 use lib.Seq.{take-take, take-at, drop-at, take-append-le, getD-set-same, length-take-le}
-use Rattle.packet.specs.Numbers.{two, four}
+use Rattle.packet.specs.Numbers.{number, two, four}
 use Rattle.packet.specs.Packet.{packetOf}
-use Rattle.header.specs.Items.{Field, fieldsOf}
+use Rattle.packet.proofs.NumberLaws.{number-four}
+use Rattle.header.specs.Items.{fieldsOf}
+use Rattle.header.specs.Header.{bytesOf}
 use Rattle.equation.specs.declared.evaluation.Truth.{Truth}
 use Rattle.equation.specs.declared.evaluation.Truth.the-variants.{No, Yes, Refused}
 use Rattle.equation.specs.Newer.{narrowed}
@@ -51,6 +53,10 @@ use Rattle.paging.proofs.Above.{passing-same, order-newer}
 pub record Stamped (v : View) : Type 0 where
   pub small : uploaded (v .file) < 4294967296
   pub upload : First 18 (four (uploaded (v .file))) (fieldsOf (v .bytes))
+
+-- so a reader of the header finds it
+pub stamp-read : (v : View) → Stamped v → number (bytesOf 18 (fieldsOf (v .bytes))) ≡ uploaded (v .file)
+stamp-read v s = ap number (s .upload .own) ∙ number-four (uploaded (v .file)) (s .small)
 
 abbrev pub AllStamped : Files → Type 0
 AllStamped fs = (p : ℕ) → Complete (fs p) → Stamped (fs p)

@@ -10,6 +10,9 @@ use native.Mathlib.Omega.{arith}
 use lib.Dec.{leb}
 use lib.ListN.{length, getD, take, length-map}
 use borrow.Author.Tests.{leb-true, leb-false}
+use Rattle.packet.specs.Numbers.{number}
+use Rattle.header.specs.Items.{fieldsOf}
+use Rattle.header.specs.Header.{bytesOf}
 use Rattle.equation.specs.Answer.{validityOf}
 use Rattle.table.specs.declared.File.{File}
 use Rattle.table.specs.declared.Found.{Found}
@@ -30,8 +33,8 @@ use Rattle.history.specs.Calls.{Call, callOf, State, state, next, Start, legal,
 use Rattle.history.specs.Good.{Good}
 use Rattle.history.specs.Change.{Files, Change}
 use Rattle.paging.specs.Client.{filesOf, Complete, matching, asking, MayAsk, pageOf, newerPlaces, oldest, Answers}
-use Rattle.paging.specs.Paging.{Entry, entry, timeAt, timeOf, pageIn, newestOf, Client, begins, waits, asks, Paged, paged, asked, pageFor, askedOf, pagedBy, Allowed, Finished, Clocked, Clocks, Stands, EachStood, Rises, AllGiven, Paging, PagingWhole}
-use Rattle.paging.proofs.Page.{page-answer}
+use Rattle.paging.specs.Paging.{Entry, entry, timeAt, timeOf, pageIn, newestOf, Client, begins, waits, asks, Paged, paged, asked, pageFor, askedOf, pagedBy, Allowed, Finished, Clocked, Clocks, Stands, EachStood, Rises, AllGiven, PageAnswer, Paging, PagingWhole}
+use Rattle.paging.proofs.Page.{AllStamped, stamp-read, page-answer}
 use Rattle.paging.proofs.Facts.{Facts, facts}
 use Rattle.paging.proofs.Growth.{New, time-grows, complete-kept, complete-new, time-given}
 use Rattle.paging.proofs.After.{Known, after-known, after-most}
@@ -125,6 +128,7 @@ module _ (sv : Server) (l : Lent) (sv′ : Server) (l′ : Lent) (change : Chang
         number = ap (λ (v : View). v .file .number) s ∙ k .number;
         time = ap (λ (v : View). uploaded (v .file)) s ∙ k .time;
         complete = subst Complete (sym s) (k .complete);
+        header = ap (λ (v : View). number (bytesOf 18 (fieldsOf (v .bytes)))) s ∙ k .header;
         matched = ap (matching eq) s ∙ k .matched;
       }
 
@@ -156,7 +160,7 @@ by-le {P} a b f g = go (leb a b) refl
     go false e = g (leb-false a b e)
 
 module _ (sv : Server) (l : Lent) (g : Facts sv l) (sv′ : Server) (l′ : Lent) (g′ : Facts sv′ l′) (unchanged : (p : ℕ) → filesOf sv′ l′ p ≡ filesOf sv l p)
-    (eq : List ℕ) (t : ℕ) where
+    (st : AllStamped (filesOf sv l)) (eq : List ℕ) (t : ℕ) where
   abbrev places : List ℕ
   places = due sv l g eq t
 
@@ -192,6 +196,10 @@ module _ (sv : Server) (l : Lent) (g : Facts sv l) (sv′ : Server) (l′ : Lent
           number = ap (λ (x : Entry). x .number) (sym (f .same));
           time = ap (λ (x : Entry). x .time) (sym (f .same));
           complete = let a = d .above in let b = same-time (f .of) in omega arith;
+          header =
+              ap (λ (v : View). number (bytesOf 18 (fieldsOf (v .bytes)))) (unchanged (f .of))
+              ∙ stamp-read (filesOf sv l (f .of)) (st (f .of) (let a = d .above in omega arith))
+              ∙ sym (same-time (f .of)) ∙ ap (λ (x : Entry). x .time) (sym (f .same));
           matched = ap (matching eq) (unchanged (f .of)) ∙ d .matched;
         };
       }
@@ -297,11 +305,14 @@ module _ (good-after : (s : Start) → legal s ≡ true → (h : History) → Go
     unfolding after
     same-files p = answers .unchanged p
 
+    stamped-now : AllStamped (filesOf (after s h .server) (after s h .lent))
+    stamped-now = after-known good-after call-change s ok h clocks .stamped
+
     abbrev given-page : List Entry
-    given-page = page (after s h .server) (after s h .lent) (here h) (after s h′ .server) (after s h′ .lent) (here h′) same-files eq t
+    given-page = page (after s h .server) (after s h .lent) (here h) (after s h′ .server) (after s h′ .lent) (here h′) same-files stamped-now eq t
 
     entries : pageIn (after s h′) session ≡ given-page
-    entries = page-entries (after s h .server) (after s h .lent) (here h) (after s h′ .server) (after s h′ .lent) (here h′) same-files eq t session oldest-now
+    entries = page-entries (after s h .server) (after s h .lent) (here h) (after s h′ .server) (after s h′ .lent) (here h′) same-files stamped-now eq t session oldest-now
       where
         oldest-now : pageOf (after s h′ .server) (after s h′ .lent) session ≡ oldest (after s h .server) (after s h .lent) eq t
         oldest-now = unfold after in answers .page
@@ -312,11 +323,11 @@ module _ (good-after : (s : Start) → legal s ≡ true → (h : History) → Go
     with-page : InvAt h′ (newestOf t (pageIn (after s h′) session)) (given ++ pageIn (after s h′) session)
     with-page =
         subst (λ (pg : List Entry). InvAt h′ (newestOf t pg) (given ++ pg)) (sym entries)
-        (inv-asks (after s h .server) (after s h .lent) (here h) (after s h′ .server) (after s h′ .lent) (here h′) same-files eq t given before-page)
+        (inv-asks (after s h .server) (after s h .lent) (here h) (after s h′ .server) (after s h′ .lent) (here h′) same-files stamped-now eq t given before-page)
 
     page-stands : (e : Entry) → List·Memᴰ e (pageIn (after s h′) session) → Stands (after s h′) eq e
     page-stands e m =
-        page-is (after s h .server) (after s h .lent) (here h) (after s h′ .server) (after s h′ .lent) (here h′) same-files eq t e
+        page-is (after s h .server) (after s h .lent) (here h) (after s h′ .server) (after s h′ .lent) (here h′) same-files stamped-now eq t e
         (subst (λ (pg : List Entry). List·Memᴰ e pg) entries m) .stands
 
     all-given : length (pageIn (after s h′) session) < s .most → (p : ℕ)
@@ -327,7 +338,7 @@ module _ (good-after : (s : Start) → legal s ≡ true → (h : History) → Go
         let n = after-most s ok h in
         let z = ap length entries in
         subst (λ (pg : List Entry). List·Memᴰ (entryAt (filesOf (after s h′ .server) (after s h′ .lent)) p) (given ++ pg)) (sym entries)
-        (last-page (after s h .server) (after s h .lent) (here h) (after s h′ .server) (after s h′ .lent) (here h′) same-files eq t given before-page
+        (last-page (after s h .server) (after s h .lent) (here h) (after s h′ .server) (after s h′ .lent) (here h′) same-files stamped-now eq t given before-page
         (omega arith) p c m)
 
   client-inv : (c : Client) → Allowed s eq c → Clocks (pagedBy s eq c .history) → InvAt (pagedBy s eq c .history) (pagedBy s eq c .newest) (pagedBy s eq c .given)
@@ -420,6 +431,11 @@ module _ (good-after : (s : Start) → legal s ≡ true → (h : History) → Go
 module _ (good-after : (s : Start) → legal s ≡ true → (h : History) → Good (after s h .server) (after s h .lent))
     (call-change : (sv : Server) (l : Lent) → Good sv l → (c : Call)
     → Change (sv .last) (filesOf sv l) (callOf sv l c .done .server .last) (filesOf (callOf sv l c .done .server) (callOf sv l c .lent))) where
+  pub page-answered : PageAnswer
+  page-answered s ok h clocks eq valid room t small session clock out may =
+      page-answer (after s h .server) (after s h .lent) (good-after s ok h) (after-known good-after call-change s ok h clocks .stamped) eq valid room t small
+      session clock out may
+
   pub paging : Paging
   paging s ok eq valid room c a k f = paging-from good-after call-change s ok eq valid room c a k f
 

@@ -235,6 +235,7 @@ accepted-holds file e = go (marked file) refl (walk 0 (drop 2 file) .whole) e
 pub record First (i : ℕ) (data′ : List ℕ) (is : List Field) : Type 0 where
   pub more : List (List ℕ)
   pub first : holds.bytesOf i is ≡ data′ ∷ more
+  pub own : bytesOf i is ≡ data′
 
 first-of : (i : ℕ) (is : List Field) → 1 ≤ times i is → First i (bytesOf i is) is
 unfolding holds.bytesOf bytesOf countIf
@@ -242,11 +243,11 @@ first-of i [] h = absurd (omega arith)
 first-of i (x ∷ xs) h = go (eqb (x .id) i) refl (first-of i xs)
   where
     go : (t : Bool) → eqb (x .id) i ≡ t → (1 ≤ times i xs → First i (bytesOf i xs) xs) → First i (bytesOf i (x ∷ xs)) (x ∷ xs)
-    go true e ih = record { more = holds.bytesOf i xs; first = rw e }
+    go true e ih = record { more = holds.bytesOf i xs; first = rw e; own = refl }
     go false e ih = on (ih (omega (arith, times-miss i x xs (eqb-false (x .id) i e))))
       where
         on : First i (bytesOf i xs) xs → First i (bytesOf i (x ∷ xs)) (x ∷ xs)
-        on r = record { more = r .more; first = rw e (r .first) }
+        on r = record { more = r .more; first = rw e (r .first); own = refl }
 
 module _ (n t : ℕ) (file : List ℕ) (e : checkItems file ≡ 0) where
   abbrev first-set : List ℕ

@@ -7,6 +7,9 @@ use mathlib.Core.List.{List, [], _∷_, _++_, map, List·Memᴰ}
 use Prim.Native.Nat.{ℕ, _+_, _≤_, _<_}
 use lib.Dec.{ltb}
 use lib.ListN.{length}
+use Rattle.packet.specs.Numbers as numbers
+use Rattle.header.specs.Items.{fieldsOf}
+use Rattle.header.specs.Header.{bytesOf}
 use Rattle.equation.specs.Answer.{validityOf}
 use Rattle.table.specs.declared.File.{File}
 use Rattle.table.specs.declared.Found.{Found}
@@ -18,7 +21,7 @@ use Rattle.files.specs.Selection.{numbersAt}
 use Rattle.server.specs.declared.Server.{Server}
 use Rattle.server.specs.State.{Lent, tablePart}
 use Rattle.history.specs.Calls.{Call, login, receive, request, lose, State, Start, legal, History, start, _▸_, after}
-use Rattle.paging.specs.Client.{filesOf, Complete, matching, asking, MayAsk, pageOf, newerPlaces}
+use Rattle.paging.specs.Client.{filesOf, Complete, matching, asking, MayAsk, pageOf, newerPlaces, Answers}
 
 -- ---- what is given
 
@@ -111,12 +114,14 @@ Clocks (h ▸ c) = Clocks h × Clocked c
 
 -- ---- the answer
 
--- in a state a complete file with this number and this upload time stands at some place, and the equation matches it
+-- in a state a complete file with this number and this upload time stands at some place, a reader of its header finds that upload time (12h), and
+-- the equation matches it
 pub record Stands (s : State) (eq : List ℕ) (e : Entry) : Type 0 where
   pub place : ℕ
   pub number : filesOf (s .server) (s .lent) place .file .number ≡ e .number
   pub time : uploaded (filesOf (s .server) (s .lent) place .file) ≡ e .time
   pub complete : Complete (filesOf (s .server) (s .lent) place)
+  pub header : numbers.number (bytesOf 18 (fieldsOf (filesOf (s .server) (s .lent) place .bytes))) ≡ e .time
   pub matched : matching eq (filesOf (s .server) (s .lent) place) ≡ true
 
 -- all that stands in a page was a matching complete file when the page was given
@@ -147,6 +152,13 @@ pub record AllGiven (s : Start) (eq : List ℕ) (c : Client) : Type 0 where
       (entry (filesOf (after s (pagedBy s eq c .history) .server) (after s (pagedBy s eq c .history) .lent) place .file .number)
       (uploaded (filesOf (after s (pagedBy s eq c .history) .server) (after s (pagedBy s eq c .history) .lent) place .file)))
       (pagedBy s eq c .given)
+
+-- In every state that calls with a 32-bit clock made, the server's answer to the client's bytes is the page that they ask for.
+abbrev pub PageAnswer : Type 0
+PageAnswer =
+    (s : Start) → legal s ≡ true → (h : History) → Clocks h → (eq : List ℕ) → validityOf eq ≡ 0 → length eq + 9 ≤ 256
+    → (t : ℕ) → t < 4294967296 → (session clock : ℕ) (out : List ℕ) → MayAsk (after s h .server) session out
+    → Answers (after s h .server) (after s h .lent) eq t session clock out
 
 -- For every start, equation and client. "with an equation that has room for that condition": nine bytes more are at most 256.
 abbrev pub Paging : Type 0
