@@ -3,17 +3,17 @@
 use mathlib.Core.Path.{_≡_, refl, sym, ap, _∙_}
 use mathlib.Core.Bool.{Bool, true, false, cond, _&&_}
 use mathlib.Core.List.{List, [], _∷_, List·Memᴰ, List·Memᴰ·head, List·Memᴰ·tail}
-use Prim.Native.Nat.{ℕ, zero, suc, _+_, _≤_, _<_}
+use Prim.Native.Nat.{ℕ, zero, suc, _≤_, _<_}
 use native.Mathlib.Omega.{arith}
 use lib.ListN.{length, getD, length-map}
 use lib.Dec.{ltb}
-use borrow.Author.Tests.{ltb-true, ltb-false, lt-ltb, le-ltb}
+use borrow.Author.Tests.{ltb-true, ltb-false, lt-ltb}
 use Rattle.table.specs.declared.File.{File}
 use Rattle.table.specs.declared.Found.{Found}
 use Rattle.table.specs.declared.Found.the-variants.{Nothing, At}
 use Rattle.table.specs.Table.{times, uploaded}
 use Rattle.table.specs.Order.{nextAbove, placesAbove, inOrder}
-use Rattle.table.proofs.Ordering.{NextIs, next-found, next-none, next-is, next-absent, countAbove, count-le, count-less, places-none, places-next, places-rise, places-same, rising-above}
+use Rattle.table.proofs.Ordering.{next-found, next-none, next-is, next-absent, countAbove, count-le, count-less, places-none, places-next, places-rise, places-same, rising-above}
 use Rattle.files.specs.Selection.{passing}
 
 -- tests that agree on the places

@@ -1,14 +1,12 @@
 -- What holds after every history from a legal start: MAXSEL is the start's, upload times are 32-bit numbers, and each complete file's header has
 -- the upload time of its record. That calls keep a state good, and what one call may change, are taken from proofs on histories.
-use mathlib.Core.Path.{_≡_, refl, sym, ap, _∙_, subst}
-use mathlib.Core.Bool.{Bool, true, false, cond}
-use mathlib.Core.List.{List, []}
-use mathlib.Core.Logic.{_⊎_, inl, inr, ⊎-elim}
-use Prim.Native.Nat.{ℕ, _+_, _≤_, _<_}
+use mathlib.Core.Path.{_≡_, refl, sym, _∙_, subst}
+use mathlib.Core.Bool.{true, false}
+use mathlib.Core.List.{List}
+use mathlib.Core.Logic.{_⊎_, inl, inr}
+use Prim.Native.Nat.{ℕ, _<_}
 use native.Mathlib.Omega.{arith}
 use lib.ListN.{length}
-use Rattle.table.specs.Table.{uploaded}
-use Rattle.files.specs.View.{View}
 use Rattle.server.specs.declared.Server.{Server}
 use Rattle.server.specs.declared.check.Check.{Check}
 use Rattle.server.specs.declared.check.Check.the-variants.{Go, Refuse}
@@ -16,7 +14,7 @@ use Rattle.server.specs.State.{Lent}
 use Rattle.server.specs.Check.{checkOf}
 use Rattle.server.specs.Making.{makeOf}
 use Rattle.server.specs.Calls.{answeredBy, heardBy, stepOf, onCheck, receiveOf, onLogin, loginOf, onLose, loseOf, dueAs, onRequest, requestOf}
-use Rattle.history.specs.Calls.{Call, login, receive, request, lose, callOf, State, Start, legal, made, History, start, _▸_, after}
+use Rattle.history.specs.Calls.{Call, login, receive, request, lose, callOf, Start, legal, made, History, start, _▸_, after}
 use Rattle.history.specs.Good.{Good}
 use Rattle.history.specs.Change.{Change}
 use Rattle.paging.specs.Client.{filesOf, Complete}

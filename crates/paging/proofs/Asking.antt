@@ -1,15 +1,14 @@
 -- The server's answer to a SELECT_CMD, from its bytes on. Assumes nothing.
-use mathlib.Core.Path.{_≡_, refl, sym, ap, _∙_, subst}
-use mathlib.Core.Bool.{Bool, true, false, cond}
-use mathlib.Core.List.{List, [], _∷_, _++_}
+use mathlib.Core.Path.{_≡_, _∙_}
+use mathlib.Core.Bool.{true}
+use mathlib.Core.List.{List, _++_}
 use Prim.Native.Nat.{ℕ, _+_, _-_, _*_, _≤_, _<_}
 use native.Mathlib.Omega.{arith}
 use native.Mathlib.Numerals.{add-one}
 use native.Mathlib.Nat.{suc-mul, mul-le-mul-right}
-use lib.Dec.{eqb, leb, ltb}
-use lib.ListN.{length, getD, set, take, drop, replicate, length-append, length-replicate, length-drop, length-map, take-append-drop}
-use lib.Seq.{take-append-seam, take-at, drop-at, getD-set-same, length-take-le}
-use borrow.Author.Tests.{eq-eqb, ne-eqb, le-ltb, lt-ltb, le-leb, leb-true}
+use lib.ListN.{length, take, drop, replicate, length-append, length-replicate, length-drop}
+use lib.Seq.{take-append-seam, length-take-le}
+use borrow.Author.Tests.{eq-eqb, ne-eqb, le-ltb, le-leb}
 use Rattle.packet.specs.Numbers.{two}
 use Rattle.packet.specs.Packet.{packetOf}
 use Rattle.packet.specs.declared.frame.Frame.the-variants.{Whole}
@@ -22,8 +21,8 @@ use Rattle.session.specs.declared.state.Session.{Session}
 use Rattle.session.specs.declared.state.Downlink.the-variants as down
 use Rattle.session.specs.declared.reply.Answer.the-variants as answer
 use Rattle.session.specs.declared.reply.Reply.the-variants.{Selected}
-use Rattle.session.specs.State.{closedSession, withHeld, withSelection}
-use Rattle.session.specs.Expected.{expected, expectedDown, takesCommand}
+use Rattle.session.specs.State.{withHeld, withSelection}
+use Rattle.session.specs.Expected.{expected, expectedDown}
 use Rattle.session.specs.Reply.{tell, answered}
 use Rattle.decide.specs.Downlink.{onDownlink}
 use Rattle.decide.specs.Decide.{onPacket, onFrame, decideOf}
@@ -36,8 +35,8 @@ use Rattle.server.specs.declared.Server.{Server}
 use Rattle.server.specs.declared.check.Check.the-variants.{Go}
 use Rattle.server.specs.State.{Lent, lent, outcome, doneWith, linkOf, withTurn, words, ownerPart, tablePart, part, withPart}
 use Rattle.server.specs.Check.{inState, sessionCheck, checkParts, checkOf}
-use Rattle.server.specs.Turns.{HeardIn, heardIn, hearOf, sizeIn, partsOf, putBack, actOf}
-use Rattle.server.specs.Calls.{answeredBy, heardBy, stepOf, onCheck, receiveOf}
+use Rattle.server.specs.Turns.{heardIn, hearOf, sizeIn, partsOf, putBack, actOf}
+use Rattle.server.specs.Calls.{answeredBy, heardBy, stepOf}
 use Rattle.history.specs.Good.{Good}
 use Rattle.paging.specs.Client.{MayAsk}
 use Rattle.paging.proofs.Hearing.{packet-heard}

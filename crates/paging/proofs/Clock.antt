@@ -1,8 +1,8 @@
 -- The last upload time given stays a 32-bit number where the clock is one. Assumes nothing.
-use mathlib.Core.Path.{_≡_, refl, sym, ap, _∙_, subst}
+use mathlib.Core.Path.{_≡_, refl}
 use mathlib.Core.Bool.{Bool, true, false, cond}
-use mathlib.Core.List.{List, [], _∷_}
-use Prim.Native.Nat.{ℕ, _+_, _≤_, _<_}
+use mathlib.Core.List.{List}
+use Prim.Native.Nat.{ℕ, _+_, _<_}
 use native.Mathlib.Omega.{arith}
 use lib.Dec.{eqb, ltb}
 use lib.ListN.{length, take}
@@ -10,7 +10,7 @@ use borrow.Author.Tests.{eqb-false}
 use Rattle.session.specs.declared.state.Session.{Session}
 use Rattle.table.specs.declared.Given.{Given}
 use Rattle.table.specs.declared.Given.the-variants.{UsedUp, Next}
-use Rattle.table.specs.Given.{nextNumber, uploadTime}
+use Rattle.table.specs.Given.{nextNumber}
 use Rattle.files.specs.declared.Begun.{Begun}
 use Rattle.files.specs.declared.Begun.the-variants.{Refused, Started}
 use Rattle.files.specs.Uploads as files
@@ -20,7 +20,7 @@ use Rattle.decide.specs.declared.act.Act.{Act}
 use Rattle.decide.specs.declared.act.Act.the-variants as act
 use Rattle.carry.specs.declared.turn.Last.{Last}
 use Rattle.carry.specs.declared.turn.Turn.{Turn}
-use Rattle.carry.specs.Turn.{Mem, Chooses}
+use Rattle.carry.specs.Turn.{Mem}
 use Rattle.carry.specs.Upload as upload
 use Rattle.carry.specs.Download as download
 use Rattle.carry.specs.Carry.{onFrees, onWrites, onMoves, onChooses, carryOut}
@@ -29,7 +29,7 @@ use Rattle.server.specs.declared.check.Check.{Check}
 use Rattle.server.specs.declared.check.Check.the-variants.{Go, Refuse}
 use Rattle.server.specs.State.{Lent}
 use Rattle.server.specs.Check as check
-use Rattle.server.specs.Turns.{HeardIn, putBack, actOf}
+use Rattle.server.specs.Turns.{putBack, actOf}
 use Rattle.server.specs.Calls.{answeredBy, heardBy, stepOf, onCheck, receiveOf, onLogin, loginOf, onLose, loseOf, dueAs, onRequest, requestOf}
 use Rattle.history.specs.Calls.{Call, login, receive, request, lose, callOf}
 use Rattle.paging.specs.Paging.{Clocked}

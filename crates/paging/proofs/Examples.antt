@@ -1,6 +1,6 @@
 -- The examples P1 to P12 of document 01, "proved together, by one statement": by computation. Assumes nothing.
 use mathlib.Core.Path.{_≡_, refl}
-use mathlib.Core.List.{List, map}
+use mathlib.Core.List.{map}
 use Rattle.packet.specs.Numbers.{number}
 use Rattle.packet.specs.Packet.{packetOf}
 use Rattle.packet.specs.Machine.{called, call}
@@ -14,7 +14,7 @@ use Rattle.equation.specs.Tree.{pushed, joined, result, bind, run, parse}
 use Rattle.equation.specs.Answer.{refusal, validityOf}
 use Rattle.session.specs.Reply.{tell, answered}
 use Rattle.decide.specs.Decide.{onPacket, onFrame, decideOf}
-use Rattle.paging.specs.Examples.{Row, smallest, table, got, want}
+use Rattle.paging.specs.Examples.{smallest, table, got, want}
 
 pub examples : map got table ≡ map want table
 unfolding

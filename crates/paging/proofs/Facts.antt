@@ -1,11 +1,10 @@
 -- What a state that calls made has: sizes, room, and a sound store. Assumes nothing.
-use mathlib.Core.Path.{_≡_, refl, sym, ap, _∙_}
-use mathlib.Core.Bool.{Bool, true, false, cond}
-use mathlib.Core.List.{List}
-use Prim.Native.Nat.{ℕ, _+_, _*_, _≤_, _<_}
+use mathlib.Core.Path.{_≡_}
+use mathlib.Core.Bool.{true}
+use Prim.Native.Nat.{ℕ, _*_, _≤_}
 use native.Mathlib.Omega.{arith}
 use lib.Dec.{leb}
-use lib.ListN.{length, take}
+use lib.ListN.{length}
 use lib.Seq.{length-take-le}
 use borrow.Author.Tests.{leb-true}
 use Rattle.table.specs.Table.{files}
@@ -14,7 +13,7 @@ use Rattle.files.specs.Sound as store
 use Rattle.files.proofs.Soundness.{sound-facts}
 use Rattle.links.specs.Sound.{linksSound}
 use Rattle.server.specs.declared.Server.{Server}
-use Rattle.server.specs.State.{Lent, words, mapPart, ownerPart, tablePart}
+use Rattle.server.specs.State.{Lent, mapPart, ownerPart, tablePart}
 use Rattle.server.specs.Check.{sizesFit, roomFits, soundParts}
 use Rattle.server.proofs.CheckLaws.{sizes-true, room-true, both-true}
 use Rattle.history.specs.Good.{Good}

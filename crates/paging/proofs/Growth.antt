@@ -1,16 +1,10 @@
 -- Complete files stay as they are, and a file completed later has a later upload time (demand 3). Assumes nothing.
 use mathlib.Core.Path.{_≡_, refl, sym, ap, _∙_, subst}
-use mathlib.Core.Bool.{Bool, true, false, cond}
-use mathlib.Core.List.{List, [], _++_}
+use mathlib.Core.List.{List, []}
 use mathlib.Core.Logic.{_⊎_, inl, inr}
 use Prim.Native.Nat.{ℕ, _+_, _≤_, _<_}
 use native.Mathlib.Omega.{arith}
-use lib.Dec.{eqb}
 use lib.ListN.{length}
-use Rattle.packet.specs.Numbers.{four}
-use Rattle.header.specs.Items.{fieldsOf}
-use Rattle.header.specs.Fields.{fieldsSet}
-use Rattle.header.specs.Header.{checkItems, verdict}
 use Rattle.header.proofs.Set.{verdict-parts}
 use Rattle.table.specs.declared.File.{File}
 use Rattle.table.specs.Table.{noFile, uploaded}
@@ -19,12 +13,11 @@ use Rattle.table.proofs.Records.{uploaded-file}
 use Rattle.files.specs.View.{View, recordAt}
 use Rattle.files.specs.Uploads.{newFile, grown}
 use Rattle.files.specs.Completion.{completed}
-use Rattle.files.specs.Sound.{Sound}
 use Rattle.files.proofs.Soundness.{no-time, no-number, has-time, file-fits}
 use Rattle.carry.specs.declared.turn.Last.{Last}
 use Rattle.server.specs.declared.Server.{Server}
 use Rattle.server.specs.State.{Lent, mapPart, ownerPart, tablePart}
-use Rattle.history.specs.Change.{Files, view, Others, Partial, Same, Begins, Receives, Completes, Discards, Change, same, begins, receives, completes, discards}
+use Rattle.history.specs.Change.{Files, view, Others, Completes, Change, same, begins, receives, completes, discards}
 use Rattle.paging.specs.Client.{filesOf, Complete}
 use Rattle.paging.proofs.Stamp.{stamped}
 use Rattle.paging.proofs.Page.{Stamped}

@@ -1,18 +1,18 @@
 -- A whole packet on a link that has no unfinished one: it is heard as it was sent, whatever bytes the link's part holds. Assumes nothing.
-use mathlib.Core.Path.{_≡_, refl, sym, ap, _∙_, subst}
-use mathlib.Core.Bool.{Bool, true, false, cond}
+use mathlib.Core.Path.{_≡_, refl, sym, ap, _∙_}
+use mathlib.Core.Bool.{Bool, true, false}
 use mathlib.Core.List.{List, [], _∷_, _++_, append-nil}
-use mathlib.Core.Option.{Option, none, some}
-use Prim.Native.Nat.{ℕ, zero, suc, _+_, _≤_, _<_}
+use mathlib.Core.Option.{none, some}
+use Prim.Native.Nat.{ℕ, _+_, _≤_, _<_}
 use native.Mathlib.Omega.{arith}
 use native.Mathlib.Numerals.{add-one}
 use lib.Dec.{ltb}
 use lib.ListN.{length, getD, set, take, drop, replicate, length-set}
-use lib.Seq.{take-suc-set, getD-take, take-take, take-add, drop-append-seam, drop-at, length-take-le}
-use borrow.Author.Tests.{ltb-true, ltb-false, eq-eqb, lt-ltb}
+use lib.Seq.{take-suc-set, getD-take, take-take, take-add, drop-at, length-take-le}
+use borrow.Author.Tests.{ltb-true, ltb-false, eq-eqb}
 use Rattle.packet.specs.declared.frame.Frame.the-variants.{Whole}
 use Rattle.packet.specs.Packet.{kindIn, packetOf}
-use Rattle.packet.specs.Machine.{Step, more, ends, Call, further, call}
+use Rattle.packet.specs.Machine.{more, ends, Call, further, call}
 use Rattle.packet.specs.Frame.{Held, Event, packet, too-long, none-held, announcedIn, packetIn, judged, byte, padded, heard, answerBy, answerOf, receiveOf}
 use Rattle.packet.proofs.Cut.{step-more, step-ends}
 use Rattle.packet.proofs.PacketLaws.{reads-back, info-back}

@@ -1,12 +1,12 @@
 -- The answer to the client's bytes: the page is the oldest MAXSEL matching complete files above its time. Assumes nothing.
-use mathlib.Core.Path.{_≡_, refl, sym, ap, _∙_, subst}
-use mathlib.Core.Bool.{Bool, true, false, cond, _&&_}
-use mathlib.Core.List.{List, [], _∷_, _++_, List·Memᴰ, append-assoc}
+use mathlib.Core.Path.{_≡_, refl, sym, ap, _∙_}
+use mathlib.Core.Bool.{_&&_}
+use mathlib.Core.List.{List, [], _++_, append-assoc}
 use Prim.Native.Nat.{ℕ, _+_, _-_, _*_, _≤_, _<_}
 use native.Mathlib.Omega.{arith}
 use lib.Dec.{ltb}
-use lib.ListN.{length, getD, set, take, drop, replicate, length-map, take-append-drop, length-append}
-use lib.Seq.{take-take, take-at, drop-at, take-append-le, getD-set-same, length-take-le}
+use lib.ListN.{length, getD, take, drop, replicate, length-map, take-append-drop}
+use lib.Seq.{take-take, take-at, drop-at, getD-set-same, length-take-le}
 use Rattle.packet.specs.Numbers.{number, two, four}
 use Rattle.packet.specs.Packet.{packetOf}
 use Rattle.packet.proofs.NumberLaws.{number-four}
@@ -15,18 +15,17 @@ use Rattle.header.specs.Header.{bytesOf}
 use Rattle.equation.specs.declared.evaluation.Truth.{Truth}
 use Rattle.equation.specs.declared.evaluation.Truth.the-variants.{No, Yes, Refused}
 use Rattle.equation.specs.Newer.{narrowed}
-use Rattle.equation.specs.Answer.{selects, validityOf, answerOf}
+use Rattle.equation.specs.Answer.{validityOf, answerOf}
 use Rattle.equation.specs.Answer as equation
 use Rattle.equation.proofs.Append.{narrowed-length, narrowed-valid}
 use Rattle.equation.proofs.Selects.{narrowed-selects}
-use Rattle.table.specs.declared.File.{File}
 use Rattle.table.specs.declared.Key.the-variants.{Time}
 use Rattle.table.specs.Table.{files, times, uploaded}
 use Rattle.table.specs.Order.{inOrder}
 use Rattle.table.proofs.Records.{key-at, uploaded-file}
 use Rattle.table.proofs.Ordering.{in-order-above}
 use Rattle.files.specs.View.{View, recordAt, bytesAt}
-use Rattle.files.specs.Selection.{meetsAt, passing, numbersAt, chosen, listed}
+use Rattle.files.specs.Selection.{meetsAt, numbersAt, chosen}
 use Rattle.files.specs.Selection as selection
 use Rattle.files.proofs.Choice.{chosen-most}
 use Rattle.files.proofs.Selected.{meets-is}

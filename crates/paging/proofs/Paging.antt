@@ -2,7 +2,7 @@
 -- given every matching file complete by then once, oldest first. That calls keep a state good, and what one call may change, are taken from
 -- proofs on histories.
 use mathlib.Core.Path.{_≡_, refl, sym, ap, ap₂, _∙_, subst}
-use mathlib.Core.Bool.{Bool, true, false, cond}
+use mathlib.Core.Bool.{Bool, true, false}
 use mathlib.Core.List.{List, [], _∷_, _++_, map, List·Memᴰ, List·Memᴰ·not-nil}
 use mathlib.Core.Logic.{_⊎_, inl, inr, ⊎-elim}
 use Prim.Native.Nat.{ℕ, _+_, _-_, _≤_, _<_}
@@ -15,30 +15,28 @@ use Rattle.header.specs.Items.{fieldsOf}
 use Rattle.header.specs.Header.{bytesOf}
 use Rattle.equation.specs.Answer.{validityOf}
 use Rattle.table.specs.declared.File.{File}
-use Rattle.table.specs.declared.Found.{Found}
 use Rattle.table.specs.declared.Key.the-variants.{Time, Number}
-use Rattle.table.specs.Table.{noFile, files, fileAt, findOf, uploaded, numbers, times}
+use Rattle.table.specs.Table.{files, fileAt, uploaded, numbers, times}
 use Rattle.table.specs.Order.{inOrder, Rising}
-use Rattle.table.specs.Fit.{Distinct}
 use Rattle.table.proofs.Records.{key-at, uploaded-file}
 use Rattle.table.proofs.Finding.{find-own}
 use Rattle.table.proofs.Ordering.{in-order-rises, in-order-above, in-order-all}
 use Rattle.files.specs.View.{View, recordAt}
-use Rattle.files.specs.Selection.{passing, numbersAt}
+use Rattle.files.specs.Selection.{numbersAt}
 use Rattle.files.proofs.Selected.{passing-in, in-passing, passing-rises, take-rises, taken-or-later}
 use Rattle.files.proofs.Selected as selected
 use Rattle.server.specs.declared.Server.{Server}
 use Rattle.server.specs.State.{Lent, tablePart}
-use Rattle.history.specs.Calls.{Call, callOf, State, state, next, Start, legal, History, start, _▸_, after}
+use Rattle.history.specs.Calls.{Call, callOf, state, Start, legal, History, _▸_, after}
 use Rattle.history.specs.Good.{Good}
 use Rattle.history.specs.Change.{Files, Change}
 use Rattle.paging.specs.Client.{filesOf, Complete, matching, asking, MayAsk, pageOf, newerPlaces, oldest, Answers}
-use Rattle.paging.specs.Paging.{Entry, entry, timeAt, timeOf, pageIn, newestOf, Client, begins, waits, asks, Paged, paged, asked, pageFor, askedOf, pagedBy, Allowed, Finished, Clocked, Clocks, Stands, EachStood, Rises, AllGiven, PageAnswer, Paging, PagingWhole}
+use Rattle.paging.specs.Paging.{Entry, entry, timeAt, timeOf, pageIn, newestOf, Client, begins, waits, asks, Paged, pagedBy, Allowed, Finished, Clocks, Stands, EachStood, Rises, AllGiven, PageAnswer, Paging, PagingWhole}
 use Rattle.paging.proofs.Page.{AllStamped, stamp-read, page-answer}
 use Rattle.paging.proofs.Facts.{Facts, facts}
 use Rattle.paging.proofs.Growth.{New, time-grows, complete-kept, complete-new, time-given}
-use Rattle.paging.proofs.After.{Known, after-known, after-most}
-use Rattle.paging.proofs.Entries.{map-in, From, in-map, map-same, map-map, taken-in, in-left, in-right, in-either, rises-above, rises-append, rises-unique, newest-known, newest-most, Of, newest-is, numbersIn, rises-once}
+use Rattle.paging.proofs.After.{after-known, after-most}
+use Rattle.paging.proofs.Entries.{map-in, in-map, map-same, map-map, taken-in, in-left, in-right, in-either, rises-append, rises-unique, newest-known, newest-most, Of, newest-is, numbersIn, rises-once}
 
 -- the file at a place, as it would be given
 abbrev pub entryAt : Files → ℕ → Entry

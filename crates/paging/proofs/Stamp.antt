@@ -6,14 +6,12 @@ use Prim.Native.Nat.{ℕ, zero, suc, _+_, _*_, _≤_, _<_}
 use native.Mathlib.Omega.{arith}
 use lib.Dec.{eqb, leb}
 use lib.ListN.{length, take, drop, length-drop, length-append, take-append-drop}
-use lib.Seq.{sets, length-take-le, take-append-seam, drop-append-seam, take-at, drop-at}
-use borrow.Author.Tests.{eqb-true, eqb-false, eq-eqb, ne-eqb, leb-true, le-leb}
+use lib.Seq.{sets, length-take-le, take-at, drop-at}
+use borrow.Author.Tests.{eqb-false, leb-true, le-leb}
 use Rattle.packet.specs.Numbers.{two, four}
-use Rattle.header.specs.declared.items.Head.{Head}
-use Rattle.header.specs.declared.items.Head.the-variants.{Broken, End, Item}
 use Rattle.header.specs.Items.{Field, Walk, headOf, walk, marked, fieldsOf}
 use Rattle.header.specs.Header.{listed, countIf, times, bytesOf, lengthIn, listedLength, proper, complete, headerSum, checkItems, placeFrom, placeOf}
-use Rattle.header.specs.Fields.{serverSet, withFields, withSum, fieldsSet}
+use Rattle.header.specs.Fields.{withFields, withSum, fieldsSet}
 use Rattle.header.proofs.Walk.{walk-broken, walk-end, walk-item}
 use Rattle.header.proofs.Order.{times-miss, complete-parts, proper-parts, length-of}
 use Rattle.header.proofs.Verdict.{passed-both}

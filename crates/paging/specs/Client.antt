@@ -17,7 +17,7 @@ use Rattle.files.specs.Selection.{passing, numbersAt}
 use Rattle.session.specs.declared.state.Downlink.the-variants as down
 use Rattle.session.specs.declared.reply.Answer.the-variants as answer
 use Rattle.server.specs.declared.Server.{Server}
-use Rattle.server.specs.State.{Lent, Outcome, linkOf, ownerPart, tablePart, part}
+use Rattle.server.specs.State.{Lent, linkOf, ownerPart, tablePart, part}
 use Rattle.history.specs.Calls.{Call, receive, callOf}
 use Rattle.history.specs.Change.{Files}
 

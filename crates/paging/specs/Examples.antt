@@ -1,6 +1,5 @@
 -- The proved examples of document 01, P1 to P12, in one table. Each row has what the server's own definitions give and what the paper says.
 -- Assumes nothing.
-use mathlib.Core.Path.{_≡_}
 use mathlib.Core.Bool.{Bool, true, false}
 use mathlib.Core.List.{List, [], _∷_, map}
 use Prim.Native.Nat.{ℕ}
@@ -15,8 +14,6 @@ use Rattle.equation.specs.Answer.{validityOf}
 use Rattle.table.specs.declared.Given.{Given}
 use Rattle.table.specs.declared.Given.the-variants.{Next}
 use Rattle.table.specs.Given.{blocksFor, uploadTime}
-use Rattle.session.specs.declared.reply.Answer.{Answer}
-use Rattle.session.specs.declared.reply.Answer.the-variants.{Closed}
 use Rattle.session.specs.declared.reply.Reply.{Reply}
 use Rattle.session.specs.declared.reply.Reply.the-variants.{Login, UploadError, Selected}
 use Rattle.session.specs.State.{freshSession}

@@ -2,7 +2,7 @@
 -- with an equation that has room for that condition, until a page is shorter than MAXSEL, has been given every matching file complete by then
 -- once, oldest first." Assumes nothing.
 use mathlib.Core.Path.{_≡_}
-use mathlib.Core.Bool.{Bool, true, cond}
+use mathlib.Core.Bool.{true, cond}
 use mathlib.Core.List.{List, [], _∷_, _++_, map, List·Memᴰ}
 use Prim.Native.Nat.{ℕ, _+_, _≤_, _<_}
 use lib.Dec.{ltb}
@@ -16,10 +16,8 @@ use Rattle.table.specs.declared.Found.{Found}
 use Rattle.table.specs.declared.Found.the-variants.{Nothing, At}
 use Rattle.table.specs.Table.{files, fileAt, findOf, uploaded}
 use Rattle.table.specs.Fit.{Distinct}
-use Rattle.files.specs.View.{View}
 use Rattle.files.specs.Selection.{numbersAt}
-use Rattle.server.specs.declared.Server.{Server}
-use Rattle.server.specs.State.{Lent, tablePart}
+use Rattle.server.specs.State.{tablePart}
 use Rattle.history.specs.Calls.{Call, login, receive, request, lose, State, Start, legal, History, start, _▸_, after}
 use Rattle.paging.specs.Client.{filesOf, Complete, matching, asking, MayAsk, pageOf, newerPlaces, Answers}
 
