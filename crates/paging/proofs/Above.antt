@@ -67,7 +67,8 @@ module _ (test : ℕ → Bool) (ts : List ℕ) (t : ℕ) where
       let i = count-less low ts q (next-found low ts q e .above) in
       let j = count-less t ts q k in
       ap (passing newer-test) (places-next ts n low q e)
-      ∙ passing-met newer-test q (placesAbove n (getD ts q 0) ts) (test q) (ap (λ (b : Bool). test q && b) (lt-ltb t (getD ts q 0) k) ∙ and-true (test q))
+      ∙ passing-met newer-test q (placesAbove n (getD ts q 0) ts) (test q)
+      (ap (λ (b : Bool). test q && b) (lt-ltb t (getD ts q 0) k) ∙ and-true (test q))
       ∙ ap (λ (ps : List ℕ). cond (test q) (q ∷ ps) ps) (newer-rest n m q k (omega arith) (omega arith))
       ∙ sym (passing-met test q (placesAbove m (getD ts q 0) ts) (test q) refl)
       ∙ sym (ap (passing test) (places-next ts m t q (next-too low q h k e)))
@@ -82,7 +83,8 @@ module _ (test : ℕ → Bool) (ts : List ℕ) (t : ℕ) where
   passing-newer (suc n) m low h k w = go (nextAbove low ts) refl (λ l. passing-newer n m l)
     where
       go : (r : Found) → nextAbove low ts ≡ r
-          → ((l : ℕ) → l ≤ t → countAbove l ts ≤ n → countAbove t ts ≤ m → passing newer-test (placesAbove n l ts) ≡ passing test (placesAbove m t ts))
+          → ((l : ℕ) → l ≤ t → countAbove l ts ≤ n → countAbove t ts ≤ m
+          → passing newer-test (placesAbove n l ts) ≡ passing test (placesAbove m t ts))
           → passing newer-test (placesAbove (suc n) low ts) ≡ passing test (placesAbove m t ts)
       go Nothing e ih = newer-none (suc n) m low h e
       go (At q) e ih = on (ltb t (getD ts q 0)) refl
@@ -100,4 +102,5 @@ pub order-newer : (test : ℕ → Bool) (t : ℕ) (fs : List File)
     → passing (λ p. test p && ltb t (getD (times fs) p 0)) (inOrder 0 fs) ≡ passing test (inOrder t fs)
 order-newer test t fs =
     let size : length (times fs) ≡ length fs = length-map fs uploaded in
-    passing-newer test (times fs) t (length fs) (length fs) 0 (omega arith) (omega (arith, count-le 0 (times fs))) (omega (arith, count-le t (times fs)))
+    passing-newer test (times fs) t (length fs) (length fs) 0 (omega arith) (omega (arith, count-le 0 (times fs)))
+    (omega (arith, count-le t (times fs)))

@@ -82,7 +82,8 @@ module _ (good-after : (s : Start) → legal s ≡ true → (h : History) → Go
         small = call-small sv l (i .small) c k;
         stamped = λ p m.
             go p m
-            (complete-new (sv .last) (filesOf sv l) (callOf sv l c .done .server .last) (filesOf (callOf sv l c .done .server) (callOf sv l c .lent)) (call-change sv l g c) p m);
+            (complete-new (sv .last) (filesOf sv l) (callOf sv l c .done .server .last)
+            (filesOf (callOf sv l c .done .server) (callOf sv l c .lent)) (call-change sv l g c) p m);
       }
     where
       go : (p : ℕ) → Complete (filesOf (callOf sv l c .done .server) (callOf sv l c .lent) p)
@@ -99,6 +100,7 @@ module _ (good-after : (s : Start) → legal s ≡ true → (h : History) → Go
       record {
         small = omega arith;
         stamped = λ p c.
-            absurd (let t = time-given (made s .server) (made s .lent) (facts (made s .server) (made s .lent) (good-after s e start)) p c in omega arith);
+            absurd (let t = time-given (made s .server) (made s .lent)
+            (facts (made s .server) (made s .lent) (good-after s e start)) p c in omega arith);
       }
   after-known s e (h ▸ c) k = call-known (after s h .server) (after s h .lent) (good-after s e h) c (k .1) (after-known s e h (k .0))

@@ -44,7 +44,8 @@ use Rattle.paging.proofs.Hearing.{packet-heard}
 -- ---- the call goes through
 
 -- none of 33, 35, 34 and 32 is given
-pub goes : (sv : Server) (l : Lent) (session : ℕ) (out : List ℕ) → Good sv l → MayAsk sv session out → checkOf sv l session true (length out) ≡ Go (session - 1)
+pub goes : (sv : Server) (l : Lent) (session : ℕ) (out : List ℕ) → Good sv l → MayAsk sv session out
+    → checkOf sv l session true (length out) ≡ Go (session - 1)
 unfolding checkParts sessionCheck inState
 goes sv l session out g m =
     rw (
@@ -59,7 +60,9 @@ goes sv l session out g m =
 -- ---- information in 256 bytes
 
 padded-length : (info : List ℕ) → length info ≤ 256 → length (padded info) ≡ 256
-padded-length info h = length-append info (replicate (256 - length info) 0) ∙ (let e : length (replicate {A = ℕ} (256 - length info) 0) ≡ 256 - length info = length-replicate (256 - length info) 0 in omega arith)
+padded-length info h =
+    length-append info (replicate (256 - length info) 0)
+    ∙ (let e : length (replicate {A = ℕ} (256 - length info) 0) ≡ 256 - length info = length-replicate (256 - length info) 0 in omega arith)
 
 padded-front : (info : List ℕ) → take (length info) (padded info) ≡ info
 padded-front info = take-append-seam info (replicate (256 - length info) 0)
@@ -120,7 +123,8 @@ module _ (sv : Server) (l : Lent) (i clock : ℕ) (eq out : List ℕ) (some : 1 
 
   abbrev pub names-left : List ℕ
   names-left =
-      withPart (i * sv .most) (sv .most) (listed (sv .most) (numbersAt (tablePart sv l) selection) (part (i * sv .most) (sv .most) (l .selected))) (l .selected)
+      withPart (i * sv .most) (sv .most) (listed (sv .most) (numbersAt (tablePart sv l) selection) (part (i * sv .most) (sv .most) (l .selected)))
+      (l .selected)
 
   abbrev pub slices-left : Lent
   slices-left =
@@ -141,7 +145,8 @@ module _ (sv : Server) (l : Lent) (i clock : ℕ) (eq out : List ℕ) (some : 1 
   unfolding actOf putBack sizeIn
   acts s d =
       rw (
-        decides s (sv .links) (length eq) (padded eq) (files (tablePart sv l)) (part (i * sv .most) (sv .most) (l .selected)) (padded-length eq short) d,
+        decides s (sv .links) (length eq) (padded eq) (files (tablePart sv l)) (part (i * sv .most) (sv .most) (l .selected))
+            (padded-length eq short) d,
         carries s (sv .last) clock (sv .most) eq (partsOf sv i (mem (l .disk) (l .map) (l .owner) (l .table) (l .selected))) some few
             (let p = part-length i (sv .most) (l .selected) names in omega arith) short valid,
       )

@@ -43,12 +43,14 @@ fine k (rel r ∷ ss) st t h = go (pushed (leaf k r) st) (λ ts. fine (suc k) ss
     go (some ts) ih e = ih ts (unfold bind in e)
 fine k (and ∷ ss) st t h = go (joined both st) (λ ts. fine k ss ts t) h
   where
-    go : (o : Option (List Tree)) → ((ts : List Tree) → run leaf both either k ss ts ≡ some t → Fine ss) → bind o (run leaf both either k ss) ≡ some t → Fine ss
+    go : (o : Option (List Tree)) → ((ts : List Tree) → run leaf both either k ss ts ≡ some t → Fine ss)
+        → bind o (run leaf both either k ss) ≡ some t → Fine ss
     go none ih e = absurd (no-tree t (unfold bind in e))
     go (some ts) ih e = ih ts (unfold bind in e)
 fine k (or ∷ ss) st t h = go (joined either st) (λ ts. fine k ss ts t) h
   where
-    go : (o : Option (List Tree)) → ((ts : List Tree) → run leaf both either k ss ts ≡ some t → Fine ss) → bind o (run leaf both either k ss) ≡ some t → Fine ss
+    go : (o : Option (List Tree)) → ((ts : List Tree) → run leaf both either k ss ts ≡ some t → Fine ss)
+        → bind o (run leaf both either k ss) ≡ some t → Fine ss
     go none ih e = absurd (no-tree t (unfold bind in e))
     go (some ts) ih e = ih ts (unfold bind in e)
 fine k (bad ∷ ss) st t h = absurd (no-tree t h)
@@ -100,7 +102,8 @@ one-more c kept bs (inl e) = inl (ap (λ (l : List ℕ). c ∷ l) e)
 one-more c kept bs (inr e) = inr (ap (λ (l : List ℕ). c ∷ l) e)
 
 at-token : (c : ℕ) (bs : List ℕ) → ((n : ℕ) → n ≤ length bs → Fine (symbolsPast n bs) → Kept (unmarkedPast n bs) bs)
-    → (t : Token) → tokenOf (c ∷ bs) ≡ t → Fine (follow t (c ∷ bs) (λ n. symbolsPast n bs)) → Kept (beforeMark t (λ n. c ∷ unmarkedPast n bs)) (c ∷ bs)
+    → (t : Token) → tokenOf (c ∷ bs) ≡ t → Fine (follow t (c ∷ bs) (λ n. symbolsPast n bs))
+    → Kept (beforeMark t (λ n. c ∷ unmarkedPast n bs)) (c ∷ bs)
 unfolding follow beforeMark
 at-token c bs ih Bad e f = absurd f
 at-token c bs ih End e f = inr (sym (end-is c bs e))

@@ -75,7 +75,8 @@ module _ (s : Session) (last : Last) (small : last .time < 4294967296) where
   finish-small : (place clock : ℕ) (disk map owner table : List ℕ) → clock < 4294967296
       → Small (upload.finishTurn s last place clock disk map owner table .turn)
   unfolding upload.judgedAt upload.timed upload.finishAs upload.withDisk upload.withBlocks upload.discardTurn upload.acceptTurn
-  finish-small place clock disk map owner table c = go (eqb (checkOf disk owner table place) 0) refl (eqb (last .time) 4294967295) refl (ltb clock (last .time + 1)) refl
+  finish-small place clock disk map owner table c =
+      go (eqb (checkOf disk owner table place) 0) refl (eqb (last .time) 4294967295) refl (ltb clock (last .time + 1)) refl
     where
       go : (a : Bool) → eqb (checkOf disk owner table place) 0 ≡ a → (b : Bool) → eqb (last .time) 4294967295 ≡ b
           → (d : Bool) → ltb clock (last .time + 1) ≡ d
@@ -84,7 +85,8 @@ module _ (s : Session) (last : Last) (small : last .time < 4294967296) where
       go true e true f d h = rw (e, f) small
       go true e false f true h =
           rw (e, f, h)
-          (accepted-small (completeOf disk owner table place (last .time + 1) .answer) (last .time + 1) (omega (arith, eqb-false (last .time) 4294967295 f)))
+          (accepted-small (completeOf disk owner table place (last .time + 1) .answer) (last .time + 1)
+          (omega (arith, eqb-false (last .time) 4294967295 f)))
       go true e false f false h = rw (e, f, h) (accepted-small (completeOf disk owner table place clock .answer) clock c)
 
   selected-small : (r : Selects) → Small (download.selectedAs s last r .turn)
@@ -95,7 +97,8 @@ module _ (s : Session) (last : Last) (small : last .time < 4294967296) where
       go true e = rw e small
       go false e = rw e small
 
-  select-small : (most size : ℕ) (info disk owner table selected : List ℕ) → Small (download.selectTurn s last most size info disk owner table selected .turn)
+  select-small : (most size : ℕ) (info disk owner table selected : List ℕ)
+      → Small (download.selectTurn s last most size info disk owner table selected .turn)
   unfolding download.selectTurn
   select-small most size info disk owner table selected = go (ltb (length info) size) refl
     where
@@ -103,11 +106,13 @@ module _ (s : Session) (last : Last) (small : last .time < 4294967296) where
       go true e = rw e small
       go false e = rw e (selected-small (selectOf (take size info) disk owner table selected most))
 
-  send-small : (place offset lock passed : ℕ) (disk owner table : List ℕ) → Small (download.beginTurn s last place offset lock passed disk owner table)
+  send-small : (place offset lock passed : ℕ) (disk owner table : List ℕ)
+      → Small (download.beginTurn s last place offset lock passed disk owner table)
   unfolding download.beginTurn
   send-small place offset lock passed disk owner table = go (ltb (destinationsAt disk owner table place) lock) refl
     where
-      go : (b : Bool) → ltb (destinationsAt disk owner table place) lock ≡ b → Small (download.beginTurn s last place offset lock passed disk owner table)
+      go : (b : Bool) → ltb (destinationsAt disk owner table place) lock ≡ b
+          → Small (download.beginTurn s last place offset lock passed disk owner table)
       go true e = rw e small
       go false e = rw e small
 
@@ -115,7 +120,8 @@ module _ (s : Session) (last : Last) (small : last .time < 4294967296) where
   unfolding download.confirmTurn
   confirm-small place destination disk owner table = go (ltb (destinationsAt disk owner table place) destination) refl
     where
-      go : (b : Bool) → ltb (destinationsAt disk owner table place) destination ≡ b → Small (download.confirmTurn s last place destination disk owner table)
+      go : (b : Bool) → ltb (destinationsAt disk owner table place) destination ≡ b
+          → Small (download.confirmTurn s last place destination disk owner table)
       go true e = rw e small
       go false e = rw e small
 
@@ -144,7 +150,8 @@ module _ (sv : Server) (l : Lent) (small : sv .last .time < 4294967296) where
   unfolding stepOf heardBy answeredBy actOf putBack
   heard-small i clock input out c = carry-small _ (sv .last) small _ clock (sv .most) _ _ _ c
 
-  receive-small : (k : Check) (clock : ℕ) (input out : List ℕ) → clock < 4294967296 → onCheck k sv l out clock input .done .server .last .time < 4294967296
+  receive-small : (k : Check) (clock : ℕ) (input out : List ℕ) → clock < 4294967296
+      → onCheck k sv l out clock input .done .server .last .time < 4294967296
   unfolding onCheck
   receive-small (Refuse n) clock input out c = small
   receive-small (Go i) clock input out c = heard-small i clock input out c

@@ -70,7 +70,8 @@ rises-lower a b [] h r = tt
 rises-lower a b (e ∷ es) h r = (omega (arith, r .0), r .1)
 
 -- what was given, and then a page above all of it
-pub rises-append : (a t : ℕ) (xs ys : List Entry) → a ≤ t → Rises a xs → ((e : Entry) → List·Memᴰ e xs → e .time ≤ t) → Rises t ys → Rises a (xs ++ ys)
+pub rises-append : (a t : ℕ) (xs ys : List Entry) → a ≤ t → Rises a xs → ((e : Entry) → List·Memᴰ e xs → e .time ≤ t) → Rises t ys
+    → Rises a (xs ++ ys)
 rises-append a t [] ys h r k s = rises-lower a t ys h s
 rises-append a t (x ∷ xs) ys h r k s =
     (r .0, rises-append (x .time) t xs ys (k x (List·Memᴰ·head refl)) (r .1) (λ e m. k e (List·Memᴰ·tail m)) s)
@@ -178,7 +179,8 @@ rises-once t (x ∷ es) r same p q z e = go p q z e (rises-once (x .time) es (r 
         let s = same x (n .entry) (List·Memᴰ·head refl) (List·Memᴰ·tail (n .inside)) (e ∙ sym (n .number)) in
         omega (arith, rises-above (x .time) es (r .1) (n .entry) (n .inside))
 
-    go : (p q : ℕ) → (getD (numbersIn (x ∷ es)) p 0 ≡ 0 → ⊥) → getD (numbersIn (x ∷ es)) p 0 ≡ getD (numbersIn (x ∷ es)) q 0 → Distinct (numbersIn es) → p ≡ q
+    go : (p q : ℕ) → (getD (numbersIn (x ∷ es)) p 0 ≡ 0 → ⊥) → getD (numbersIn (x ∷ es)) p 0 ≡ getD (numbersIn (x ∷ es)) q 0
+        → Distinct (numbersIn es) → p ≡ q
     go zero zero z e ih = refl
     go zero (suc k) z e ih = absurd (apart k z e)
     go (suc k) zero z e ih = absurd (apart k (λ y. z (e ∙ y)) (sym e))

@@ -55,12 +55,14 @@ pub facts : (sv : Server) (l : Lent) → Good sv l → Facts sv l
 facts sv l g =
     let p =
     both-true (sizesFit (sv .blocks) (sv .files) (sv .sessions) (sv .most))
-    (roomFits (sv .blocks) (sv .files) (sv .sessions) (sv .most) (length (l .disk)) (length (l .map)) (length (l .owner)) (length (l .table)) (length (l .selected)) (length (l .held)))
+    (roomFits (sv .blocks) (sv .files) (sv .sessions) (sv .most) (length (l .disk)) (length (l .map)) (length (l .owner)) (length (l .table))
+    (length (l .selected)) (length (l .held)))
     (g .fits) in
     let z = sizes-true (sv .blocks) (sv .files) (sv .sessions) (sv .most) (p .0) in
     let y = sizes-least (sv .blocks) (sv .files) (sv .sessions) (sv .most) (p .0) in
     let r =
-    room-true (sv .blocks) (sv .files) (sv .sessions) (sv .most) (length (l .disk)) (length (l .map)) (length (l .owner)) (length (l .table)) (length (l .selected)) (length (l .held))
+    room-true (sv .blocks) (sv .files) (sv .sessions) (sv .most) (length (l .disk)) (length (l .map)) (length (l .owner)) (length (l .table))
+    (length (l .selected)) (length (l .held))
     (p .1) in
     let n : length (ownerPart sv l) ≡ sv .blocks = length-take-le (sv .blocks) (l .owner) (r .owner) in
     record {

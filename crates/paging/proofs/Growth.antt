@@ -58,7 +58,8 @@ module _ (last : Last) (before : Files) (last′ : Last) (after : Files) where
   -- ---- those that come
 
   -- one place changes, where no complete file comes
-  other-new : (place p : ℕ) → uploaded (after place .file) ≡ 0 → Others before after place → Complete (after p) → (after p ≡ before p) ⊎ New last last′ (after p)
+  other-new : (place p : ℕ) → uploaded (after place .file) ≡ 0 → Others before after place → Complete (after p)
+      → (after p ≡ before p) ⊎ New last last′ (after p)
   other-new place p z o c =
       by-equal p place
       (λ e. absurd (let u : uploaded (after p .file) ≡ 0 = ap (λ (q : ℕ). uploaded (after q .file)) e ∙ z in omega arith))
@@ -85,8 +86,11 @@ module _ (last : Last) (before : Files) (last′ : Last) (after : Files) where
 
   pub complete-new : Change last before last′ after → (p : ℕ) → Complete (after p) → (after p ≡ before p) ⊎ New last last′ (after p)
   complete-new (same r) p c = inl (r .files p)
-  complete-new (begins r) p c = other-new (r .place) p (file-here (r .place) _ [] (r .here) (no-time (newFile (last .number + 1) (r .size)) refl)) (r .others) c
-  complete-new (receives r) p c = other-new (r .place) p (file-here (r .place) _ _ (r .here) (no-time (grown (length (r .more)) (before (r .place) .file)) (r .partial .time))) (r .others) c
+  complete-new (begins r) p c =
+      other-new (r .place) p (file-here (r .place) _ [] (r .here) (no-time (newFile (last .number + 1) (r .size)) refl)) (r .others) c
+  complete-new (receives r) p c =
+      other-new (r .place) p (file-here (r .place) _ _ (r .here) (no-time (grown (length (r .more)) (before (r .place) .file)) (r .partial .time)))
+      (r .others) c
   complete-new (completes r) p c =
       by-equal p (r .place) (λ e. inr (subst (λ (q : ℕ). New last last′ (after q)) (sym e) (new-here r))) (λ n. inl (r .others p n))
   complete-new (discards r) p c = other-new (r .place) p (file-here (r .place) noFile [] (r .here) (no-time noFile refl)) (r .others) c

@@ -74,7 +74,8 @@ same-call : (input p q : List ℕ) (n : ℕ) → length p ≡ 258 → length q �
     → call byte (record { count = n; part = p }) input ≡ call byte (record { count = n; part = q }) input
 unfolding call
 same-call [] p q n lp lq h s e z = absurd (none-some e z)
-same-call (b ∷ bs) p q n lp lq h s e z = go (ltb (n + 1) 2) refl (ltb 256 (announcedIn p′)) refl (ltb (n + 1) (2 + announcedIn p′)) refl (same-call bs p′ q′ (n + 1) lp′ lq′)
+same-call (b ∷ bs) p q n lp lq h s e z =
+    go (ltb (n + 1) 2) refl (ltb 256 (announcedIn p′)) refl (ltb (n + 1) (2 + announcedIn p′)) refl (same-call bs p′ q′ (n + 1) lp′ lq′)
   where
     p′ : List ℕ
     p′ = set p n b
@@ -106,7 +107,8 @@ same-call (b ∷ bs) p q n lp lq h s e z = go (ltb (n + 1) 2) refl (ltb 256 (ann
         → byte (record { count = n; part = p }) b ≡ ends none-held v
         → byte (record { count = n; part = q }) b ≡ ends none-held v
         → call byte (record { count = n; part = p }) (b ∷ bs) ≡ call byte (record { count = n; part = q }) (b ∷ bs)
-    stop v f g = step-ends byte (record { count = n; part = p }) none-held b bs v f ∙ sym (step-ends byte (record { count = n; part = q }) none-held b bs v g)
+    stop v f g = step-ends byte (record { count = n; part = p }) none-held b bs v f
+        ∙ sym (step-ends byte (record { count = n; part = q }) none-held b bs v g)
 
     go : (x : Bool) → ltb (n + 1) 2 ≡ x → (y : Bool) → ltb 256 (announcedIn p′) ≡ y → (w : Bool) → ltb (n + 1) (2 + announcedIn p′) ≡ w
         → (n + 1 < 258 → take (n + 1) p′ ≡ take (n + 1) q′ → (e : Event) → call byte (record { count = n + 1; part = p′ }) bs .event ≡ some e
@@ -128,7 +130,8 @@ same-call (b ∷ bs) p q n lp lq h s e z = go (ltb (n + 1) 2) refl (ltb 256 (ann
         let a = same-announced (n + 1) p′ q′ s′ m in
         stop (packetIn p′) (unfold byte in judged-ends (n + 1) p′ x u v)
         (unfold byte in judged-ends (n + 1) q′ x (rw (← a) u) (rw (← a) v)
-        ∙ ap (ends none-held) (sym (same-packet (n + 1) p′ q′ s′ (ltb-false (n + 1) (2 + announcedIn p′) v) m (omega (arith, lp′)) (omega (arith, lq′)))))
+        ∙ ap (ends none-held)
+        (sym (same-packet (n + 1) p′ q′ s′ (ltb-false (n + 1) (2 + announcedIn p′) v) m (omega (arith, lp′)) (omega (arith, lq′)))))
 
 -- ---- THE LAW: a whole packet is heard
 
@@ -147,5 +150,6 @@ module _ (part : List ℕ) (kind : ℕ) (info : List ℕ) (size : length part �
   unfolding receiveOf answerOf answerBy
   packet-heard =
       let same : call byte (record { count = 0; part = part }) (packetOf kind info) ≡ call byte none-held (packetOf kind info) =
-      sym (same-call (packetOf kind info) (replicate 258 0) part 0 refl size (omega arith) refl (packet kind info) (ap (λ (c : Call Held Event). c .event) called)) in
+      sym (same-call (packetOf kind info) (replicate 258 0) part 0 refl size (omega arith) refl (packet kind info)
+      (ap (λ (c : Call Held Event). c .event) called)) in
       rw (eq-eqb (length part) 258 size, same, called)

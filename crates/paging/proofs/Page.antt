@@ -69,7 +69,8 @@ yes-same (Refused n) = refl
 
 -- ---- the selection for the narrowed equation
 
-module _ (sv : Server) (l : Lent) (g : Facts sv l) (eq : List ℕ) (t : ℕ) (valid : validityOf eq ≡ 0) (room : length eq + 9 ≤ 256) (small : t < 4294967296)
+module _ (sv : Server) (l : Lent) (g : Facts sv l) (eq : List ℕ) (t : ℕ) (valid : validityOf eq ≡ 0) (room : length eq + 9 ≤ 256)
+    (small : t < 4294967296)
     (st : AllStamped (filesOf sv l)) where
   narrow-short : length (narrowed eq t) ≤ 256
   narrow-short = omega (arith, narrowed-length eq t)
@@ -83,7 +84,8 @@ module _ (sv : Server) (l : Lent) (g : Facts sv l) (eq : List ℕ) (t : ℕ) (va
       meets-is (mapPart sv l) (narrowed eq t) (l .disk) (ownerPart sv l) (tablePart sv l) (sv .last .number) (sv .last .time) (g .sound) (g .sizes)
       narrow-short p (uploaded-file (recordAt (tablePart sv l) p) (λ z. omega arith))
       ∙ yes-same (answerOf (narrowed eq t) (bytesAt (l .disk) (ownerPart sv l) (tablePart sv l) p))
-      ∙ narrowed-selects t (uploaded (recordAt (tablePart sv l) p)) (fieldsOf (bytesAt (l .disk) (ownerPart sv l) (tablePart sv l) p)) (s .upload .more) small (s .small)
+      ∙ narrowed-selects t (uploaded (recordAt (tablePart sv l) p)) (fieldsOf (bytesAt (l .disk) (ownerPart sv l) (tablePart sv l) p))
+      (s .upload .more) small (s .small)
       (s .upload .first) eq valid (omega arith)
       ∙ ap (λ (u : ℕ). matching eq (filesOf sv l p) && ltb t u) (sym (key-at Time (files (tablePart sv l)) p))
 
@@ -102,12 +104,14 @@ written-part : (a n count : ℕ) (numbers rest sel : List ℕ) → a ≤ length 
     → take count (part a n (withPart a n (numbers ++ rest) sel)) ≡ numbers
 written-part a n count numbers rest sel h k e =
     take-take count n (drop a (withPart a n (numbers ++ rest) sel)) k
-    ∙ ap (take count) (drop-at (take a sel) ((numbers ++ rest) ++ drop n (drop a sel)) a (length-take-le a sel h) ∙ append-assoc numbers rest (drop n (drop a sel)))
+    ∙ ap (take count) (drop-at (take a sel) ((numbers ++ rest) ++ drop n (drop a sel)) a (length-take-le a sel h)
+    ∙ append-assoc numbers rest (drop n (drop a sel)))
     ∙ take-at numbers (rest ++ drop n (drop a sel)) count e
 
 -- ---- THEOREM
 
-module _ (sv : Server) (l : Lent) (good : Good sv l) (st : AllStamped (filesOf sv l)) (eq : List ℕ) (valid : validityOf eq ≡ 0) (room : length eq + 9 ≤ 256)
+module _ (sv : Server) (l : Lent) (good : Good sv l) (st : AllStamped (filesOf sv l)) (eq : List ℕ) (valid : validityOf eq ≡ 0)
+    (room : length eq + 9 ≤ 256)
     (t : ℕ) (small : t < 4294967296) (session clock : ℕ) (out : List ℕ) (may : MayAsk sv session out) where
   g : Facts sv l
   g = facts sv l good

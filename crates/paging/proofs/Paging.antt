@@ -66,7 +66,11 @@ module _ (sv : Server) (l : Lent) (g : Facts sv l) (eq : List ℕ) (t : ℕ) whe
 
   pub rises-entries : (u : ℕ) (ps : List ℕ) → Rising u (times fs) ps → Rises u (map (entryAt (filesOf sv l)) ps)
   rises-entries u [] r = tt
-  rises-entries u (p ∷ ps) r = (rw (time-at p) at (r .0), subst (λ (v : ℕ). Rises v (map (entryAt (filesOf sv l)) ps)) (time-at p) (rises-entries (getD (times fs) p 0) ps (r .1)))
+  rises-entries u (p ∷ ps) r = (
+    rw (time-at p) at (r .0),
+    subst (λ (v : ℕ). Rises v (map (entryAt (filesOf sv l)) ps)) (time-at p)
+        (rises-entries (getD (times fs) p 0) ps (r .1)),
+  )
 
   -- a place among those above t
   pub record Due (p : ℕ) : Type 0 where
@@ -117,7 +121,8 @@ inv-begins sv l eq =
     }
 
 -- a call changes no complete file, and completes only with a later time
-module _ (sv : Server) (l : Lent) (sv′ : Server) (l′ : Lent) (change : Change (sv .last) (filesOf sv l) (sv′ .last) (filesOf sv′ l′)) (eq : List ℕ) where
+module _ (sv : Server) (l : Lent) (sv′ : Server) (l′ : Lent) (change : Change (sv .last) (filesOf sv l) (sv′ .last) (filesOf sv′ l′))
+    (eq : List ℕ) where
   stands-kept : (e : Entry) → Stands (state sv l) eq e → Stands (state sv′ l′) eq e
   stands-kept e k =
       let s = complete-kept (sv .last) (filesOf sv l) (sv′ .last) (filesOf sv′ l′) change (k .place) (k .complete) in
@@ -157,7 +162,8 @@ by-le {P} a b f g = go (leb a b) refl
     go true e = f (leb-true a b e)
     go false e = g (leb-false a b e)
 
-module _ (sv : Server) (l : Lent) (g : Facts sv l) (sv′ : Server) (l′ : Lent) (g′ : Facts sv′ l′) (unchanged : (p : ℕ) → filesOf sv′ l′ p ≡ filesOf sv l p)
+module _ (sv : Server) (l : Lent) (g : Facts sv l) (sv′ : Server) (l′ : Lent) (g′ : Facts sv′ l′)
+    (unchanged : (p : ℕ) → filesOf sv′ l′ p ≡ filesOf sv l p)
     (st : AllStamped (filesOf sv l)) (eq : List ℕ) (t : ℕ) where
   abbrev places : List ℕ
   places = due sv l g eq t
@@ -171,7 +177,8 @@ module _ (sv : Server) (l : Lent) (g : Facts sv l) (sv′ : Server) (l′ : Lent
   page-rises : Rises t page
   page-rises =
       subst (Rises t)
-      (map-same (entryAt (filesOf sv l)) (entryAt (filesOf sv′ l′)) places (λ p m. ap (λ (v : View). entry (v .file .number) (uploaded (v .file))) (sym (unchanged p))))
+      (map-same (entryAt (filesOf sv l)) (entryAt (filesOf sv′ l′)) places
+      (λ p m. ap (λ (v : View). entry (v .file .number) (uploaded (v .file))) (sym (unchanged p))))
       (rises-entries sv l g eq t t places (due-rises sv l g eq t))
 
   -- a file of the page
@@ -223,7 +230,8 @@ module _ (sv : Server) (l : Lent) (g : Facts sv l) (sv′ : Server) (l′ : Lent
         all = λ p c m h.
             by-le (uploaded (filesOf sv′ l′ p .file)) t (λ k. in-left (entryAt (filesOf sv′ l′) p) given page (i .all p c m k))
             (λ k. in-right (entryAt (filesOf sv′ l′) p) given page
-            (⊎-elim (λ (j : List·Memᴰ (entryAt (filesOf sv′ l′) p) page). j) (λ (j : Beyond sv l g eq t p). absurd (not-beyond p k h j (newest-is t page))) (page-or-beyond p m k)));
+            (⊎-elim (λ (j : List·Memᴰ (entryAt (filesOf sv′ l′) p) page). j)
+            (λ (j : Beyond sv l g eq t p). absurd (not-beyond p k h j (newest-is t page))) (page-or-beyond p m k)));
       }
     where
       newest-low : (newestOf t page ≡ t) ⊎ Of page (newestOf t page) → newestOf t page ≤ sv′ .last .time
@@ -243,7 +251,8 @@ module _ (sv : Server) (l : Lent) (g : Facts sv l) (sv′ : Server) (l′ : Lent
           omega (arith, o .time, same-time (q .place), same-time p)
 
   -- a page shorter than MAXSEL is the last one
-  last-page : (given : List Entry) → Inv sv′ l′ eq t given → length page < sv .most → (p : ℕ) → Complete (filesOf sv′ l′ p) → matching eq (filesOf sv′ l′ p) ≡ true
+  last-page : (given : List Entry) → Inv sv′ l′ eq t given → length page < sv .most → (p : ℕ) → Complete (filesOf sv′ l′ p)
+      → matching eq (filesOf sv′ l′ p) ≡ true
       → List·Memᴰ (entryAt (filesOf sv′ l′) p) (given ++ page)
   last-page given i h p c m =
       by-le (uploaded (filesOf sv′ l′ p .file)) t (λ k. in-left (entryAt (filesOf sv′ l′) p) given page (i .all p c m k))
@@ -253,17 +262,20 @@ module _ (sv : Server) (l : Lent) (g : Facts sv l) (sv′ : Server) (l′ : Lent
       (page-or-beyond p m k)))
 
   -- the numbers of the session's page, and the times that are read for them
-  own-time : (p : ℕ) → t < uploaded (filesOf sv l p .file) → timeOf (files (tablePart sv′ l′)) (filesOf sv′ l′ p .file .number) ≡ uploaded (filesOf sv′ l′ p .file)
+  own-time : (p : ℕ) → t < uploaded (filesOf sv l p .file)
+      → timeOf (files (tablePart sv′ l′)) (filesOf sv′ l′ p .file .number) ≡ uploaded (filesOf sv′ l′ p .file)
   own-time p h =
       ap (timeAt (files (tablePart sv′ l′)))
-      (find-own (files (tablePart sv′ l′)) (g′ .sound .files .numbers) p (uploaded-file (filesOf sv′ l′ p .file) (λ z. let a = same-time p in omega arith)))
+      (find-own (files (tablePart sv′ l′)) (g′ .sound .files .numbers) p
+      (uploaded-file (filesOf sv′ l′ p .file) (λ z. let a = same-time p in omega arith)))
 
   page-entries : (session : ℕ) → pageOf sv′ l′ session ≡ oldest sv l eq t → pageIn (state sv′ l′) session ≡ page
   unfolding pageIn
   page-entries session e =
       ap (map (λ n. entry n (timeOf (files (tablePart sv′ l′)) n))) e
       ∙ map-map (λ n. entry n (timeOf (files (tablePart sv′ l′)) n)) (λ place. recordAt (tablePart sv l) place .number) places
-      ∙ map-same (λ p. entry (filesOf sv l p .file .number) (timeOf (files (tablePart sv′ l′)) (filesOf sv l p .file .number))) (entryAt (filesOf sv′ l′)) places
+      ∙ map-same (λ p. entry (filesOf sv l p .file .number) (timeOf (files (tablePart sv′ l′)) (filesOf sv l p .file .number)))
+      (entryAt (filesOf sv′ l′)) places
       (λ p m.
       ap (λ (n : ℕ). entry n (timeOf (files (tablePart sv′ l′)) n)) (ap (λ (v : View). v .file .number) (sym (unchanged p)))
       ∙ ap (entry (filesOf sv′ l′ p .file .number)) (own-time p (due-is sv l g eq t p m .above)))
@@ -310,7 +322,8 @@ module _ (good-after : (s : Start) → legal s ≡ true → (h : History) → Go
     given-page = page (after s h .server) (after s h .lent) (here h) (after s h′ .server) (after s h′ .lent) (here h′) same-files stamped-now eq t
 
     entries : pageIn (after s h′) session ≡ given-page
-    entries = page-entries (after s h .server) (after s h .lent) (here h) (after s h′ .server) (after s h′ .lent) (here h′) same-files stamped-now eq t session oldest-now
+    entries = page-entries (after s h .server) (after s h .lent) (here h) (after s h′ .server) (after s h′ .lent)
+        (here h′) same-files stamped-now eq t session oldest-now
       where
         oldest-now : pageOf (after s h′ .server) (after s h′ .lent) session ≡ oldest (after s h .server) (after s h .lent) eq t
         oldest-now = unfold after in answers .page
@@ -321,7 +334,8 @@ module _ (good-after : (s : Start) → legal s ≡ true → (h : History) → Go
     with-page : InvAt h′ (newestOf t (pageIn (after s h′) session)) (given ++ pageIn (after s h′) session)
     with-page =
         subst (λ (pg : List Entry). InvAt h′ (newestOf t pg) (given ++ pg)) (sym entries)
-        (inv-asks (after s h .server) (after s h .lent) (here h) (after s h′ .server) (after s h′ .lent) (here h′) same-files stamped-now eq t given before-page)
+        (inv-asks (after s h .server) (after s h .lent) (here h) (after s h′ .server) (after s h′ .lent)
+        (here h′) same-files stamped-now eq t given before-page)
 
     page-stands : (e : Entry) → List·Memᴰ e (pageIn (after s h′) session) → Stands (after s h′) eq e
     page-stands e m =
@@ -336,15 +350,18 @@ module _ (good-after : (s : Start) → legal s ≡ true → (h : History) → Go
         let n = after-most s ok h in
         let z = ap length entries in
         subst (λ (pg : List Entry). List·Memᴰ (entryAt (filesOf (after s h′ .server) (after s h′ .lent)) p) (given ++ pg)) (sym entries)
-        (last-page (after s h .server) (after s h .lent) (here h) (after s h′ .server) (after s h′ .lent) (here h′) same-files stamped-now eq t given before-page
+        (last-page (after s h .server) (after s h .lent) (here h) (after s h′ .server) (after s h′ .lent)
+        (here h′) same-files stamped-now eq t given before-page
         (omega arith) p c m)
 
-  client-inv : (c : Client) → Allowed s eq c → Clocks (pagedBy s eq c .history) → InvAt (pagedBy s eq c .history) (pagedBy s eq c .newest) (pagedBy s eq c .given)
+  client-inv : (c : Client) → Allowed s eq c → Clocks (pagedBy s eq c .history)
+      → InvAt (pagedBy s eq c .history) (pagedBy s eq c .newest) (pagedBy s eq c .given)
   unfolding pagedBy
   client-inv (begins h) a k = inv-begins (after s h .server) (after s h .lent) eq
   client-inv (waits c call) a k = any-call (pagedBy s eq c .history) call (pagedBy s eq c .newest) (pagedBy s eq c .given) (client-inv c a (k .0))
   client-inv (asks c session clock out) a k =
-      with-page (pagedBy s eq c .history) (k .0) (pagedBy s eq c .newest) (pagedBy s eq c .given) (client-inv c (a .0) (k .0)) session clock out (a .1)
+      with-page (pagedBy s eq c .history) (k .0) (pagedBy s eq c .newest) (pagedBy s eq c .given) (client-inv c (a .0) (k .0)) session clock out
+      (a .1)
 
   client-stood : (c : Client) → Allowed s eq c → Clocks (pagedBy s eq c .history) → EachStood s eq c
   unfolding pagedBy
@@ -352,7 +369,8 @@ module _ (good-after : (s : Start) → legal s ≡ true → (h : History) → Go
   client-stood (waits c call) a k = client-stood c a (k .0)
   client-stood (asks c session clock out) a k = (
     client-stood c (a .0) (k .0),
-    page-stands (pagedBy s eq c .history) (k .0) (pagedBy s eq c .newest) (pagedBy s eq c .given) (client-inv c (a .0) (k .0)) session clock out (a .1),
+    page-stands (pagedBy s eq c .history) (k .0) (pagedBy s eq c .newest) (pagedBy s eq c .given) (client-inv c (a .0) (k .0)) session clock out
+        (a .1),
   )
 
   -- two entries with the same number are the same file
@@ -381,7 +399,8 @@ module _ (good-after : (s : Start) → legal s ≡ true → (h : History) → Go
             oldest-first = i .rises;
             every =
                 unfold pagedBy in
-                all-given (pagedBy s eq c .history) (k .0) (pagedBy s eq c .newest) (pagedBy s eq c .given) (client-inv c (a .0) (k .0)) session clock out (a .1) f;
+                all-given (pagedBy s eq c .history) (k .0) (pagedBy s eq c .newest) (pagedBy s eq c .given)
+                (client-inv c (a .0) (k .0)) session clock out (a .1) f;
           }
 
   -- what has been given is all that matches, oldest first
@@ -422,7 +441,8 @@ module _ (good-after : (s : Start) → legal s ≡ true → (h : History) → Go
       let h = pagedBy s eq c .history in
       let i = client-inv c a k in
       ap numbersIn (given-whole h (pagedBy s eq c .newest) (pagedBy s eq c .given) i (paging-from c a k f .every))
-      ∙ map-map (λ (e : Entry). e .number) (entryAt (filesOf (after s h .server) (after s h .lent))) (newerPlaces (after s h .server) (after s h .lent) eq 0)
+      ∙ map-map (λ (e : Entry). e .number) (entryAt (filesOf (after s h .server) (after s h .lent)))
+      (newerPlaces (after s h .server) (after s h .lent) eq 0)
 
 -- ---- THE THEOREMS
 
@@ -431,7 +451,8 @@ module _ (good-after : (s : Start) → legal s ≡ true → (h : History) → Go
     → Change (sv .last) (filesOf sv l) (callOf sv l c .done .server .last) (filesOf (callOf sv l c .done .server) (callOf sv l c .lent))) where
   pub page-answered : PageAnswer
   page-answered s ok h clocks eq valid room t small session clock out may =
-      page-answer (after s h .server) (after s h .lent) (good-after s ok h) (after-known good-after call-change s ok h clocks .stamped) eq valid room t small
+      page-answer (after s h .server) (after s h .lent) (good-after s ok h)
+      (after-known good-after call-change s ok h clocks .stamped) eq valid room t small
       session clock out may
 
   pub paging : Paging

@@ -40,7 +40,8 @@ record Put (i at : ℕ) (new pre bs : List ℕ) : Type 0 where
   stored : sets (pre ++ bs) (placeFrom i at (walk 0 bs .items) .at) new ≡ pre ++ rest
   items : walk 0 rest .items ≡ withBytes i new (walk 0 bs .items)
 
-module _ (i at : ℕ) (new pre : List ℕ) (a b n : ℕ) (cs : List ℕ) (some : eqb (a + 256 * b) 0 ≡ false) (fit : n ≤ length cs) (here : length pre ≡ at) where
+module _ (i at : ℕ) (new pre : List ℕ) (a b n : ℕ) (cs : List ℕ) (some : eqb (a + 256 * b) 0 ≡ false) (fit : n ≤ length cs)
+    (here : length pre ≡ at) where
   abbrev item : Field
   item = record { id = a + 256 * b; bytes = take n cs }
 
@@ -56,7 +57,8 @@ module _ (i at : ℕ) (new pre : List ℕ) (a b n : ℕ) (cs : List ℕ) (some :
         stored =
             rw (walked a b n cs some fit, e)
             (ap (λ (f : List ℕ). sets f (at + 3) new)
-            (ap (λ (f : List ℕ). pre ++ a ∷ b ∷ n ∷ f) (sym (take-append-drop n cs)) ∙ sym (append-assoc pre (a ∷ b ∷ n ∷ []) (take n cs ++ drop n cs)))
+            (ap (λ (f : List ℕ). pre ++ a ∷ b ∷ n ∷ f) (sym (take-append-drop n cs))
+            ∙ sym (append-assoc pre (a ∷ b ∷ n ∷ []) (take n cs ++ drop n cs)))
             ∙ sets-mid (pre ++ a ∷ b ∷ n ∷ []) (take n cs) (drop n cs) new (at + 3)
             (length-append pre (a ∷ b ∷ n ∷ []) ∙ ap (λ (k : ℕ). k + 3) here) (l ∙ sym (length-take-le n cs fit))
             ∙ append-assoc pre (a ∷ b ∷ n ∷ []) (new ++ drop n cs));
@@ -138,7 +140,8 @@ put (suc k) i at new pre bs s l h e = on (front i bs h) (put k)
             (ih i (at + (3 + f .n)) new (pre ++ f .a ∷ f .b ∷ f .n ∷ take (f .n) (f .cs)) (drop (f .n) (f .cs))
             (let z = ap length (f .split) in omega (arith, length-drop (f .n) (f .cs)))
             (length-append pre (f .a ∷ f .b ∷ f .n ∷ take (f .n) (f .cs)) ∙ (let z = length-take-le (f .n) (f .cs) (f .fit) in omega arith))
-            (let z : times i (walk 0 bs .items) ≡ times i (walk 0 (drop (f .n) (f .cs)) .items) = ap (times i) items ∙ times-miss i _ _ (eqb-false (f .a + 256 * f .b) i t) in omega arith)
+            (let z : times i (walk 0 bs .items) ≡ times i (walk 0 (drop (f .n) (f .cs)) .items) = ap (times i) items
+            ∙ times-miss i _ _ (eqb-false (f .a + 256 * f .b) i t) in omega arith)
             (e ∙ ap (λ (is : List Field). length (bytesOf i is)) items ∙ unfold bytesOf in rw t))
 
 -- ---- the four fields
