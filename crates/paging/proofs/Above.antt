@@ -13,7 +13,8 @@ use Rattle.table.specs.declared.Found.{Found}
 use Rattle.table.specs.declared.Found.the-variants.{Nothing, At}
 use Rattle.table.specs.Table.{times, uploaded}
 use Rattle.table.specs.Order.{nextAbove, placesAbove, inOrder}
-use Rattle.table.proofs.Ordering.{next-found, next-none, next-is, next-absent, countAbove, count-le, count-less, places-none, places-next, places-rise, places-same, rising-above}
+use Rattle.table.proofs.Ordering.{next-found, next-none, next-is, next-absent, countAbove, count-le, count-less, places-none, places-next}
+use Rattle.table.proofs.Ordering.{places-rise, places-same, rising-above}
 use Rattle.files.specs.Selection.{passing}
 
 -- tests that agree on the places

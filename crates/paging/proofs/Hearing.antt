@@ -13,7 +13,8 @@ use borrow.Author.Tests.{ltb-true, ltb-false, eq-eqb}
 use Rattle.packet.specs.declared.frame.Frame.the-variants.{Whole}
 use Rattle.packet.specs.Packet.{kindIn, packetOf}
 use Rattle.packet.specs.Machine.{more, ends, Call, further, call}
-use Rattle.packet.specs.Frame.{Held, Event, packet, too-long, none-held, announcedIn, packetIn, judged, byte, padded, heard, answerBy, answerOf, receiveOf}
+use Rattle.packet.specs.Frame.{Held, Event, packet, too-long, none-held, announcedIn, packetIn, judged, byte, padded, heard, answerBy, answerOf}
+use Rattle.packet.specs.Frame.{receiveOf}
 use Rattle.packet.proofs.Cut.{step-more, step-ends}
 use Rattle.packet.proofs.PacketLaws.{reads-back, info-back}
 use Rattle.packet.proofs.Agree.{reader-and-framing}

@@ -31,16 +31,14 @@ use Rattle.history.specs.Calls.{Call, callOf, state, Start, legal, History, _�
 use Rattle.history.specs.Good.{Good}
 use Rattle.history.specs.Change.{Files, Change}
 use Rattle.paging.specs.Client.{filesOf, Complete, matching, asking, MayAsk, pageOf, newerPlaces, oldest, Answers}
-use Rattle.paging.specs.Paging.{Entry, entry, timeAt, timeOf, pageIn, newestOf, Client, begins, waits, asks, Paged, pagedBy, Allowed, Finished, Clocks, Stands, EachStood, Rises, AllGiven, PageAnswer, Paging, PagingWhole}
+use Rattle.paging.specs.Paging.{Entry, entry, entryAt, timeAt, timeOf, pageIn, newestOf, Client, begins, waits, asks, Paged, pagedBy, Allowed}
+use Rattle.paging.specs.Paging.{Finished, Clocks, Stands, EachStood, Rises, AllGiven, PageAnswer, Paging, PagingWhole}
 use Rattle.paging.proofs.Page.{AllStamped, stamp-read, page-answer}
 use Rattle.paging.proofs.Facts.{Facts, facts}
 use Rattle.paging.proofs.Growth.{New, time-grows, complete-kept, complete-new, time-given}
 use Rattle.paging.proofs.After.{after-known, after-most}
-use Rattle.paging.proofs.Entries.{map-in, in-map, map-same, map-map, taken-in, in-left, in-right, in-either, rises-append, rises-unique, newest-known, newest-most, Of, newest-is, numbersIn, rises-once}
-
--- the file at a place, as it would be given
-abbrev pub entryAt : Files → ℕ → Entry
-entryAt fs p = entry (fs p .file .number) (uploaded (fs p .file))
+use Rattle.paging.proofs.Entries.{map-in, in-map, map-same, map-map, taken-in, in-left, in-right, in-either, rises-append, rises-unique}
+use Rattle.paging.proofs.Entries.{newest-known, newest-most, Of, newest-is, numbersIn, rises-once}
 
 -- ---- the files that a page has
 

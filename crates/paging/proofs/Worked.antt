@@ -9,7 +9,8 @@ use Rattle.packet.specs.Frame as packet
 use Rattle.packet.specs.Numbers.{number}
 use Rattle.header.specs.Items.{headOf, walk, marked, fieldsOf}
 use Rattle.header.specs.Items as header
-use Rattle.header.specs.Header.{listed, every, countIf, lengthIn, lengthFits, ordered, proper, complete, sumOf, checkItems, checkValues, verdict, placeFrom, headerOf}
+use Rattle.header.specs.Header.{listed, every, countIf, lengthIn, lengthFits, ordered, proper, complete, sumOf, checkItems, checkValues, verdict}
+use Rattle.header.specs.Header.{placeFrom, headerOf}
 use Rattle.header.specs.Header as headerHeader
 use Rattle.header.specs.Fields.{withFields, withSum, fieldsSet}
 use Rattle.equation.specs.Newer.{beforeMark, unmarkedPast}
@@ -40,8 +41,10 @@ use Rattle.session.specs.Reply.{tell, answered}
 use Rattle.decide.specs.Uplink.{onContinued, onUpload, onData, onEnd, onUplink}
 use Rattle.decide.specs.Downlink.{onFound, onNumbered, onDownload, onAck, onNak, onDownlink}
 use Rattle.decide.specs.Decide.{onPacket, onFrame, decideOf}
-use Rattle.links.specs.Sound.{uplinkSound, downlinkSound, namedAt, namesSound, selectionSound, packetSound, linkSound, linkIn, apartFrom, allApart, linksSound}
-use Rattle.carry.specs.Upload.{begunTurn, begunAs, storedAs, appendedAs, storeTurn, discardTurn, timed, judgedAt, acceptedAs, acceptTurn, withDisk, withBlocks, finishAs}
+use Rattle.links.specs.Sound.{uplinkSound, downlinkSound, namedAt, namesSound, selectionSound, packetSound, linkSound, linkIn, apartFrom, allApart}
+use Rattle.links.specs.Sound.{linksSound}
+use Rattle.carry.specs.Upload.{begunTurn, begunAs, storedAs, appendedAs, storeTurn, discardTurn, timed, judgedAt, acceptedAs, acceptTurn, withDisk}
+use Rattle.carry.specs.Upload.{withBlocks, finishAs}
 use Rattle.carry.specs.Upload as carry
 use Rattle.carry.specs.Download.{closeTurn, selectedAs, selectTurn, beginTurn, confirmTurn}
 use Rattle.carry.specs.Carry.{onFrees, onWrites, onMoves, onChooses, carryOut}

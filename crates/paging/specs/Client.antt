@@ -31,7 +31,7 @@ filesOf sv l place = viewAt (l .disk) (ownerPart sv l) (tablePart sv l) place
 abbrev pub Complete : View → Type 0
 Complete v = 0 < uploaded (v .file)
 
--- the equation is true on the file's header
+-- the equation is accepted, and true on the items of the file's header
 abbrev pub matching : List ℕ → View → Bool
 matching eq v = selects eq (fieldsOf (v .bytes))
 

@@ -19,6 +19,7 @@ use Rattle.table.specs.Fit.{Distinct}
 use Rattle.files.specs.Selection.{numbersAt}
 use Rattle.server.specs.State.{tablePart}
 use Rattle.history.specs.Calls.{Call, login, receive, request, lose, State, Start, legal, History, start, _▸_, after}
+use Rattle.history.specs.Change.{Files}
 use Rattle.paging.specs.Client.{filesOf, Complete, matching, asking, MayAsk, pageOf, newerPlaces, Answers}
 
 -- ---- what is given
@@ -30,6 +31,13 @@ pub record Entry : Type 0 where
 
 abbrev pub entry : ℕ → ℕ → Entry
 entry number time = record { number = number; time = time }
+
+-- the files of a state, and the one at a place as it would be given
+abbrev pub filesIn : State → Files
+filesIn s = filesOf (s .server) (s .lent)
+
+abbrev pub entryAt : Files → ℕ → Entry
+entryAt fs place = entry (fs place .file .number) (uploaded (fs place .file))
 
 -- the upload time of the file with a number
 abbrev pub timeAt : List File → Found → ℕ
@@ -85,11 +93,15 @@ module _ (s : Start) (eq : List ℕ) where
   pagedBy (waits c call) = paged (pagedBy c .history ▸ call) (pagedBy c .newest) (pagedBy c .given)
   pagedBy (asks c session clock out) = askedOf (pagedBy c) session clock out
 
+  -- the state of the server then
+  abbrev pub stateOf : Client → State
+  stateOf c = after s (pagedBy c .history)
+
   -- it asks only where it may
   abbrev pub Allowed : Client → Type 0
   Allowed (begins h) = Unit {0}
   Allowed (waits c call) = Allowed c
-  Allowed (asks c session clock out) = Allowed c × MayAsk (after s (pagedBy c .history) .server) session out
+  Allowed (asks c session clock out) = Allowed c × MayAsk (stateOf c .server) session out
 
   -- "until a page is shorter than MAXSEL": the last thing that it did was to ask for such a page
   abbrev pub Finished : Client → Type 0
@@ -116,11 +128,11 @@ Clocks (h ▸ c) = Clocks h × Clocked c
 -- the equation matches it
 pub record Stands (s : State) (eq : List ℕ) (e : Entry) : Type 0 where
   pub place : ℕ
-  pub number : filesOf (s .server) (s .lent) place .file .number ≡ e .number
-  pub time : uploaded (filesOf (s .server) (s .lent) place .file) ≡ e .time
-  pub complete : Complete (filesOf (s .server) (s .lent) place)
-  pub header : numbers.number (bytesOf 18 (fieldsOf (filesOf (s .server) (s .lent) place .bytes))) ≡ e .time
-  pub matched : matching eq (filesOf (s .server) (s .lent) place) ≡ true
+  pub number : filesIn s place .file .number ≡ e .number
+  pub time : uploaded (filesIn s place .file) ≡ e .time
+  pub complete : Complete (filesIn s place)
+  pub header : numbers.number (bytesOf 18 (fieldsOf (filesIn s place .bytes))) ≡ e .time
+  pub matched : matching eq (filesIn s place) ≡ true
 
 -- all that stands in a page was a matching complete file when the page was given
 abbrev pub EachStood : Start → List ℕ → Client → Type 0
@@ -139,17 +151,12 @@ Rises t (e ∷ es) = (t < e .time) × Rises (e .time) es
 -- "every matching file complete by then once, oldest first". Nothing is said of what became of a file after it was given.
 pub record AllGiven (s : Start) (eq : List ℕ) (c : Client) : Type 0 where
   pub stood : EachStood s eq c
-  -- "once": no number stands twice
+  -- "once": no number stands twice; 0 is no file's number
   pub once : Distinct (map (λ (e : Entry). e .number) (pagedBy s eq c .given))
   pub oldest-first : Rises 0 (pagedBy s eq c .given)
   -- "every matching file complete by then": in the state that the last page leaves
-  pub every : (place : ℕ)
-      → Complete (filesOf (after s (pagedBy s eq c .history) .server) (after s (pagedBy s eq c .history) .lent) place)
-      → matching eq (filesOf (after s (pagedBy s eq c .history) .server) (after s (pagedBy s eq c .history) .lent) place) ≡ true
-      → List·Memᴰ
-      (entry (filesOf (after s (pagedBy s eq c .history) .server) (after s (pagedBy s eq c .history) .lent) place .file .number)
-      (uploaded (filesOf (after s (pagedBy s eq c .history) .server) (after s (pagedBy s eq c .history) .lent) place .file)))
-      (pagedBy s eq c .given)
+  pub every : (place : ℕ) → Complete (filesIn (stateOf s eq c) place) → matching eq (filesIn (stateOf s eq c) place) ≡ true
+      → List·Memᴰ (entryAt (filesIn (stateOf s eq c)) place) (pagedBy s eq c .given)
 
 -- In every state that calls with a 32-bit clock made, the server's answer to the client's bytes is the page that they ask for.
 abbrev pub PageAnswer : Type 0
@@ -171,5 +178,4 @@ PagingWhole =
     (s : Start) → legal s ≡ true → (eq : List ℕ) → validityOf eq ≡ 0 → length eq + 9 ≤ 256
     → (c : Client) → Allowed s eq c → Clocks (pagedBy s eq c .history) → Finished s eq c
     → map (λ (e : Entry). e .number) (pagedBy s eq c .given)
-    ≡ numbersAt (tablePart (after s (pagedBy s eq c .history) .server) (after s (pagedBy s eq c .history) .lent))
-    (newerPlaces (after s (pagedBy s eq c .history) .server) (after s (pagedBy s eq c .history) .lent) eq 0)
+    ≡ numbersAt (tablePart (stateOf s eq c .server) (stateOf s eq c .lent)) (newerPlaces (stateOf s eq c .server) (stateOf s eq c .lent) eq 0)
