@@ -17,7 +17,8 @@ use Rattle.server.specs.Calls.{answeredBy, heardBy, stepOf, onCheck, receiveOf,
 use Rattle.history.specs.Calls.{Call, login, receive, request, lose, callOf, Start, legal, made, History, start, _▸_, after}
 use Rattle.history.specs.Good.{Good}
 use Rattle.history.specs.Change.{Change}
-use Rattle.paging.specs.Client.{filesOf, Complete}
+use Rattle.history.specs.Stored.{filesOf}
+use Rattle.paging.specs.Client.{Complete}
 use Rattle.paging.specs.Paging.{Clocked, Clocks}
 use Rattle.paging.proofs.Page.{Stamped, AllStamped}
 use Rattle.paging.proofs.Facts.{facts}

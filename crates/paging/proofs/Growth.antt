@@ -18,7 +18,8 @@ use Rattle.carry.specs.declared.turn.Last.{Last}
 use Rattle.server.specs.declared.Server.{Server}
 use Rattle.server.specs.State.{Lent, mapPart, ownerPart, tablePart}
 use Rattle.history.specs.Change.{Files, view, Others, Completes, Change, same, begins, receives, completes, discards}
-use Rattle.paging.specs.Client.{filesOf, Complete}
+use Rattle.history.specs.Stored.{filesOf}
+use Rattle.paging.specs.Client.{Complete}
 use Rattle.paging.proofs.Stamp.{stamped}
 use Rattle.paging.proofs.Page.{Stamped}
 use Rattle.paging.proofs.Facts.{Facts}

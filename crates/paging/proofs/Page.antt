@@ -41,7 +41,8 @@ use Rattle.server.specs.Calls.{onCheck, receiveOf}
 use Rattle.history.specs.Calls.{callOf}
 use Rattle.history.specs.Good.{Good}
 use Rattle.history.specs.Change.{Files}
-use Rattle.paging.specs.Client.{filesOf, Complete, matching, selectBytes, asking, MayAsk, pageOf, newerPlaces, oldest, Answers}
+use Rattle.history.specs.Stored.{filesOf}
+use Rattle.paging.specs.Client.{Complete, matching, selectBytes, asking, MayAsk, pageOf, newerPlaces, oldest, Answers}
 use Rattle.paging.proofs.Stamp.{First}
 use Rattle.paging.proofs.Asking.{goes, within, slices-left, steps}
 use Rattle.paging.proofs.Facts.{Facts, facts}

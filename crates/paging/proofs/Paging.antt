@@ -30,7 +30,10 @@ use Rattle.server.specs.State.{Lent, tablePart}
 use Rattle.history.specs.Calls.{Call, callOf, state, Start, legal, History, _▸_, after}
 use Rattle.history.specs.Good.{Good}
 use Rattle.history.specs.Change.{Files, Change}
-use Rattle.paging.specs.Client.{filesOf, Complete, matching, asking, MayAsk, pageOf, newerPlaces, oldest, Answers}
+use Rattle.history.specs.Stored.{filesOf}
+use Rattle.history.proofs.Kept.{call-change}
+use Rattle.history.proofs.Histories.{good-after}
+use Rattle.paging.specs.Client.{Complete, matching, asking, MayAsk, pageOf, newerPlaces, oldest, Answers}
 use Rattle.paging.specs.Paging.{Entry, entry, entryAt, timeAt, timeOf, pageIn, newestOf, Client, begins, waits, asks, Paged, pagedBy, Allowed}
 use Rattle.paging.specs.Paging.{Finished, Clocks, Stands, EachStood, Rises, AllGiven, PageAnswer, Paging, PagingWhole}
 use Rattle.paging.proofs.Page.{AllStamped, stamp-read, page-answer}
@@ -444,17 +447,14 @@ module _ (good-after : (s : Start) → legal s ≡ true → (h : History) → Go
 
 -- ---- THE THEOREMS
 
-module _ (good-after : (s : Start) → legal s ≡ true → (h : History) → Good (after s h .server) (after s h .lent))
-    (call-change : (sv : Server) (l : Lent) → Good sv l → (c : Call)
-    → Change (sv .last) (filesOf sv l) (callOf sv l c .done .server .last) (filesOf (callOf sv l c .done .server) (callOf sv l c .lent))) where
-  pub page-answered : PageAnswer
-  page-answered s ok h clocks eq valid room t small session clock out may =
-      page-answer (after s h .server) (after s h .lent) (good-after s ok h)
-      (after-known good-after call-change s ok h clocks .stamped) eq valid room t small
-      session clock out may
+pub page-answered : PageAnswer
+page-answered s ok h clocks eq valid room t small session clock out may =
+    page-answer (after s h .server) (after s h .lent) (good-after s ok h)
+    (after-known good-after call-change s ok h clocks .stamped) eq valid room t small
+    session clock out may
 
-  pub paging : Paging
-  paging s ok eq valid room c a k f = paging-from good-after call-change s ok eq valid room c a k f
+pub paging : Paging
+paging s ok eq valid room c a k f = paging-from good-after call-change s ok eq valid room c a k f
 
-  pub paging-whole : PagingWhole
-  paging-whole s ok eq valid room c a k f = whole-from good-after call-change s ok eq valid room c a k f
+pub paging-whole : PagingWhole
+paging-whole s ok eq valid room c a k f = whole-from good-after call-change s ok eq valid room c a k f

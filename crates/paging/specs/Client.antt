@@ -12,20 +12,16 @@ use Rattle.equation.specs.Newer.{narrowed}
 use Rattle.equation.specs.Answer.{selects}
 use Rattle.table.specs.Table.{files, uploaded}
 use Rattle.table.specs.Order.{inOrder}
-use Rattle.files.specs.View.{View, viewAt}
+use Rattle.files.specs.View.{View}
 use Rattle.files.specs.Selection.{passing, numbersAt}
 use Rattle.session.specs.declared.state.Downlink.the-variants as down
 use Rattle.session.specs.declared.reply.Answer.the-variants as answer
 use Rattle.server.specs.declared.Server.{Server}
-use Rattle.server.specs.State.{Lent, linkOf, ownerPart, tablePart, part}
+use Rattle.server.specs.State.{Lent, linkOf, tablePart, part}
 use Rattle.history.specs.Calls.{Call, receive, callOf}
-use Rattle.history.specs.Change.{Files}
+use Rattle.history.specs.Stored.{filesOf}
 
 -- ---- files
-
--- the files of a state by place: the record and the bytes received of each
-abbrev pub filesOf : Server → Lent → Files
-filesOf sv l place = viewAt (l .disk) (ownerPart sv l) (tablePart sv l) place
 
 -- a complete file: it has an upload time, and that is never 0
 abbrev pub Complete : View → Type 0

@@ -20,7 +20,8 @@ use Rattle.files.specs.Selection.{numbersAt}
 use Rattle.server.specs.State.{tablePart}
 use Rattle.history.specs.Calls.{Call, login, receive, request, lose, State, Start, legal, History, start, _▸_, after}
 use Rattle.history.specs.Change.{Files}
-use Rattle.paging.specs.Client.{filesOf, Complete, matching, asking, MayAsk, pageOf, newerPlaces, Answers}
+use Rattle.history.specs.Stored.{filesOf}
+use Rattle.paging.specs.Client.{Complete, matching, asking, MayAsk, pageOf, newerPlaces, Answers}
 
 -- ---- what is given
 
