@@ -14,10 +14,10 @@ use Rattle.lines.specs.declared.numeral.Digits.{Digits}
 use Rattle.lines.specs.declared.numeral.Digits.the-variants as decimal
 use Rattle.lines.specs.declared.numeral.Pairs.{Pairs}
 use Rattle.lines.specs.declared.numeral.Pairs.the-variants as hex
-use Rattle.lines.specs.declared.read.Number.{Number}
-use Rattle.lines.specs.declared.read.Number.the-variants as number
-use Rattle.lines.specs.declared.read.Command.{Command}
-use Rattle.lines.specs.declared.read.Command.the-variants.{Unreadable, Time, Open, Drop, Rx}
+use Rattle.lines.specs.declared.commands.Number.{Number}
+use Rattle.lines.specs.declared.commands.Number.the-variants as number
+use Rattle.lines.specs.declared.commands.Command.{Command}
+use Rattle.lines.specs.declared.commands.Command.the-variants.{Unreadable, Time, Open, Drop, Rx}
 use Rattle.lines.specs.Numerals.{digit, digits, valueFrom, decimalBy, decimalAt, hexValue, isHex, bytesIn, HexRead, hexRead, hexIn}
 use Rattle.lines.specs.Commands.{onto, fieldsOf, same, endsAt, numberIn, commandOfTwo, commandOfThree, commandOfFields, commandOf, rxBytes, Reads, reads, readBy, readOf}
 use Rattle.lines.specs.Reading.{field, fieldEnd, rxBy, rxRead}

@@ -3,3 +3,4 @@ pub mod Writing
 pub mod LineLaws
 pub mod NumeralLaws
 pub mod FieldLaws
+pub mod Examples

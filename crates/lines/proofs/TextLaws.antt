@@ -13,23 +13,38 @@ use Rattle.lines.specs.Text.{digitsWithin, decimalOf, hexDigit, hexOf}
 
 -- ---- decimal
 
+-- by the test whether there is one digit
+opened : (m n : ℕ) → digitsWithin (suc m) n ≡ cond (ltb n 10) ((48 + n) ∷ []) (digitsWithin m (n / 10) ++ ((48 + n % 10) ∷ []))
+unfolding digitsWithin
+opened m n = go (ltb n 10)
+  where
+    go : (t : Bool)
+        → elim t as (λ s. List ℕ) [ true ↦ (48 + n) ∷ [] | false ↦ digitsWithin m (n / 10) ++ ((48 + n % 10) ∷ []) ]
+        ≡ cond t ((48 + n) ∷ []) (digitsWithin m (n / 10) ++ ((48 + n % 10) ∷ []))
+    go true = refl
+    go false = refl
+
+none : (n : ℕ) → digitsWithin 0 n ≡ (48 + n) ∷ []
+unfolding digitsWithin
+none n = refl
+
 -- more room than a number needs changes nothing
 within : (m k n : ℕ) → n ≤ m → n ≤ k → digitsWithin m n ≡ digitsWithin k n
-unfolding digitsWithin
 within zero zero n a b = refl
-within zero (suc k) n a b = rw (lt-ltb n 10 (omega arith))
-within (suc m) zero n a b = rw (lt-ltb n 10 (omega arith))
-within (suc m) (suc k) n a b = rw (within m k (n / 10) (omega arith) (omega arith))
+within zero (suc k) n a b = rw (opened k n, lt-ltb n 10 (omega arith), none n)
+within (suc m) zero n a b = rw (opened m n, lt-ltb n 10 (omega arith), none n)
+within (suc m) (suc k) n a b = rw (opened m n, opened k n, within m k (n / 10) (omega arith) (omega arith))
 
 pub one-digit : (n : ℕ) → n < 10 → decimalOf n ≡ (48 + n) ∷ []
-unfolding decimalOf digitsWithin
-one-digit zero h = refl
-one-digit (suc n) h = rw (lt-ltb (suc n) 10 h)
+unfolding decimalOf
+one-digit zero h = none 0
+one-digit (suc n) h = rw (opened n (suc n), lt-ltb (suc n) 10 h)
 
 pub more-digits : (n : ℕ) → 9 < n → decimalOf n ≡ decimalOf (n / 10) ++ ((48 + n % 10) ∷ [])
-unfolding decimalOf digitsWithin
+unfolding decimalOf
 more-digits zero h = absurd (omega arith)
-more-digits (suc n) h = rw (le-ltb (suc n) 10 (omega arith), within n (suc n / 10) (suc n / 10) (omega arith) (omega arith))
+more-digits (suc n) h =
+    rw (opened n (suc n), le-ltb (suc n) 10 (omega arith), within n (suc n / 10) (suc n / 10) (omega arith) (omega arith))
 
 pub digits-more : (n : ℕ) → 9 < n → length (decimalOf n) ≡ length (decimalOf (n / 10)) + 1
 digits-more n h = rw (more-digits n h, length-append (decimalOf (n / 10)) ((48 + n % 10) ∷ []))
