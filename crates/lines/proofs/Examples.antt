@@ -60,20 +60,24 @@ lines =
     ∷ []
 
 pub lines-read : map (λ (l : Line). commandOf (l .text)) lines ≡ map (λ (l : Line). l .means) lines
-unfolding lines commandOf commandOfFields fieldsOf bytesOf onto commandOfTwo commandOfThree numberIn endsAt decimalAt digits digit decimalBy valueFrom same isHex hexValue bytesIn
+unfolding lines commandOf commandOfFields fieldsOf bytesOf onto commandOfTwo commandOfThree numberIn endsAt decimalAt digits digit
+    decimalBy valueFrom same isHex hexValue bytesIn
 lines-read = refl
 
 -- the bytes of an `rx` line stand at the front, and where they do not fit nothing changes
 pub bytes-read : readOf (bytesOf "rx\t2\t0a10ff") (1 ∷ 2 ∷ 3 ∷ 4 ∷ []) ≡ reads (Rx 2 3) (10 ∷ 16 ∷ 255 ∷ 4 ∷ [])
-unfolding readOf readBy rxBytes commandOf commandOfFields fieldsOf bytesOf onto commandOfTwo commandOfThree numberIn endsAt decimalAt digits digit decimalBy valueFrom same isHex hexValue bytesIn
+unfolding readOf readBy rxBytes commandOf commandOfFields fieldsOf bytesOf onto commandOfTwo commandOfThree numberIn endsAt decimalAt
+    digits digit decimalBy valueFrom same isHex hexValue bytesIn
 bytes-read = refl
 
 pub bytes-short : readOf (bytesOf "rx\t2\t0a10ff") (1 ∷ 2 ∷ []) ≡ reads Unreadable (1 ∷ 2 ∷ [])
-unfolding readOf readBy rxBytes commandOf commandOfFields fieldsOf bytesOf onto commandOfTwo commandOfThree numberIn endsAt decimalAt digits digit decimalBy valueFrom same isHex hexValue bytesIn
+unfolding readOf readBy rxBytes commandOf commandOfFields fieldsOf bytesOf onto commandOfTwo commandOfThree numberIn endsAt decimalAt
+    digits digit decimalBy valueFrom same isHex hexValue bytesIn
 bytes-short = refl
 
 pub bytes-kept : readOf (bytesOf "open\t3") (1 ∷ 2 ∷ []) ≡ reads (Open 3) (1 ∷ 2 ∷ [])
-unfolding readOf readBy rxBytes commandOf commandOfFields fieldsOf bytesOf onto commandOfTwo commandOfThree numberIn endsAt decimalAt digits digit decimalBy valueFrom same isHex hexValue bytesIn
+unfolding readOf readBy rxBytes commandOf commandOfFields fieldsOf bytesOf onto commandOfTwo commandOfThree numberIn endsAt decimalAt
+    digits digit decimalBy valueFrom same isHex hexValue bytesIn
 bytes-kept = refl
 
 -- ---- lines printed

@@ -19,7 +19,8 @@ use Rattle.lines.specs.declared.commands.Number.the-variants as number
 use Rattle.lines.specs.declared.commands.Command.{Command}
 use Rattle.lines.specs.declared.commands.Command.the-variants.{Unreadable, Time, Open, Drop, Rx}
 use Rattle.lines.specs.Numerals.{digit, digits, valueFrom, decimalBy, decimalAt, hexValue, isHex, bytesIn, HexRead, hexRead, hexIn}
-use Rattle.lines.specs.Commands.{onto, fieldsOf, same, endsAt, numberIn, commandOfTwo, commandOfThree, commandOfFields, commandOf, rxBytes, Reads, reads, readBy, readOf}
+use Rattle.lines.specs.Commands.{onto, fieldsOf, same, endsAt, numberIn, commandOfTwo, commandOfThree, commandOfFields}
+use Rattle.lines.specs.Commands.{commandOf, rxBytes, Reads, reads, readBy, readOf}
 use Rattle.lines.specs.Reading.{field, fieldEnd, rxBy, rxRead}
 
 -- ---- the end of a field, byte by byte
@@ -40,7 +41,8 @@ module _ (line : List ℕ) (i : ℕ) where
 -- ---- two texts, byte by byte
 
 module _ (x y : List ℕ) (i : ℕ) where
-  pub same-next : i < length x → i < length y → getD x i 0 ≡ getD y i 0 → same (drop (i + 1) x) (drop (i + 1) y) ≡ same (drop i x) (drop i y)
+  pub same-next : i < length x → i < length y → getD x i 0 ≡ getD y i 0
+      → same (drop (i + 1) x) (drop (i + 1) y) ≡ same (drop i x) (drop i y)
   unfolding same
   same-next h k e = rw (add-one i, drop-cons x i 0 h, drop-cons y i 0 k, eq-eqb (getD x i 0) (getD y i 0) e)
 
@@ -97,7 +99,8 @@ unfolding field
 field-front [] = refl
 field-front (b ∷ bs) = go (field-front bs) (eqb b 9)
   where
-    go : take (length (field bs)) bs ≡ field bs → (t : Bool) → take (length (cond t [] (b ∷ field bs))) (b ∷ bs) ≡ cond t [] (b ∷ field bs)
+    go : take (length (field bs)) bs ≡ field bs
+        → (t : Bool) → take (length (cond t [] (b ∷ field bs))) (b ∷ bs) ≡ cond t [] (b ∷ field bs)
     go others true = refl
     go others false = rw others
 
@@ -195,7 +198,10 @@ unfolding rxRead rxBy hexIn commandOfThree readBy
 three-read name v rest bytes = go (same name (bytesOf "rx")) (isHex rest) (leb (length (bytesIn rest)) (length bytes)) refl
   where
     found : Bool → Bool → HexRead
-    found u w = cond u (cond w (hexRead (hex.Bytes (length (bytesIn rest))) (bytesIn rest ++ drop (length (bytesIn rest)) bytes)) (hexRead hex.Bad bytes)) (hexRead hex.Bad bytes)
+    found u w =
+        cond u
+        (cond w (hexRead (hex.Bytes (length (bytesIn rest))) (bytesIn rest ++ drop (length (bytesIn rest)) bytes)) (hexRead hex.Bad bytes))
+        (hexRead hex.Bad bytes)
 
     go : (t u w : Bool) → leb (length (bytesIn rest)) (length bytes) ≡ w
         → cond t (rxBy v (found u w .answer) (found u w .left)) (reads Unreadable bytes)

@@ -156,7 +156,8 @@ sent-written session kind digits letters info text t₁ t₂ t₃ d₁ d₂ room
     let n₁ = length-append ds (9 ∷ []) in
     let w₂ = stored-behind text _ t₂ (ds ++ (9 ∷ [])) name (digits + 1) w₁ (omega arith) (omega arith) e₂ in
     let n₂ = length-append (ds ++ (9 ∷ [])) name in
-    let w₂′ = behind text t₂ (set t₂ (digits + letters + 2 - 1) 9) ((ds ++ (9 ∷ [])) ++ name) (9 ∷ []) (digits + letters + 2 - 1) w₂ (omega arith) refl in
+    let w₂′ = behind text t₂ (set t₂ (digits + letters + 2 - 1) 9) ((ds ++ (9 ∷ [])) ++ name) (9 ∷ []) (digits + letters + 2 - 1) w₂
+    (omega arith) refl in
     let n₂′ = length-append ((ds ++ (9 ∷ [])) ++ name) (9 ∷ []) in
     let w₃ = behind text _ t₃ (((ds ++ (9 ∷ [])) ++ name) ++ (9 ∷ [])) hs (digits + letters + 2) w₂′ (omega arith) e₃ in
     let n₃ = length-append (((ds ++ (9 ∷ [])) ++ name) ++ (9 ∷ [])) hs in
@@ -215,9 +216,11 @@ module _ (session : ℕ) (packet text : List ℕ) where
 
   module _ (least : 2 ≤ length packet) (most : length packet ≤ 258) where
     pub no-type : 17 < getD packet 1 0 % 32 → printed 0 text ≡ printedIn (packetLine session packet) text
-    no-type h = no-line (unfold packetLine in rw (le-leb 2 (length packet) least, le-leb (length packet) 258 most, lt-leb (getD packet 1 0 % 32) 17 h))
+    no-type h =
+        no-line (unfold packetLine in rw (le-leb 2 (length packet) least, le-leb (length packet) 258 most, lt-leb (getD packet 1 0 % 32) 17 h))
 
-    pub has-line : getD packet 1 0 % 32 ≤ 17 → sentLine session (getD packet 1 0 % 32) (take (length packet - 2) (drop 2 packet)) ≡ packetLine session packet
+    pub has-line : getD packet 1 0 % 32 ≤ 17
+        → sentLine session (getD packet 1 0 % 32) (take (length packet - 2) (drop 2 packet)) ≡ packetLine session packet
     has-line h =
         unfold packetLine in
         rw (

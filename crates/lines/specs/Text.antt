@@ -9,7 +9,8 @@ unfoldable pub digitsWithin : ℕ → ℕ → List ℕ
 digitsWithin zero n = (48 + n) ∷ []
 digitsWithin (suc most) n = elim (ltb n 10) [ true ↦ (48 + n) ∷ [] | false ↦ digitsWithin most (n / 10) ++ ((48 + n % 10) ∷ []) ]
 
--- without leading zeros, "0" for 0 (`elim` above lets a computed example stop at the first digit); a number has no more digits than it counts, or one
+-- without leading zeros, "0" for 0; a number has no more digits than it counts, or one. `elim` above lets a computed example stop at
+-- the first digit.
 unfoldable pub decimalOf : ℕ → List ℕ
 decimalOf n = digitsWithin n n
 

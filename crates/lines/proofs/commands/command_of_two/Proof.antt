@@ -39,7 +39,14 @@ same-text-requires-2 c κs = search needs
 -- src/commands.rt:86:17
 returns-2 : tie.Need-returns-2
 unfolding commandOfTwo bytesOf
-returns-2 c = rw (c .before .before .before .before .before .before .before .number .given .1, ← c .before .before .before .before .same-text .ensures, c .before .before .before .if1 .left, ← c .before .same-text2 .ensures, c .if2 .taken)
+returns-2 c = rw (
+  c .before .before .before .before .before .before .before .number .given .1,
+  ← c .before .before .before .before
+      .same-text .ensures,
+  c .before .before .before .if1 .left,
+  ← c .before .same-text2 .ensures,
+  c .if2 .taken,
+)
 
 -- src/commands.rt:88:32
 slice-aggregate-same-text-3 : tie.Need-slice-aggregate-same-text-3
@@ -52,7 +59,17 @@ same-text-requires-3 c κs = search needs
 -- src/commands.rt:89:17
 returns-3 : tie.Need-returns-3
 unfolding commandOfTwo bytesOf
-returns-3 c = rw (c .before .before .before .before .before .before .before .before .before .before .number .given .1, ← c .before .before .before .before .before .before .before .same-text .ensures, c .before .before .before .before .before .before .if1 .left, ← c .before .before .before .before .same-text2 .ensures, c .before .before .before .if2 .left, ← c .before .same-text3 .ensures, c .if3 .taken)
+returns-3 c = rw (
+  c .before .before .before .before .before .before .before .before .before .before .number .given .1,
+  ← c .before .before
+      .before .before .before .before .before .same-text .ensures,
+  c .before .before .before .before .before .before .if1 .left,
+  ← c .before
+      .before .before .before .same-text2 .ensures,
+  c .before .before .before .if2 .left,
+  ← c .before .same-text3 .ensures,
+  c .if3 .taken,
+)
 
 -- src/commands.rt:76:1
 returns-4 : tie.Need-returns-4
@@ -62,7 +79,17 @@ returns-4 c = rw (c .enum-told .given .1)
 -- src/commands.rt:76:1
 returns-5 : tie.Need-returns-5
 unfolding commandOfTwo bytesOf
-returns-5 c = rw (c .before .before .before .before .before .before .before .before .before .before .number .given .1, ← c .before .before .before .before .before .before .before .same-text .ensures, c .before .before .before .before .before .before .if1 .left, ← c .before .before .before .before .same-text2 .ensures, c .before .before .before .if2 .left, ← c .before .same-text3 .ensures, c .if3 .left)
+returns-5 c = rw (
+  c .before .before .before .before .before .before .before .before .before .before .number .given .1,
+  ← c .before .before
+      .before .before .before .before .before .same-text .ensures,
+  c .before .before .before .before .before .before .if1 .left,
+  ← c .before
+      .before .before .before .same-text2 .ensures,
+  c .before .before .before .if2 .left,
+  ← c .before .same-text3 .ensures,
+  c .if3 .left,
+)
 
 pub command-of-two-spec : {M : Type 1} → statement M
 command-of-two-spec =

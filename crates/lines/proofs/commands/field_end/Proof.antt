@@ -26,7 +26,8 @@ shared-slice-read-if1 c = omega arith
 
 -- src/commands.rt:52:13
 returns : tie.Need-returns Inv-loop μ-loop
-returns c = let l = c .before .before .before .loop in sym (end-tab (c .before .before .before .before .args .line .now) (l .i) (omega arith) (c .if1 .taken)) ∙ l .inv
+returns c = let l = c .before .before .before .loop in sym (end-tab (c .before .before .before .before .args .line .now) (l .i) (omega
+    arith) (c .if1 .taken)) ∙ l .inv
 
 -- src/commands.rt:54:9
 add-i : tie.Need-add-i Inv-loop μ-loop
@@ -38,7 +39,8 @@ loop-less c = omega arith
 
 -- src/commands.rt:50:5
 loop-again : tie.Need-loop-again Inv-loop μ-loop
-loop-again c = let l = c .before .before .before .loop in end-next (c .before .before .before .before .args .line .now) (l .i) (omega arith) (c .if1 .left) ∙ l .inv
+loop-again c = let l = c .before .before .before .loop in end-next (c .before .before .before .before .args .line .now) (l .i) (omega arith)
+    (c .if1 .left) ∙ l .inv
 
 -- src/commands.rt:46:1
 returns-2 : tie.Need-returns-2 Inv-loop μ-loop

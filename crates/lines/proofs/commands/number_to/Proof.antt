@@ -27,12 +27,22 @@ returns c = rw (← c .before .before .decimal .ensures, c .enum-told .given .1)
 -- src/commands.rt:60:1
 returns-2 : tie.Need-returns-2
 unfolding endsAt
-returns-2 c = rw (← c .before .before .before .before .decimal .ensures, c .before .before .value .given .1, eq-eqb (c .before .before .value .given .0 .1 .0) (c .before .before .before .before .before .before .args .end) (c .if1 .taken))
+returns-2 c = rw (
+  ← c .before .before .before .before .decimal .ensures,
+  c .before .before .value .given .1,
+  eq-eqb (c .before .before
+      .value .given .0 .1 .0) (c .before .before .before .before .before .before .args .end) (c .if1 .taken),
+)
 
 -- src/commands.rt:60:1
 returns-3 : tie.Need-returns-3
 unfolding endsAt
-returns-3 c = rw (← c .before .before .before .before .decimal .ensures, c .before .before .value .given .1, ne-eqb (c .before .before .value .given .0 .1 .0) (c .before .before .before .before .before .before .args .end) (c .if1 .left))
+returns-3 c = rw (
+  ← c .before .before .before .before .decimal .ensures,
+  c .before .before .value .given .1,
+  ne-eqb (c .before .before
+      .value .given .0 .1 .0) (c .before .before .before .before .before .before .args .end) (c .if1 .left),
+)
 
 pub number-to-spec : {M : Type 1} → statement M
 number-to-spec =

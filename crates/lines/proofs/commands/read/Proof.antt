@@ -38,7 +38,8 @@ number-to-requires c κs = search needs
 
 -- src/commands.rt:120:9
 slice-aggregate-name : tie.Need-slice-aggregate-name
-slice-aggregate-name c = sym (length-take-le (c .before .before .before .before .field-end .result) (c .before .before .before .before .before .before .before .args .line .now) (omega arith))
+slice-aggregate-name c = sym (length-take-le (c .before .before .before .before .field-end .result) (c .before .before .before .before
+    .before .before .before .args .line .now) (omega arith))
 
 -- src/commands.rt:122:9
 command-of-two-requires : tie.Need-command-of-two-requires
@@ -46,7 +47,13 @@ command-of-two-requires c κs = search needs
 
 -- src/commands.rt:122:9
 returns-2 : tie.Need-returns-2
-returns-2 c = let e = c .before .before .before .before .before .before .before .before .before .args in rw (c .command-of-two .ensures, c .before .before .before .number-to .ensures) (two-fields (e .line .now) (c .before .before .before .before .before .before .field-end .result) (c .before .before .before .before .before .before .field-end .ensures) (omega arith) (c .before .before .before .before .field-end2 .result) (c .before .before .before .before .field-end2 .ensures) (e .bytes .now) (omega arith))
+returns-2 c = let e = c .before .before .before .before .before .before .before .before .before .args in rw (
+  c .command-of-two .ensures,
+  c
+      .before .before .before .number-to .ensures,
+) (two-fields (e .line .now) (c .before .before .before .before .before .before .field-end
+    .result) (c .before .before .before .before .before .before .field-end .ensures) (omega arith) (c .before .before .before .before
+    .field-end2 .result) (c .before .before .before .before .field-end2 .ensures) (e .bytes .now) (omega arith))
 
 -- src/commands.rt:125:24
 enum-told : tie.Need-enum-told
@@ -66,7 +73,11 @@ read-rx-requires c κs = search needs
 
 -- src/commands.rt:111:1
 returns-3 : tie.Need-returns-3
-returns-3 c = let e = c .before .before .before .before .before .before .before .before .before .before .args in three-bad (e .line .now) (c .before .before .before .before .before .before .before .field-end .result) (c .before .before .before .before .before .before .before .field-end .ensures) (omega arith) (c .before .before .before .before .before .field-end2 .result) (c .before .before .before .before .before .field-end2 .ensures) (e .bytes .now) (omega arith) (sym (c .before .before .before .before .number-to .ensures) ∙ c .enum-told .given .1)
+returns-3 c = let e = c .before .before .before .before .before .before .before .before .before .before .args in three-bad (e .line .now) (c
+    .before .before .before .before .before .before .before .field-end .result) (c .before .before .before .before .before .before .before
+    .field-end .ensures) (omega arith) (c .before .before .before .before .before .field-end2 .result) (c .before .before .before .before
+    .before .field-end2 .ensures) (e .bytes .now) (omega arith) (sym (c .before .before .before .before .number-to .ensures) ∙ c .enum-told
+    .given .1)
 
 -- src/commands.rt:111:1
 same-length : tie.Need-same-length
@@ -74,7 +85,13 @@ same-length c = search needs
 
 -- src/commands.rt:111:1
 returns-4 : tie.Need-returns-4
-returns-4 c = let e = c .before .before .before .before .before .before .before .before .before .before .before .before .before .before .before .args in c .before .before .read-rx .ensures ∙ three-value (e .line .now) (c .before .before .before .before .before .before .before .before .before .before .before .before .field-end .result) (c .before .before .before .before .before .before .before .before .before .before .before .before .field-end .ensures) (omega arith) (c .before .before .before .before .before .before .before .before .before .before .field-end2 .result) (c .before .before .before .before .before .before .before .before .before .before .field-end2 .ensures) (e .bytes .now) _ (omega arith) (sym (c .before .before .before .before .before .before .before .before .before .number-to .ensures) ∙ c .before .before .before .before .before .number .given .1)
+returns-4 c = let e = c .before .before .before .before .before .before .before .before .before .before .before .before .before .before
+    .before .args in c .before .before .read-rx .ensures ∙ three-value (e .line .now) (c .before .before .before .before .before .before
+    .before .before .before .before .before .before .field-end .result) (c .before .before .before .before .before .before .before .before
+    .before .before .before .before .field-end .ensures) (omega arith) (c .before .before .before .before .before .before .before .before
+    .before .before .field-end2 .result) (c .before .before .before .before .before .before .before .before .before .before .field-end2
+    .ensures) (e .bytes .now) _ (omega arith) (sym (c .before .before .before .before .before .before .before .before .before .number-to
+    .ensures) ∙ c .before .before .before .before .before .number .given .1)
 
 pub read-spec : {M : Type 1} → statement M
 read-spec =

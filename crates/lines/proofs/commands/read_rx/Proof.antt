@@ -37,7 +37,10 @@ same-length c = search needs
 -- src/commands.rt:97:1
 returns : tie.Need-returns
 unfolding bytesOf
-returns c = let e = c .before .before .before .before .before .before .before .before .before .before .before .before .args in rx-bad (e .name .now) (e .session) (drop (e .at) (e .line .now)) (e .bytes .now) _ _ (sym (c .before .before .before .before .before .before .before .same-text .ensures) ∙ c .before .before .before .before .before .before .if1 .taken) (c .before .before .before .before .hex .ensures) (c .enum-told .given .1)
+returns c = let e = c .before .before .before .before .before .before .before .before .before .before .before .before .args in rx-bad (e
+    .name .now) (e .session) (drop (e .at) (e .line .now)) (e .bytes .now) _ _ (sym (c .before .before .before .before .before .before
+    .before .same-text .ensures) ∙ c .before .before .before .before .before .before .if1 .taken) (c .before .before .before .before .hex
+    .ensures) (c .enum-told .given .1)
 
 -- src/commands.rt:97:1
 same-length-2 : tie.Need-same-length-2
@@ -46,12 +49,16 @@ same-length-2 c = search needs
 -- src/commands.rt:97:1
 returns-2 : tie.Need-returns-2
 unfolding bytesOf
-returns-2 c = let e = c .before .before .before .before .before .before .before .before .before .before .before .before .before .args in rx-bytes (e .name .now) (e .session) (drop (e .at) (e .line .now)) (e .bytes .now) _ _ _ (sym (c .before .before .before .before .before .before .before .before .same-text .ensures) ∙ c .before .before .before .before .before .before .before .if1 .taken) (c .before .before .before .before .before .hex .ensures) (c .before .count .given .1)
+returns-2 c = let e = c .before .before .before .before .before .before .before .before .before .before .before .before .before .args in
+    rx-bytes (e .name .now) (e .session) (drop (e .at) (e .line .now)) (e .bytes .now) _ _ _ (sym (c .before .before .before .before .before
+    .before .before .before .same-text .ensures) ∙ c .before .before .before .before .before .before .before .if1 .taken) (c .before .before
+    .before .before .before .hex .ensures) (c .before .count .given .1)
 
 -- src/commands.rt:97:1
 returns-3 : tie.Need-returns-3
 unfolding bytesOf
-returns-3 c = let e = c .before .before .before .before .before .before .args in rx-other (e .name .now) (e .session) (drop (e .at) (e .line .now)) (e .bytes .now) (sym (c .before .same-text .ensures) ∙ c .if1 .left)
+returns-3 c = let e = c .before .before .before .before .before .before .args in rx-other (e .name .now) (e .session) (drop (e .at) (e .line
+    .now)) (e .bytes .now) (sym (c .before .same-text .ensures) ∙ c .if1 .left)
 
 pub read-rx-spec : {M : Type 1} → statement M
 read-rx-spec =

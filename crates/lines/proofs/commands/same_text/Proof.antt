@@ -42,15 +42,23 @@ loop-less c = omega arith
 
 -- src/commands.rt:35:5
 loop-again : tie.Need-loop-again Inv-loop μ-loop
-loop-again c = let l = c .before .before .before .before .loop in (omega arith, l .inv .1, same-next (c .before .before .before .before .before .before .args .x .now) (c .before .before .before .before .before .before .args .y .now) (l .i) (omega arith) (omega arith) (c .if2 .taken) ∙ l .inv .2)
+loop-again c = let l = c .before .before .before .before .loop in (
+  omega arith,
+  l .inv .1,
+  same-next (c .before .before .before .before
+      .before .before .args .x .now) (c .before .before .before .before .before .before .args .y .now) (l .i) (omega arith) (omega arith) (c
+      .if2 .taken) ∙ l .inv .2,
+)
 
 -- src/commands.rt:39:13
 returns-2 : tie.Need-returns-2 Inv-loop μ-loop
-returns-2 c = let l = c .before .before .before .before .loop in sym (same-stop (c .before .before .before .before .before .before .args .x .now) (c .before .before .before .before .before .before .args .y .now) (l .i) (omega arith) (omega arith) (c .if2 .left)) ∙ l .inv .2
+returns-2 c = let l = c .before .before .before .before .loop in sym (same-stop (c .before .before .before .before .before .before .args .x
+    .now) (c .before .before .before .before .before .before .args .y .now) (l .i) (omega arith) (omega arith) (c .if2 .left)) ∙ l .inv .2
 
 -- src/commands.rt:28:1
 returns-3 : tie.Need-returns-3 Inv-loop μ-loop
-returns-3 c = let l = c .before .loop in sym (same-end (c .before .before .before .args .x .now) (c .before .before .before .args .y .now) (l .i) (omega arith) (omega arith)) ∙ l .inv .2
+returns-3 c = let l = c .before .loop in sym (same-end (c .before .before .before .args .x .now) (c .before .before .before .args .y .now)
+    (l .i) (omega arith) (omega arith)) ∙ l .inv .2
 
 pub same-text-spec : {M : Type 1} → statement M
 same-text-spec =

@@ -28,7 +28,8 @@ sub-if1 c = omega arith
 
 -- src/numeral.rt:89:13
 returns : tie.Need-returns Inv-loop μ-loop
-returns c = let l = c .before .before .loop in sym (hex-one (c .before .before .before .before .args .line .now) (l .i) (omega arith) (omega arith)) ∙ l .inv
+returns c = let l = c .before .before .loop in sym (hex-one (c .before .before .before .before .args .line .now) (l .i) (omega arith) (omega
+    arith)) ∙ l .inv
 
 -- src/numeral.rt:91:27
 shared-slice-read-hex-value : tie.Need-shared-slice-read-hex-value Inv-loop μ-loop
@@ -40,7 +41,8 @@ hex-value-requires c κs = search needs
 
 -- src/numeral.rt:92:13
 returns-2 : tie.Need-returns-2 Inv-loop μ-loop
-returns-2 c = let l = c .before .before .before .before .before .loop in sym (hex-high (c .before .before .before .before .before .before .before .args .line .now) (l .i) (omega arith) (rw (c .before .hex-value .ensures) at (c .if2 .taken))) ∙ l .inv
+returns-2 c = let l = c .before .before .before .before .before .loop in sym (hex-high (c .before .before .before .before .before .before
+    .before .args .line .now) (l .i) (omega arith) (rw (c .before .hex-value .ensures) at (c .if2 .taken))) ∙ l .inv
 
 -- src/numeral.rt:94:32
 add-hex-value : tie.Need-add-hex-value Inv-loop μ-loop
@@ -56,7 +58,9 @@ hex-value-requires-2 c κs = search needs
 
 -- src/numeral.rt:95:13
 returns-3 : tie.Need-returns-3 Inv-loop μ-loop
-returns-3 c = let l = c .before .before .before .before .before .before .before .before .loop in sym (hex-low (c .before .before .before .before .before .before .before .before .before .before .args .line .now) (l .i) (omega arith) (rw (c .before .before .before .before .hex-value .ensures) at (c .before .before .before .if2 .left)) (rw (c .before .hex-value2 .ensures) at (c .if3 .taken))) ∙ l .inv
+returns-3 c = let l = c .before .before .before .before .before .before .before .before .loop in sym (hex-low (c .before .before .before
+    .before .before .before .before .before .before .before .args .line .now) (l .i) (omega arith) (rw (c .before .before .before .before
+    .hex-value .ensures) at (c .before .before .before .if2 .left)) (rw (c .before .hex-value2 .ensures) at (c .if3 .taken))) ∙ l .inv
 
 -- src/numeral.rt:97:9
 add-i : tie.Need-add-i Inv-loop μ-loop
@@ -68,7 +72,9 @@ loop-less c = omega arith
 
 -- src/numeral.rt:87:5
 loop-again : tie.Need-loop-again Inv-loop μ-loop
-loop-again c = let l = c .before .before .before .before .before .before .before .before .loop in sym (hex-on (c .before .before .before .before .before .before .before .before .before .before .args .line .now) (l .i) (omega arith) (rw (c .before .before .before .before .hex-value .ensures) at (c .before .before .before .if2 .left)) (rw (c .before .hex-value2 .ensures) at (c .if3 .left))) ∙ l .inv
+loop-again c = let l = c .before .before .before .before .before .before .before .before .loop in sym (hex-on (c .before .before .before
+    .before .before .before .before .before .before .before .args .line .now) (l .i) (omega arith) (rw (c .before .before .before .before
+    .hex-value .ensures) at (c .before .before .before .if2 .left)) (rw (c .before .hex-value2 .ensures) at (c .if3 .left))) ∙ l .inv
 
 -- src/numeral.rt:83:1
 returns-4 : tie.Need-returns-4 Inv-loop μ-loop

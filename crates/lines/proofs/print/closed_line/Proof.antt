@@ -45,7 +45,10 @@ same-length c = search needs
 -- src/print.rt:9:1
 returns-2 : tie.Need-returns-2
 unfolding bytesOf
-returns-2 c = closed-written (c .before .before .before .before .before .before .before .before .before .before .before .before .args .session) (c .before .before .before .before .before .before .before .before .before .before .width .result) (c .before .before .before .before .before .before .before .before .before .before .before .before .args .text .now) _ _ (omega arith) (omega arith) (c .before .before .before .before .before .before .before .put-decimal .ensures) (c .before .before .store .ensures .1)
+returns-2 c = closed-written (c .before .before .before .before .before .before .before .before .before .before .before .before .args
+    .session) (c .before .before .before .before .before .before .before .before .before .before .width .result) (c .before .before .before
+    .before .before .before .before .before .before .before .before .before .args .text .now) _ _ (omega arith) (omega arith) (c .before
+    .before .before .before .before .before .before .put-decimal .ensures) (c .before .before .store .ensures .1)
 
 pub closed-line-spec : {M : Type 1} → statement M
 closed-line-spec =

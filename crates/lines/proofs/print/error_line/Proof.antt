@@ -48,12 +48,21 @@ slice-write-text c = search needs
 
 -- src/print.rt:48:1
 same-length : tie.Need-same-length
-same-length c = simp length-set (omega (arith, c .before .before .put-decimal .kept .0, c .before .before .before .before .before .before .store .kept .0))
+same-length c = simp length-set (omega (
+  arith,
+  c .before .before .put-decimal .kept .0,
+  c .before .before .before .before .before .before
+      .store .kept .0,
+))
 
 -- src/print.rt:48:1
 returns-2 : tie.Need-returns-2
 unfolding bytesOf
-returns-2 c = error-written (c .before .before .before .before .before .before .before .before .before .before .before .before .args .number) (c .before .before .before .before .before .before .before .before .before .before .width .result) (c .before .before .before .before .before .before .before .before .before .before .before .before .args .text .now) _ (c .before .before .put-decimal .last .0) (omega arith) (omega arith) (c .before .before .before .before .before .before .store .ensures .1) (c .before .before .put-decimal .ensures)
+returns-2 c = error-written (c .before .before .before .before .before .before .before .before .before .before .before .before .args
+    .number) (c .before .before .before .before .before .before .before .before .before .before .width .result) (c .before .before .before
+    .before .before .before .before .before .before .before .before .before .args .text .now) (c .before .before .before .before .before
+    .before .store .last .0) (c .before .before .put-decimal .last .0) (omega arith) (omega arith) (c .before .before .before .before
+    .before .before .store .ensures .1) (c .before .before .put-decimal .ensures)
 
 pub error-line-spec : {M : Type 1} → statement M
 error-line-spec =

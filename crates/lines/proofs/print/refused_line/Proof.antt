@@ -28,15 +28,29 @@ add-at c = omega (arith, digits-most (c .before .before .before .args .session) 
 
 -- src/print.rt:36:16
 add-size : tie.Need-add-size
-add-size c = omega (arith, digits-most (c .before .before .before .args .session) (omega arith), digits-most (c .before .before .before .args .number) (omega arith))
+add-size c = omega (
+  arith,
+  digits-most (c .before .before .before .args .session) (omega arith),
+  digits-most (c .before .before .before
+      .args .number) (omega arith),
+)
 
 -- src/print.rt:36:16
 add-size-2 : tie.Need-add-size-2
-add-size-2 c = omega (arith, digits-most (c .before .before .before .args .session) (omega arith), digits-most (c .before .before .before .args .number) (omega arith))
+add-size-2 c = omega (
+  arith,
+  digits-most (c .before .before .before .args .session) (omega arith),
+  digits-most (c .before .before .before
+      .args .number) (omega arith),
+)
 
 -- src/print.rt:38:9
 returns : tie.Need-returns
-returns c = printed-none _ (c .before .before .before .before .args .text .now) (omega (arith, refused-size (c .before .before .before .before .args .session) (c .before .before .before .before .args .number)))
+returns c = printed-none _ (c .before .before .before .before .args .text .now) (omega (
+  arith,
+  refused-size (c .before .before .before
+      .before .args .session) (c .before .before .before .before .args .number),
+))
 
 -- src/print.rt:40:5
 put-decimal-requires : tie.Need-put-decimal-requires
@@ -64,12 +78,26 @@ slice-write-text c = search needs
 
 -- src/print.rt:28:1
 same-length : tie.Need-same-length
-same-length c = simp length-set (omega (arith, c .before .before .put-decimal2 .kept .0, c .before .before .before .before .before .before .store .kept .0, c .before .before .before .before .before .before .before .before .before .before .before .put-decimal .kept .0))
+same-length c = simp length-set (omega (
+  arith,
+  c .before .before .put-decimal2 .kept .0,
+  c .before .before .before .before .before .before
+      .store .kept .0,
+  c .before .before .before .before .before .before .before .before .before .before .before .put-decimal .kept .0,
+))
 
 -- src/print.rt:28:1
 returns-2 : tie.Need-returns-2
 unfolding bytesOf
-returns-2 c = refused-written (c .before .before .before .before .before .before .before .before .before .before .before .before .before .before .before .before .before .args .session) (c .before .before .before .before .before .before .before .before .before .before .before .before .before .before .before .before .before .args .number) (c .before .before .before .before .before .before .before .before .before .before .before .before .before .before .before .width .result) (c .before .before .before .before .before .before .before .before .before .before .before .before .before .before .width2 .result) (c .before .before .before .before .before .before .before .before .before .before .before .before .before .before .before .before .before .args .text .now) _ _ (c .before .before .put-decimal2 .last .0) (omega arith) (omega arith) (omega arith) (c .before .before .before .before .before .before .before .before .before .before .before .put-decimal .ensures) (c .before .before .before .before .before .before .store .ensures .1) (c .before .before .put-decimal2 .ensures)
+returns-2 c = refused-written (c .before .before .before .before .before .before .before .before .before .before .before .before .before
+    .before .before .before .before .args .session) (c .before .before .before .before .before .before .before .before .before .before
+    .before .before .before .before .before .before .before .args .number) (c .before .before .before .before .before .before .before
+    .before .before .before .before .before .before .before .before .width .result) (c .before .before .before .before .before .before
+    .before .before .before .before .before .before .before .before .width2 .result) (c .before .before .before .before .before .before
+    .before .before .before .before .before .before .before .before .before .before .before .args .text .now) _ _ (c .before .before
+    .put-decimal2 .last .0) (omega arith) (omega arith) (omega arith) (c .before .before .before .before .before .before .before .before
+    .before .before .before .put-decimal .ensures) (c .before .before .before .before .before .before .store .ensures .1) (c .before .before
+    .put-decimal2 .ensures)
 
 pub refused-line-spec : {M : Type 1} → statement M
 refused-line-spec =

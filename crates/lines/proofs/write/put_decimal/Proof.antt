@@ -13,7 +13,11 @@ use Rattle.lines.proofs.TextLaws.{digits-one, digits-more, digits-some}
 use Rattle.lines.proofs.Writing.{decimal-step, decimal-end}
 
 abbrev Inv-loop : tie.InvT-loop
-Inv-loop text₀ at digits n i₀ rest₀ text i rest = (length text ≡ length text₀) × (i + 1 ≡ at + length (decimalOf rest)) × (at + length (decimalOf rest) ≤ length text₀) × (sets text at (decimalOf rest) ≡ sets text₀ at (decimalOf n))
+Inv-loop text₀ at digits n i₀ rest₀ text i rest =
+    (length text ≡ length text₀)
+    × (i + 1 ≡ at + length (decimalOf rest))
+    × (at + length (decimalOf rest) ≤ length text₀)
+    × (sets text at (decimalOf rest) ≡ sets text₀ at (decimalOf n))
 
 abbrev μ-loop : tie.MeasureT-loop
 μ-loop text₀ at digits n i₀ rest₀ text i rest = rest
@@ -52,7 +56,14 @@ loop-less c = omega arith
 
 -- src/write.rt:29:5
 loop-again : tie.Need-loop-again Inv-loop μ-loop
-loop-again c = let l = c .before .loop in let more = digits-more (l .rest) (omega arith) in let some = digits-some (l .rest / 10) in (simp length-set (omega arith), omega arith, omega arith, decimal-step (l .text) (c .before .before .args .at) (l .i) (l .rest) _ (omega arith) (omega arith) (l .inv .3))
+loop-again c = let l = c .before .loop in let more = digits-more (l .rest) (omega arith) in let some = digits-some (l .rest / 10) in (
+  simp
+      length-set (omega arith),
+  omega arith,
+  omega arith,
+  decimal-step (l .text) (c .before .before .args .at) (l .i) (l .rest) _ (omega
+      arith) (omega arith) (l .inv .3),
+)
 
 -- src/write.rt:34:20
 cast-text-2 : tie.Need-cast-text-2 Inv-loop μ-loop

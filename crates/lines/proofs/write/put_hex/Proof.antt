@@ -13,7 +13,11 @@ use Rattle.lines.specs.Text.{hexOf}
 use Rattle.lines.proofs.Writing.{hex-step, hex-end}
 
 abbrev Inv-loop : tie.InvT-loop
-Inv-loop text₀ at bytes to₀ i₀ text to i = (i ≤ length bytes) × (length text ≡ length text₀) × (to ≡ at + 2 * i) × (sets text to (hexOf (drop i bytes)) ≡ sets text₀ at (hexOf bytes))
+Inv-loop text₀ at bytes to₀ i₀ text to i =
+    (i ≤ length bytes)
+    × (length text ≡ length text₀)
+    × (to ≡ at + 2 * i)
+    × (sets text to (hexOf (drop i bytes)) ≡ sets text₀ at (hexOf bytes))
 
 abbrev μ-loop : tie.MeasureT-loop
 μ-loop text₀ at bytes to₀ i₀ text to i = length bytes - i
@@ -60,7 +64,17 @@ loop-less c = omega arith
 
 -- src/write.rt:52:5
 loop-again : tie.Need-loop-again Inv-loop μ-loop
-loop-again c = let l = c .before .before .before .before .loop in (omega arith, simp length-set (omega arith), omega arith, rw (c .before .hex-digit .ensures, c .hex-digit2 .ensures) (hex-step (l .text) (l .to) (l .i) (c .before .before .before .before .before .before .before .args .bytes .now) _ (omega arith) (l .inv .3)))
+loop-again c = let l = c .before .before .before .before .loop in (
+  omega arith,
+  simp length-set (omega arith),
+  omega arith,
+  rw (
+    c .before
+        .hex-digit .ensures,
+    c .hex-digit2 .ensures,
+  ) (hex-step (l .text) (l .to) (l .i) (c .before .before .before .before .before .before
+      .before .args .bytes .now) _ (omega arith) (l .inv .3)),
+)
 
 -- src/write.rt:46:1
 same-length : tie.Need-same-length Inv-loop μ-loop
@@ -68,7 +82,8 @@ same-length c = omega arith
 
 -- src/write.rt:46:1
 returns : tie.Need-returns Inv-loop μ-loop
-returns c = let l = c .before .loop in hex-end (l .text) (l .to) (l .i) (c .before .before .before .before .args .bytes .now) _ (omega arith) (l .inv .3)
+returns c = let l = c .before .loop in hex-end (l .text) (l .to) (l .i) (c .before .before .before .before .args .bytes .now) _ (omega
+    arith) (l .inv .3)
 
 pub put-hex-spec : {M : Type 1} → statement M
 put-hex-spec =
