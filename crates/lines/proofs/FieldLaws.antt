@@ -54,7 +54,7 @@ module _ (x y : List ℕ) (i : ℕ) where
   unfolding same
   same-end h k = rw (drop-of-length-le x h, drop-of-length-le y k)
 
-either : {A : Type 0} (t : Bool) (a : A) → cond t a a ≡ a
+pub either : {A : Type 0} (t : Bool) (a : A) → cond t a a ≡ a
 either true a = refl
 either false a = refl
 
@@ -68,7 +68,7 @@ same-lengths (x ∷ xs) (y ∷ ys) ne = rw (same-lengths xs ys (λ e. ne (ap suc
 -- ---- fields
 
 -- where no TAB is left, the rest is the last field
-last-field : (l : List ℕ) → length l ≤ length (field l) → fieldsOf l ≡ l ∷ []
+pub last-field : (l : List ℕ) → length l ≤ length (field l) → fieldsOf l ≡ l ∷ []
 unfolding fieldsOf field onto
 last-field [] h = refl
 last-field (b ∷ bs) h = go (λ (k : length bs ≤ length (field bs)). last-field bs k) (eqb b 9) h
@@ -79,7 +79,7 @@ last-field (b ∷ bs) h = go (λ (k : length bs ≤ length (field bs)). last-fie
     go others true h = absurd (omega arith)
     go others false h = rw (others (omega arith))
 
-more-fields : (l : List ℕ) → length (field l) < length l → fieldsOf l ≡ field l ∷ fieldsOf (drop (length (field l) + 1) l)
+pub more-fields : (l : List ℕ) → length (field l) < length l → fieldsOf l ≡ field l ∷ fieldsOf (drop (length (field l) + 1) l)
 unfolding fieldsOf field onto
 more-fields [] h = absurd (omega arith)
 more-fields (b ∷ bs) h = go (λ (k : length (field bs) < length bs). more-fields bs k) (eqb b 9) h
@@ -154,7 +154,7 @@ number-field line at =
 -- ---- hex
 
 -- TAB is no hex digit
-tab-no-hex : (l : List ℕ) → length (field l) < length l → isHex l ≡ false
+pub tab-no-hex : (l : List ℕ) → length (field l) < length l → isHex l ≡ false
 unfolding field isHex hexValue
 tab-no-hex [] h = absurd (omega arith)
 tab-no-hex (a ∷ []) h = refl

@@ -14,7 +14,7 @@ use Rattle.lines.specs.Text.{digitsWithin, decimalOf, hexDigit, hexOf}
 -- ---- decimal
 
 -- by the test whether there is one digit
-opened : (m n : ℕ) → digitsWithin (suc m) n ≡ cond (ltb n 10) ((48 + n) ∷ []) (digitsWithin m (n / 10) ++ ((48 + n % 10) ∷ []))
+pub opened : (m n : ℕ) → digitsWithin (suc m) n ≡ cond (ltb n 10) ((48 + n) ∷ []) (digitsWithin m (n / 10) ++ ((48 + n % 10) ∷ []))
 unfolding digitsWithin
 opened m n = go (ltb n 10)
   where
@@ -24,7 +24,7 @@ opened m n = go (ltb n 10)
     go true = refl
     go false = refl
 
-none : (n : ℕ) → digitsWithin 0 n ≡ (48 + n) ∷ []
+pub none : (n : ℕ) → digitsWithin 0 n ≡ (48 + n) ∷ []
 unfolding digitsWithin
 none n = refl
 
