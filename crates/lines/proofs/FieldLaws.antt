@@ -65,6 +65,23 @@ same-lengths [] (y ∷ ys) ne = refl
 same-lengths (x ∷ xs) [] ne = refl
 same-lengths (x ∷ xs) (y ∷ ys) ne = rw (same-lengths xs ys (λ e. ne (ap suc e))) (either (eqb x y) false)
 
+-- texts are the same exactly where they are equal
+pub same-equal : (x y : List ℕ) → same x y ≡ true → x ≡ y
+unfolding same
+same-equal [] [] e = refl
+same-equal [] (y ∷ ys) e = let z : _≡_ {A = ℕ} 0 1 = cc in absurd (omega arith)
+same-equal (x ∷ xs) [] e = let z : _≡_ {A = ℕ} 0 1 = cc in absurd (omega arith)
+same-equal (x ∷ xs) (y ∷ ys) e = go (λ (k : same xs ys ≡ true). same-equal xs ys k) (eqb x y) refl e
+  where
+    go : (same xs ys ≡ true → xs ≡ ys) → (t : Bool) → eqb x y ≡ t → cond t (same xs ys) false ≡ true → x ∷ xs ≡ y ∷ ys
+    go others true p e = rw (eqb-true x y p, others e)
+    go others false p e = let z : _≡_ {A = ℕ} 0 1 = cc in absurd (omega arith)
+
+pub same-itself : (x : List ℕ) → same x x ≡ true
+unfolding same
+same-itself [] = refl
+same-itself (x ∷ xs) = rw (eq-eqb x x refl) (same-itself xs)
+
 -- ---- fields
 
 -- where no TAB is left, the rest is the last field

@@ -115,8 +115,14 @@ unfolding numberIn endsAt decimalAt decimalBy
 decimal-back n h =
     let b = decimal-is n in
     let z : 0 + length (decimalOf n) ≡ length (decimalOf n) = omega arith in
-    rw (b .all, b .value, lt-ltb 0 (length (decimalOf n)) (omega (arith, digits-some n)), le-leb n 4294967295 h, z,
-        eq-eqb (length (decimalOf n)) (length (decimalOf n)) refl)
+    rw (
+      b .all,
+      b .value,
+      lt-ltb 0 (length (decimalOf n)) (omega (arith, digits-some n)),
+      le-leb n 4294967295 h,
+      z,
+      eq-eqb (length (decimalOf n)) (length (decimalOf n)) refl,
+    )
 
 -- ---- a line
 

@@ -63,17 +63,23 @@ digits-some n = go (ltb n 10) refl
 tenth : (n p : ℕ) → n < 10 * p → n / 10 < p
 tenth n p h = omega arith
 
-digits-below : (k n : ℕ) → n < 10 ^ k → length (decimalOf n) ≤ k + 1
+digits-below : (k n : ℕ) → n < 10 ^ suc k → length (decimalOf n) ≤ suc k
 digits-below zero n h = omega (arith, digits-one n (omega arith))
-digits-below (suc k) n h = go (ltb n 10) refl (digits-below k (n / 10) (tenth n (10 ^ k) (rw pow-succ' at h)))
+digits-below (suc k) n h = go (ltb n 10) refl (digits-below k (n / 10) (tenth n (10 ^ suc k) (rw pow-succ' at h)))
   where
-    go : (t : Bool) → ltb n 10 ≡ t → length (decimalOf (n / 10)) ≤ k + 1 → length (decimalOf n) ≤ suc k + 1
+    go : (t : Bool) → ltb n 10 ≡ t → length (decimalOf (n / 10)) ≤ suc k → length (decimalOf n) ≤ suc (suc k)
     go true e m = omega (arith, digits-one n (ltb-true n 10 e))
     go false e m = omega (arith, digits-more n (ltb-false n 10 e))
 
--- a number of 64 bits has at most 21 digits
-pub digits-most : (n : ℕ) → n < 18446744073709551616 → length (decimalOf n) ≤ 21
-digits-most n h = digits-below 20 n (omega arith)
+-- a number of 64 bits has at most 20 digits, one of 32 bits 10, one of 8 bits 3
+pub digits-most : (n : ℕ) → n < 18446744073709551616 → length (decimalOf n) ≤ 20
+digits-most n h = digits-below 19 n (omega arith)
+
+pub digits-most-32 : (n : ℕ) → n < 4294967296 → length (decimalOf n) ≤ 10
+digits-most-32 n h = digits-below 9 n (omega arith)
+
+pub digits-most-8 : (n : ℕ) → n < 256 → length (decimalOf n) ≤ 3
+digits-most-8 n h = digits-below 2 n (omega arith)
 
 -- ---- hex
 
