@@ -16,33 +16,26 @@ Inv-loop line at i₀ i = fieldEnd line i ≡ fieldEnd line at
 abbrev μ-loop : tie.MeasureT-loop
 μ-loop line at i₀ i = length line - i
 
--- src/commands.rt:50:5
 loop-holds : tie.Need-loop-holds Inv-loop μ-loop
 loop-holds c = refl
 
--- src/commands.rt:51:12
 shared-slice-read-if1 : tie.Need-shared-slice-read-if1 Inv-loop μ-loop
 shared-slice-read-if1 c = omega arith
 
--- src/commands.rt:52:13
 returns : tie.Need-returns Inv-loop μ-loop
 returns c = let l = c .before .before .before .loop in sym (end-tab (c .before .before .before .before .args .line .now) (l .i) (omega
     arith) (c .if1 .taken)) ∙ l .inv
 
--- src/commands.rt:54:9
 add-i : tie.Need-add-i Inv-loop μ-loop
 add-i c = omega arith
 
--- src/commands.rt:50:5
 loop-less : tie.Need-loop-less Inv-loop μ-loop
 loop-less c = omega arith
 
--- src/commands.rt:50:5
 loop-again : tie.Need-loop-again Inv-loop μ-loop
 loop-again c = let l = c .before .before .before .loop in end-next (c .before .before .before .before .args .line .now) (l .i) (omega arith)
     (c .if1 .left) ∙ l .inv
 
--- src/commands.rt:46:1
 returns-2 : tie.Need-returns-2 Inv-loop μ-loop
 returns-2 c = let l = c .before .loop in sym (end-line (c .before .before .args .line .now) (l .i) (omega arith)) ∙ l .inv
 

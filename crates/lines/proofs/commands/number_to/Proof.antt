@@ -7,24 +7,19 @@ use Rattle.lines.proofs.numeral.decimal.Reads as decimal-reads
 use borrow.Author.Tests.{eq-eqb, ne-eqb}
 use Rattle.lines.specs.Commands.{endsAt}
 
--- src/commands.rt:63:11
 decimal-requires : tie.Need-decimal-requires
 decimal-requires c κs = search needs
 
--- src/commands.rt:64:24
 enum-told : tie.Need-enum-told
 enum-told c = search needs
 
--- src/commands.rt:65:23
 enum-known-value : tie.Need-enum-known-value
 enum-known-value c = search needs
 
--- src/commands.rt:60:1
 returns : tie.Need-returns
 unfolding endsAt
 returns c = rw (← c .before .before .decimal .ensures, c .enum-told .given .1)
 
--- src/commands.rt:60:1
 returns-2 : tie.Need-returns-2
 unfolding endsAt
 returns-2 c = rw (
@@ -34,7 +29,6 @@ returns-2 c = rw (
       .value .given .0 .1 .0) (c .before .before .before .before .before .before .args .end) (c .if1 .taken),
 )
 
--- src/commands.rt:60:1
 returns-3 : tie.Need-returns-3
 unfolding endsAt
 returns-3 c = rw (

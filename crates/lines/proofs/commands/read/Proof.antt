@@ -12,40 +12,31 @@ use mathlib.Core.Path.{_≡_, sym, _∙_}
 use lib.Seq.{length-take-le}
 use Rattle.lines.proofs.FieldLaws.{one-field, two-fields, three-bad, three-value}
 
--- src/commands.rt:114:9
 field-end-requires : tie.Need-field-end-requires
 field-end-requires c κs = search needs
 
--- src/commands.rt:116:9
 returns : tie.Need-returns
 returns c = let e = c .before .before .before .before .args in one-field (e .line .now) (e .bytes .now) (omega (arith, c .before .field-end .ensures))
 
--- src/commands.rt:118:34
 add-field-end : tie.Need-add-field-end
 add-field-end c = search needs
 
--- src/commands.rt:118:9
 field-end-requires-2 : tie.Need-field-end-requires-2
 field-end-requires-2 c κs = search needs
 
--- src/commands.rt:119:34
 add-number-to : tie.Need-add-number-to
 add-number-to c = search needs
 
--- src/commands.rt:119:9
 number-to-requires : tie.Need-number-to-requires
 number-to-requires c κs = search needs
 
--- src/commands.rt:120:9
 slice-aggregate-name : tie.Need-slice-aggregate-name
 slice-aggregate-name c = sym (length-take-le (c .before .before .before .before .field-end .result) (c .before .before .before .before
     .before .before .before .args .line .now) (omega arith))
 
--- src/commands.rt:122:9
 command-of-two-requires : tie.Need-command-of-two-requires
 command-of-two-requires c κs = search needs
 
--- src/commands.rt:122:9
 returns-2 : tie.Need-returns-2
 returns-2 c = let e = c .before .before .before .before .before .before .before .before .before .args in rw (
   c .command-of-two .ensures,
@@ -55,23 +46,18 @@ returns-2 c = let e = c .before .before .before .before .before .before .before 
     .result) (c .before .before .before .before .before .before .field-end .ensures) (omega arith) (c .before .before .before .before
     .field-end2 .result) (c .before .before .before .before .field-end2 .ensures) (e .bytes .now) (omega arith))
 
--- src/commands.rt:125:24
 enum-told : tie.Need-enum-told
 enum-told c = search needs
 
--- src/commands.rt:126:23
 enum-known-number : tie.Need-enum-known-number
 enum-known-number c = search needs
 
--- src/commands.rt:126:64
 add-read-rx : tie.Need-add-read-rx
 add-read-rx c = search needs
 
--- src/commands.rt:126:35
 read-rx-requires : tie.Need-read-rx-requires
 read-rx-requires c κs = search needs
 
--- src/commands.rt:111:1
 returns-3 : tie.Need-returns-3
 returns-3 c = let e = c .before .before .before .before .before .before .before .before .before .before .args in three-bad (e .line .now) (c
     .before .before .before .before .before .before .before .field-end .result) (c .before .before .before .before .before .before .before
@@ -79,11 +65,9 @@ returns-3 c = let e = c .before .before .before .before .before .before .before 
     .before .field-end2 .ensures) (e .bytes .now) (omega arith) (sym (c .before .before .before .before .number-to .ensures) ∙ c .enum-told
     .given .1)
 
--- src/commands.rt:111:1
 same-length : tie.Need-same-length
 same-length c = search needs
 
--- src/commands.rt:111:1
 returns-4 : tie.Need-returns-4
 returns-4 c = let e = c .before .before .before .before .before .before .before .before .before .before .before .before .before .before
     .before .args in c .before .before .read-rx .ensures ∙ three-value (e .line .now) (c .before .before .before .before .before .before

@@ -10,31 +10,24 @@ use lib.ListN.{drop}
 use Rattle.packet.specs.Names.{bytesOf}
 use Rattle.lines.proofs.FieldLaws.{rx-bad, rx-bytes, rx-other}
 
--- src/commands.rt:100:24
 slice-aggregate-same-text : tie.Need-slice-aggregate-same-text
 slice-aggregate-same-text c = search needs
 
--- src/commands.rt:100:8
 same-text-requires : tie.Need-same-text-requires
 same-text-requires c κs = search needs
 
--- src/commands.rt:101:15
 hex-requires : tie.Need-hex-requires
 hex-requires c κs = search needs
 
--- src/commands.rt:102:27
 enum-told : tie.Need-enum-told
 enum-told c = search needs
 
--- src/commands.rt:103:26
 enum-known-count : tie.Need-enum-known-count
 enum-known-count c = search needs
 
--- src/commands.rt:97:1
 same-length : tie.Need-same-length
 same-length c = search needs
 
--- src/commands.rt:97:1
 returns : tie.Need-returns
 unfolding bytesOf
 returns c = let e = c .before .before .before .before .before .before .before .before .before .before .before .before .args in rx-bad (e
@@ -42,11 +35,9 @@ returns c = let e = c .before .before .before .before .before .before .before .b
     .before .same-text .ensures) ∙ c .before .before .before .before .before .before .if1 .taken) (c .before .before .before .before .hex
     .ensures) (c .enum-told .given .1)
 
--- src/commands.rt:97:1
 same-length-2 : tie.Need-same-length-2
 same-length-2 c = search needs
 
--- src/commands.rt:97:1
 returns-2 : tie.Need-returns-2
 unfolding bytesOf
 returns-2 c = let e = c .before .before .before .before .before .before .before .before .before .before .before .before .before .args in
@@ -54,7 +45,6 @@ returns-2 c = let e = c .before .before .before .before .before .before .before 
     .before .before .before .same-text .ensures) ∙ c .before .before .before .before .before .before .before .if1 .taken) (c .before .before
     .before .before .before .hex .ensures) (c .before .count .given .1)
 
--- src/commands.rt:97:1
 returns-3 : tie.Need-returns-3
 unfolding bytesOf
 returns-3 c = let e = c .before .before .before .before .before .before .args in rx-other (e .name .now) (e .session) (drop (e .at) (e .line

@@ -16,31 +16,24 @@ Inv-loop x y i₀ i = (i ≤ length x) × (length x ≡ length y) × (same (drop
 abbrev μ-loop : tie.MeasureT-loop
 μ-loop x y i₀ i = length x - i
 
--- src/commands.rt:32:9
 returns : tie.Need-returns Inv-loop μ-loop
 returns c = sym (same-lengths (c .before .args .x .now) (c .before .args .y .now) (c .if1 .taken))
 
--- src/commands.rt:35:5
 loop-holds : tie.Need-loop-holds Inv-loop μ-loop
 loop-holds c = (omega arith, c .if1 .left, refl)
 
--- src/commands.rt:36:12
 shared-slice-read-if2 : tie.Need-shared-slice-read-if2 Inv-loop μ-loop
 shared-slice-read-if2 c = omega arith
 
--- src/commands.rt:36:20
 shared-slice-read-if2-2 : tie.Need-shared-slice-read-if2-2 Inv-loop μ-loop
 shared-slice-read-if2-2 c = omega arith
 
--- src/commands.rt:37:13
 add-i : tie.Need-add-i Inv-loop μ-loop
 add-i c = omega arith
 
--- src/commands.rt:35:5
 loop-less : tie.Need-loop-less Inv-loop μ-loop
 loop-less c = omega arith
 
--- src/commands.rt:35:5
 loop-again : tie.Need-loop-again Inv-loop μ-loop
 loop-again c = let l = c .before .before .before .before .loop in (
   omega arith,
@@ -50,12 +43,10 @@ loop-again c = let l = c .before .before .before .before .loop in (
       .if2 .taken) ∙ l .inv .2,
 )
 
--- src/commands.rt:39:13
 returns-2 : tie.Need-returns-2 Inv-loop μ-loop
 returns-2 c = let l = c .before .before .before .before .loop in sym (same-stop (c .before .before .before .before .before .before .args .x
     .now) (c .before .before .before .before .before .before .args .y .now) (l .i) (omega arith) (omega arith) (c .if2 .left)) ∙ l .inv .2
 
--- src/commands.rt:28:1
 returns-3 : tie.Need-returns-3 Inv-loop μ-loop
 returns-3 c = let l = c .before .loop in sym (same-end (c .before .before .before .args .x .now) (c .before .before .before .args .y .now)
     (l .i) (omega arith) (omega arith)) ∙ l .inv .2
