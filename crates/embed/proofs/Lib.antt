@@ -1,0 +1,2 @@
+-- The laws of the server's words.
+pub mod Writing
