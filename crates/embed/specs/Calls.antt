@@ -149,14 +149,14 @@ abbrev pub filled : ℕ → List ℕ → Filled
 filled code l = record { code = code; filled = l }
 
 -- the lengths of the state, the disk, the map, the owners, the table, the selections and the unfinished packets
-abbrev pub needs : ℕ → ℕ → ℕ → ℕ → List ℕ
-needs blocks files sessions most =
+abbrev pub lengthsFor : ℕ → ℕ → ℕ → ℕ → List ℕ
+lengthsFor blocks files sessions most =
     54 ∷ 256 * blocks ∷ words blocks ∷ blocks ∷ 4 * files ∷ sessions * most ∷ sessions * 258 ∷ []
 
 unfoldable pub memoryBy : ℕ → ℕ → ℕ → ℕ → List ℕ → Filled
 memoryBy blocks files sessions most need =
     cond (ltb (length need) 7) (filled 33 need)
-    (cond (sizesFit blocks files sessions most) (filled 0 (needs blocks files sessions most ++ drop 7 need)) (filled 33 need))
+    (cond (sizesFit blocks files sessions most) (filled 0 (lengthsFor blocks files sessions most ++ drop 7 need)) (filled 33 need))
 
 -- ---- free blocks
 
