@@ -1,0 +1,3 @@
+-- The laws of the server's words.
+pub mod Writing
+pub mod Checked

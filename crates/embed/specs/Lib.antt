@@ -1,0 +1,3 @@
+-- The definitions that the contracts cite beyond those of the crates below.
+pub mod Words
+pub mod Calls
