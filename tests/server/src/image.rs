@@ -56,9 +56,7 @@ fn state(server: &Server) -> Vec<u64> {
     words.push(server.store.last_number.into());
     words.push(server.store.last_time.into());
     for index in 0..4 {
-        words.extend(session(
-            server.sessions.get(index).and_then(Option::as_ref),
-        ));
+        words.extend(session(server.sessions.get(index).and_then(Option::as_ref)));
     }
     words
 }

@@ -62,6 +62,11 @@ impl Pair {
         }
     }
 
+    /// How many calls were made.
+    pub fn calls(&self) -> usize {
+        self.calls
+    }
+
     /// Makes a call on both servers; an error says in what they differ.
     pub fn call(&mut self, call: &Call) -> Result<Answer, String> {
         self.calls += 1;
@@ -114,7 +119,9 @@ impl Pair {
         let (free, all) = (self.second.store.free_blocks(), self.second.sizes.blocks);
         match self.proved.free() {
             Ok(counted) if counted == (free, all) => Ok(()),
-            counted => Err(format!("free blocks: proved {counted:?}, second {free} of {all}")),
+            counted => Err(format!(
+                "free blocks: proved {counted:?}, second {free} of {all}"
+            )),
         }
     }
 
