@@ -1,9 +1,9 @@
 -- The calls for programs in other languages. Each is the server's call on the state that the words are read as; the answer is a number, and the
 -- words and the counts are written only where the call is not refused. Assumes nothing.
-use mathlib.Core.Bool.{Bool, true, false, cond}
+use mathlib.Core.Bool.{cond}
 use mathlib.Core.List.{List, [], _∷_, _++_}
 use Prim.Native.Nat.{ℕ, _+_, _*_}
-use lib.Dec.{eqb, ltb, leb}
+use lib.Dec.{eqb, ltb}
 use lib.ListN.{length, take, drop}
 use Rattle.session.specs.declared.reply.Answer.{Answer}
 use Rattle.session.specs.declared.reply.Answer.the-variants as answer
@@ -13,7 +13,7 @@ use Rattle.server.specs.declared.Done.{Done}
 use Rattle.server.specs.declared.Made.{Made}
 use Rattle.server.specs.State.{Lent, lent, Outcome, words}
 use Rattle.server.specs.Check.{sizesFit}
-use Rattle.server.specs.Making.{Emptied, emptied, Makes, makeOf}
+use Rattle.server.specs.Making.{Emptied, Makes, makeOf}
 use Rattle.server.specs.Calls.{receiveOf, Opened, loginOf, requestOf, Lost, loseOf}
 use Rattle.embed.specs.declared.words.Ready.{Ready}
 use Rattle.embed.specs.declared.words.Ready.the-variants.{Go, Refuse}

@@ -6,7 +6,7 @@ use Rattle.embed.proofs.figmorella_free.Lts as lts
 use Rattle.embed.proofs.free_in.Reads as free-in-reads
 use Rattle.embed.proofs.words.check.Reads as check-reads
 use Rattle.embed.proofs.words.server_at.Reads as server-at-reads
-use mathlib.Core.Path.{_≡_, sym, _∙_}
+use mathlib.Core.Path.{sym, _∙_}
 use lib.ListN.{length}
 use Rattle.embed.proofs.Checked.{ready-go}
 use Rattle.embed.specs.Calls.{freeBy, onFree}

@@ -6,9 +6,9 @@ use Rattle.embed.proofs.figmorella_memory.Lts as lts
 use Rattle.server.proofs.check.sizes_fit.Reads as sizes-fit-reads
 use native.Mathlib.Omega.{arith}
 use native.Mathlib.Nat.{mul-le-mul}
-use mathlib.Core.Path.{_≡_, sym, ap, _∙_}
+use mathlib.Core.Path.{sym, ap, _∙_}
 use borrow.Author.Tests.{lt-ltb, le-ltb}
-use lib.ListN.{length, length-set}
+use lib.ListN.{length-set}
 use Rattle.server.proofs.CheckLaws.{sizes-true}
 use Rattle.embed.specs.Calls.{memoryBy, filled}
 use Rattle.embed.proofs.Checked.{seven-needs}

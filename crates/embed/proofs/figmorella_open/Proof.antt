@@ -7,7 +7,7 @@ use Rattle.embed.proofs.tell.Reads as tell-reads
 use Rattle.embed.proofs.words.check.Reads as check-reads
 use Rattle.embed.proofs.words.server_at.Reads as server-at-reads
 use Rattle.server.proofs.login.Reads as login-reads
-use mathlib.Core.Path.{_≡_, sym, _∙_}
+use mathlib.Core.Path.{sym, _∙_}
 use lib.ListN.{length}
 use Rattle.embed.proofs.Checked.{ready-go}
 use Rattle.embed.specs.Calls.{openBy, onOpen}

@@ -7,8 +7,8 @@ use Rattle.blocks.proofs.free_count.Reads as free-count-reads
 use Rattle.embed.proofs.write_counts.Reads as write-counts-reads
 use Rattle.server.proofs.check.sizes_fit.Reads as sizes-fit-reads
 use native.Mathlib.Omega.{arith}
-use mathlib.Core.Path.{_≡_, sym, ap, _∙_}
-use Prim.Native.Nat.{ℕ, _≤_}
+use mathlib.Core.Path.{sym, ap, _∙_}
+use Prim.Native.Nat.{ℕ}
 use borrow.Author.Tests.{lt-ltb, le-ltb}
 use lib.Seq.{length-take-le}
 use Rattle.server.proofs.CheckLaws.{sizes-true}

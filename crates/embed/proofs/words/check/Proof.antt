@@ -3,7 +3,6 @@ use Rattle.embed.proofs.words.check.Tie as tie
 use Rattle.embed.proofs.words.check.Reads as reads
 use Rattle.embed.proofs.words.check.Lts as lts
 use Rattle.embed.proofs.words.is_state.Reads as is-state-reads
-use native.Mathlib.Omega.{arith}
 use Rattle.embed.specs.Words.{readyOf}
 use borrow.Author.Tests.{lt-ltb, le-ltb}
 

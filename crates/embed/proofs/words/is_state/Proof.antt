@@ -5,12 +5,11 @@ use Rattle.embed.proofs.words.is_state.Lts as lts
 use Rattle.embed.proofs.words.encode.Reads as encode-reads
 use Rattle.embed.proofs.words.same.Reads as same-reads
 use Rattle.embed.proofs.words.server_at.Reads as server-at-reads
-use mathlib.Core.Path.{_≡_, refl, sym, ap, _∙_}
+use mathlib.Core.Path.{refl, sym, _∙_}
 use native.Mathlib.Omega.{arith}
 use lib.Seq.{length-take-le}
 use Rattle.embed.specs.Words.{isState}
 use Rattle.embed.proofs.Writing.{encode-alone}
-use Prim.Native.Nat.{_≤_}
 use lib.ListN.{replicate}
 
 -- src/words.rt:260:9

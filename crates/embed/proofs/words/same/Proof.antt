@@ -1,10 +1,9 @@
 use mathlib.Core.Path.{_≡_, refl, sym, _∙_}
-use Prim.Native.Nat.{ℕ, _+_, _-_, _≤_}
+use Prim.Native.Nat.{_-_, _≤_}
 use native.Mathlib.Omega.{arith}
 use lib.ListN.{length, drop}
 use Rattle.embed.specs.Words.{sameWords}
 use Rattle.embed.proofs.Writing.{same-step, same-stop, same-end}
-use borrow.Author.Needs.{needs}
 use Rattle.embed.proofs.words.same.Statement.{statement}
 use Rattle.embed.proofs.words.same.Tie as tie
 use Rattle.embed.proofs.words.same.Reads as reads

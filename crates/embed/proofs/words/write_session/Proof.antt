@@ -8,7 +8,7 @@ use Rattle.embed.proofs.words.word.Reads as word-reads
 use Rattle.embed.proofs.words.write3.Reads as write3-reads
 use Rattle.embed.proofs.words.write_down.Reads as write-down-reads
 use Rattle.embed.proofs.words.write_up.Reads as write-up-reads
-use mathlib.Core.Path.{_≡_, sym, ap, _∙_}
+use mathlib.Core.Path.{_∙_}
 use native.Mathlib.Omega.{arith}
 use lib.ListN.{length-set}
 use Rattle.embed.proofs.Writing.{run-session}
