@@ -45,7 +45,7 @@ impl Habits {
             late: random.chance(1, 8),
             brim: *random.pick(&[0, 0, 0, 4]),
             wishes: Wishes {
-                damaged: *random.pick(&[0, 0, 10, 70]),
+                damaged: *random.pick(&[0, 10, 40, 90]),
                 long: 0,
                 body: *random.pick(&[0, 20, 60, 300, 2000]),
             },
@@ -239,7 +239,9 @@ impl Author {
         if self.chance(self.habits.stray) {
             return self.stray();
         }
-        if self.chance(self.habits.uplink) {
+        // an upload for which there is no place is refused, which need not be seen often
+        let vain = session.uplink == Uplink::Idle && is_full(server) && self.chance(80);
+        if self.chance(self.habits.uplink) && !vain {
             self.uplink_packet(server, session, index)
         } else {
             self.downlink_packet(server, session, index)
@@ -293,7 +295,8 @@ impl Author {
             return packet(Type::UploadCmd, &vec![0; length]);
         }
         let partials = files(server, |file| !file.is_complete());
-        if !partials.is_empty() && self.random.chance(1, 3) {
+        let continued = if is_full(server) { 80 } else { 33 };
+        if !partials.is_empty() && self.chance(continued) {
             let file = *self.random.pick(&partials);
             return self.continuation(server, file);
         }
@@ -409,7 +412,8 @@ impl Author {
 
     fn download(&mut self, server: &Server, session: &Session) -> Vec<u8> {
         let selected = session.selection.numbers.get(session.selection.position);
-        let live = files(server, |_| true);
+        let any = self.random.chance(1, 4);
+        let live = files(server, |file| any || file.is_complete());
         let number = match self.random.below(12) {
             0 => u32::MAX,
             1 => server.store.last_number.wrapping_add(1),
@@ -469,6 +473,11 @@ impl Author {
             }
         }
     }
+}
+
+/// No place is free.
+fn is_full(server: &Server) -> bool {
+    server.store.places.iter().all(Option::is_some)
 }
 
 fn files(server: &Server, wanted: impl Fn(&File) -> bool) -> Vec<&File> {
