@@ -175,9 +175,9 @@ pub extern "C" fn figmorella_open(
                 session,
                 clock,
             );
-            let next = done.server;
+            let opened = done.server;
             let answer = done.answer;
-            tell(answer, next, state, counts)
+            tell(answer, opened, state, counts)
         }
     }
 }
@@ -219,9 +219,9 @@ pub extern "C" fn figmorella_receive(
                 clock,
                 input,
             );
-            let next = done.server;
+            let heard = done.server;
             let answer = done.answer;
-            tell(answer, next, state, counts)
+            tell(answer, heard, state, counts)
         }
     }
 }
@@ -259,9 +259,9 @@ pub extern "C" fn figmorella_request(
                 out,
                 session,
             );
-            let next = done.server;
+            let asked = done.server;
             let answer = done.answer;
-            tell(answer, next, state, counts)
+            tell(answer, asked, state, counts)
         }
     }
 }
@@ -288,9 +288,9 @@ pub extern "C" fn figmorella_lose(
         Ready::Go => {
             let server = words::server_at(&*state);
             let done = server::lose(server, disk, map, owner, table, selected, held, session);
-            let next = done.server;
+            let closed = done.server;
             let answer = done.answer;
-            tell(answer, next, state, counts)
+            tell(answer, closed, state, counts)
         }
     }
 }
