@@ -68,8 +68,15 @@ fn start(random: &mut Random) -> Start {
     }
 }
 
+/// The calls of a seed, and the servers after them.
+pub struct History {
+    pub start: Start,
+    pub calls: Vec<Call>,
+    pub pair: Pair,
+}
+
 /// Runs the history of a seed to its end.
-pub fn run(seed: u64) -> Result<Pair, Box<Failure>> {
+pub fn run(seed: u64) -> Result<History, Box<Failure>> {
     let mut random = Random::new(seed);
     let start = start(&mut random);
     let length = *random.pick(&[60, 200, 400, 400, 1500]);
@@ -91,7 +98,12 @@ pub fn run(seed: u64) -> Result<Pair, Box<Failure>> {
             }
         }
     }
-    Ok(pair)
+    Ok(History { start, calls, pair })
+}
+
+/// The same, for tests: a difference is printed with as few calls as can be, and fails.
+pub fn run_same(seed: u64) -> History {
+    run(seed).unwrap_or_else(|failure| panic!("{}", shortened(failure)))
 }
 
 /// The first difference that these calls show, and after how many of them.

@@ -62,11 +62,6 @@ impl Pair {
         }
     }
 
-    /// How many calls were made.
-    pub fn calls(&self) -> usize {
-        self.calls
-    }
-
     /// Makes a call on both servers; an error says in what they differ.
     pub fn call(&mut self, call: &Call) -> Result<Answer, String> {
         self.calls += 1;

@@ -3,7 +3,7 @@
 use reference::random::Random;
 use server::broken::{apply, State, FACTS};
 use server::call::{Act, Call};
-use server::history;
+use server::history::run_same;
 use server::pair::on_proved;
 use server::proved::{Answer, Proved};
 
@@ -42,9 +42,8 @@ fn refused(proved: &mut Proved, call: &Call, what: &str) {
 fn a_state_with_a_broken_fact_is_35() {
     let mut tried = [0; FACTS.len()];
     for seed in 2_000_000..2_000_250 {
-        let pair = history::run(seed).unwrap_or_else(|failure| panic!("{failure}"));
         let mut random = Random::new(seed);
-        let mut whole = pair.proved;
+        let mut whole = run_same(seed).pair.proved;
         for (at, (name, changes)) in FACTS.iter().enumerate() {
             let changes = changes(&State::of(&whole));
             for _ in 0..TRIED.min(changes.len()) {

@@ -1,22 +1,24 @@
 //! Lent slices that are too short, and sizes outside the table: 33 or 32, and nothing changes.
 use reference::server::Sizes;
-use server::history;
+use server::history::run_same;
 use server::proved::{memory, state_words, Answer, Proved};
 
 fn program() -> Proved {
     Proved::empty(Sizes::PROGRAM, 0)
 }
 
+type Made = fn(&mut Proved, usize) -> Answer;
+
 /// Each of the four calls on a session, on a copy; the answer and the slices afterwards.
 fn calls(proved: &Proved, session: usize) -> Vec<(Answer, Proved)> {
-    let acts: [fn(&mut Proved, usize) -> Answer; 5] = [
+    let acts: [Made; 5] = [
         |proved, session| proved.open(session, 9),
         |proved, session| proved.receive(session, 9, &[]),
         |proved, session| proved.receive(session, 9, &[1, 0x10, 0]),
         |proved, session| proved.request(session),
         |proved, session| proved.lose(session),
     ];
-    let run = |act: &fn(&mut Proved, usize) -> Answer| {
+    let run = |act: &Made| {
         let mut copy = proved.clone();
         (act(&mut copy, session), copy)
     };
@@ -36,9 +38,12 @@ fn drop_last<T>(slice: &mut Vec<T>) {
     slice.pop();
 }
 
+/// A slice by its name, and how it loses its last element.
+type Shorten = (&'static str, fn(&mut Proved));
+
 /// Each slice with one element too few.
 fn shortened(proved: &Proved) -> Vec<(&'static str, Proved)> {
-    let shorten: [(&str, fn(&mut Proved)); 8] = [
+    let shorten: [Shorten; 8] = [
         ("state", |proved| drop_last(&mut proved.state)),
         ("disk", |proved| drop_last(&mut proved.disk)),
         ("map", |proved| drop_last(&mut proved.map)),
@@ -48,7 +53,7 @@ fn shortened(proved: &Proved) -> Vec<(&'static str, Proved)> {
         ("held", |proved| drop_last(&mut proved.held)),
         ("counts", |proved| drop_last(&mut proved.counts)),
     ];
-    let one = |(name, change): (&'static str, fn(&mut Proved))| {
+    let one = |(name, change): Shorten| {
         let mut copy = proved.clone();
         change(&mut copy);
         (name, copy)
@@ -86,7 +91,7 @@ fn losing_a_link_needs_no_output() {
 #[test]
 fn each_slice_one_element_short_is_33() {
     for seed in 0..60 {
-        let pair = history::run(seed).unwrap_or_else(|failure| panic!("{failure}"));
+        let pair = run_same(seed).pair;
         let mut proved = pair.proved;
         // what is lent beyond the needs goes first
         let mut need = [0; 7];
@@ -123,18 +128,14 @@ fn a_server_is_not_made_over_short_slices() {
 fn the_order_of_local_refusals() {
     let mut proved = program();
     proved.out = vec![0; 257];
-    all_refused_but_lose(&proved, 34, 5);
+    for (answer, after) in calls(&proved, 5) {
+        assert_eq!(answer, Answer::Refused(34), "no such session");
+        assert!(after == proved);
+    }
     proved.map[0] ^= 1;
     all_refused(&proved, 35, "the map is wrong");
     proved.held.pop();
     all_refused(&proved, 33, "the map is wrong and a slice is short");
-}
-
-fn all_refused_but_lose(proved: &Proved, number: u8, session: usize) {
-    for (answer, after) in calls(proved, session) {
-        assert_eq!(answer, Answer::Refused(number));
-        assert!(after == *proved);
-    }
 }
 
 #[test]

@@ -3,7 +3,7 @@ use reference::draft::Draft;
 use reference::server::{Server, Sizes};
 use server::call::{Act, Call};
 use server::coverage::Coverage;
-use server::history::{run, shortened};
+use server::history::run_same;
 use server::packets::{download, upload, whole_upload};
 use server::pair::{Pair, Start};
 use server::proved::Answer;
@@ -14,9 +14,9 @@ fn random_calls_get_the_second_programs_answers() {
     let mut calls = 0;
     let mut seed = 1_000_000;
     while calls < 100_000 {
-        let pair = run(seed).unwrap_or_else(|failure| panic!("{}", shortened(failure)));
-        coverage.add(&pair.coverage);
-        calls += pair.calls();
+        let history = run_same(seed);
+        coverage.add(&history.pair.coverage);
+        calls += history.calls.len();
         seed += 1;
     }
     // the calls would show little if some answers were never given

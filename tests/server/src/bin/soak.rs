@@ -25,9 +25,9 @@ fn main() {
     let mut calls = 0;
     while began.elapsed() < Duration::from_secs(seconds) {
         match run(seed) {
-            Ok(pair) => {
-                coverage.add(&pair.coverage);
-                calls += pair.calls();
+            Ok(history) => {
+                coverage.add(&history.pair.coverage);
+                calls += history.calls.len();
             }
             Err(failure) => {
                 print!("{}", shortened(failure));
