@@ -104,7 +104,7 @@ impl Pair {
         } else if self.proved.counts[2] != 73 {
             return Err("a third count is written".to_string());
         }
-        if refused || self.calls % DISK_EVERY == 0 {
+        if refused || self.calls.is_multiple_of(DISK_EVERY) {
             same_bytes(&self.proved, &self.second)?;
         }
         same_words(&self.proved, &self.second)?;
