@@ -1,11 +1,11 @@
 //! Random calls. The author looks at the second program's state, so that most calls mean something to the server: uploads in pieces that
 //! complete, continuations, selections, downloads with their words; and among them damage of every kind.
+mod downlink;
+mod uplink;
+
 use crate::call::{Act, Call};
-use crate::packets::{ack, data, data_end, download, nak, packet, select, upload};
 use crate::proved::Answer;
-use reference::generator::{equation, plan, sound, Plan, Wishes};
-use reference::header;
-use reference::packet::Type;
+use reference::generator::{Plan, Wishes};
 use reference::random::Random;
 use reference::server::{Downlink, Server, Session, Uplink, OUTPUT};
 use reference::store::File;
@@ -279,200 +279,6 @@ impl Author {
         bytes.extend(random.bytes(if length > 256 { 20 } else { length }));
         bytes
     }
-
-    fn uplink_packet(&mut self, server: &Server, session: &Session, index: usize) -> Vec<u8> {
-        match session.uplink {
-            Uplink::Idle => self.upload_command(server, index),
-            Uplink::Ignoring if self.random.chance(1, 3) => data(&[0; 20]),
-            Uplink::Ignoring => data_end(),
-            Uplink::Receiving { place, .. } => self.next_data(server.store.file(place), index),
-        }
-    }
-
-    fn upload_command(&mut self, server: &Server, index: usize) -> Vec<u8> {
-        if self.random.chance(1, 40) {
-            let length = *self.random.pick(&[0, 1, 7, 9, 12]);
-            return packet(Type::UploadCmd, &vec![0; length]);
-        }
-        let partials = files(server, |file| !file.is_complete());
-        let continued = if is_full(server) { 80 } else { 33 };
-        if !partials.is_empty() && self.chance(continued) {
-            let file = *self.random.pick(&partials);
-            return self.continuation(server, file);
-        }
-        let plan = match self.chance(self.habits.brim) {
-            true => self.brim(server),
-            false => plan(&mut self.random, self.habits.wishes),
-        };
-        let announced = plan.announced;
-        self.meant[index] = Some(plan);
-        upload(0, announced)
-    }
-
-    /// A file that fills the free blocks, or one byte less or more.
-    fn brim(&mut self, server: &Server) -> Plan {
-        let room = 256 * server.store.free_blocks();
-        let bytes = match room {
-            80..=20_000 if self.random.chance(1, 2) => {
-                let file = sound(&mut self.random, 0);
-                let length = file.bytes().len();
-                file.with_body(&vec![7; room.saturating_sub(length)])
-                    .bytes()
-            }
-            _ => vec![0xaa, 0x55],
-        };
-        let announced = match bytes.len() {
-            2 => room + self.random.below(3) - room.min(1),
-            length => length,
-        };
-        Plan {
-            announced: announced as u32,
-            bytes,
-        }
-    }
-
-    fn continuation(&mut self, server: &Server, file: &File) -> Vec<u8> {
-        let (number, length) = (file.number, file.length);
-        let complete = files(server, File::is_complete);
-        match self.random.below(14) {
-            0 => upload(number, length.wrapping_add(1)),
-            1 => upload(server.store.last_number.saturating_add(1), length),
-            2 => upload(u32::MAX, length),
-            3 if !complete.is_empty() => {
-                let other = self.random.pick(&complete);
-                upload(other.number, other.length)
-            }
-            _ => upload(number, length),
-        }
-    }
-
-    fn next_data(&mut self, file: &File, index: usize) -> Vec<u8> {
-        let plan = match self.plans.get(&file.number).or(self.meant[index].as_ref()) {
-            Some(plan) if plan.announced == file.length => plan.bytes.as_slice(),
-            _ => &[],
-        };
-        let rest = plan.get(file.received as usize..).unwrap_or(&[]);
-        if rest.is_empty() || self.random.chance(1, 60) {
-            let room = file.length - file.received;
-            return match self.random.below(30) {
-                0 if room < 256 => data(&vec![0; room as usize + 1]),
-                1 => packet(Type::DataEnd, &[0]),
-                2 => data(&[]),
-                _ => data_end(),
-            };
-        }
-        let most = rest.len().min(256);
-        let length = match self.random.below(10) {
-            0 => 0,
-            1 => 1,
-            2 | 3 => self.random.between(1, most),
-            _ => most,
-        };
-        data(&rest[..length])
-    }
-
-    fn downlink_packet(&mut self, server: &Server, session: &Session, index: usize) -> Vec<u8> {
-        match (session.downlink, self.random.below(16)) {
-            (Downlink::Idle, _) => self.idle_command(server, session),
-            (Downlink::Sending { .. }, 1..=6) => nak(),
-            (Downlink::Sending { .. } | Downlink::Aborting { .. }, 1..=14) => {
-                self.uplink_packet(server, session, index)
-            }
-            (Downlink::Ended { place }, 1..) => self.word(server, place),
-            (_, 0) => self.idle_command(server, session),
-            _ => ack(0),
-        }
-    }
-
-    /// A command that an idle downlink takes.
-    fn idle_command(&mut self, server: &Server, session: &Session) -> Vec<u8> {
-        match self.random.below(50) {
-            0 => packet(Type::DirShortCmd, &[1; 4]),
-            1 => packet(Type::DirLongCmd, &[]),
-            2 => nak(),
-            3 => {
-                let length = *self.random.pick(&[0, 8, 10]);
-                packet(Type::DownloadCmd, &vec![1; length])
-            }
-            4..=20 => self.select(server),
-            _ => self.download(server, session),
-        }
-    }
-
-    fn select(&mut self, server: &Server) -> Vec<u8> {
-        // a few files are enough to make relations that some meet, and reading all would take long
-        let short = files(server, |file| file.is_complete() && file.length < 3000);
-        let mut known = Vec::new();
-        for _ in 0..short.len().min(4) {
-            let file = self.random.pick(&short);
-            known.push(contents(server, file.number));
-        }
-        select(&equation(&mut self.random, &known))
-    }
-
-    fn download(&mut self, server: &Server, session: &Session) -> Vec<u8> {
-        let selected = session.selection.numbers.get(session.selection.position);
-        let any = self.random.chance(1, 4);
-        let live = files(server, |file| any || file.is_complete());
-        let number = match self.random.below(12) {
-            0 => u32::MAX,
-            1 => server.store.last_number.wrapping_add(1),
-            2..=7 if selected.is_some() => 0,
-            2 => 0,
-            _ if live.is_empty() => 1,
-            _ => self.random.pick(&live).number,
-        };
-        let meant = match number {
-            0 => selected.copied().unwrap_or(0),
-            _ => number,
-        };
-        let (length, destinations) = match server.store.find(meant) {
-            Some(place) => (
-                server.store.file(place).length,
-                header::destinations(&server.store.contents(place)),
-            ),
-            None => (100, 0),
-        };
-        let offset = self.offset(length);
-        download(number, offset, self.destination(destinations))
-    }
-
-    fn offset(&mut self, length: u32) -> u32 {
-        match self.random.below(14) {
-            0 => length,
-            1 => length.saturating_add(1),
-            2 => length.saturating_sub(1),
-            3 => self.random.below(length as usize + 1) as u32,
-            4 => 256,
-            5 => length.saturating_sub(256),
-            6 if self.random.chance(1, 3) => u32::MAX,
-            _ => 0,
-        }
-    }
-
-    /// A destination number, mostly one that the file has.
-    fn destination(&mut self, destinations: usize) -> u8 {
-        let number = match self.random.below(8) {
-            0 => destinations + 1,
-            1 => 255,
-            2..=4 => self.random.below(destinations + 1),
-            _ => 0,
-        };
-        number.min(255) as u8
-    }
-
-    /// The client's word after a download.
-    fn word(&mut self, server: &Server, place: usize) -> Vec<u8> {
-        match self.random.below(10) {
-            0 => packet(Type::DlAckCmd, &[]),
-            1 => packet(Type::DlAckCmd, &[0, 0]),
-            2 | 3 => nak(),
-            _ => {
-                let destinations = header::destinations(&server.store.contents(place));
-                ack(self.destination(destinations))
-            }
-        }
-    }
 }
 
 /// No place is free.
@@ -483,9 +289,4 @@ fn is_full(server: &Server) -> bool {
 fn files(server: &Server, wanted: impl Fn(&File) -> bool) -> Vec<&File> {
     let all = server.store.places.iter().flatten();
     all.filter(|file| wanted(file)).collect()
-}
-
-fn contents(server: &Server, number: u32) -> Vec<u8> {
-    let place = server.store.find(number).expect("a file of that number");
-    server.store.contents(place)
 }
