@@ -1,6 +1,5 @@
-//! Times of the server's calls beside the second program's, at two sizes: medians over many runs in one process, and ratios. Nothing is
-//! asserted on times. The second program keeps its state as it likes and checks nothing of it; the proved server gets all its memory lent
-//! and checks it (refusal 35) at each call, which is the row "receive no byte".
+//! Times of the server's calls beside the second program's at two sizes, and their ratios. Nothing is asserted on times. The second program
+//! keeps its state itself and checks nothing of it; the proved server gets all its memory lent and checks it (refusal 35) at each call.
 use reference::draft::Draft;
 use reference::server::{Answer as Second, Server, Sizes, OUTPUT};
 use server::packets::{ack, data, download, select, upload, whole_upload};
@@ -9,9 +8,11 @@ use std::hint::black_box;
 use std::time::Instant;
 
 const SIZES: [(usize, usize); 2] = [(128, 32), (4096, 256)];
-const RUNS: usize = 101;
+const RUNS: usize = 60;
 /// A run is made so long that the clock measures it well.
-const LEAST_NANOSECONDS: u128 = 100_000;
+const LEAST_NANOSECONDS: f64 = 100_000.0;
+const CHECK: &str = "receive no byte: the check alone";
+const RECEIVE: &str = "receive a DATA of 256 bytes";
 
 /// The same calls on both servers.
 trait Calls {
@@ -86,29 +87,78 @@ impl Calls for Plain {
     }
 }
 
-/// The median time of one call in nanoseconds.
-fn median(mut call: impl FnMut()) -> f64 {
-    let mut calls = 1;
-    loop {
-        let began = Instant::now();
-        (0..calls).for_each(|_| call());
-        if LEAST_NANOSECONDS < began.elapsed().as_nanos() {
-            break;
-        }
-        calls *= 2;
-    }
-    let run = |_| {
-        let began = Instant::now();
-        (0..calls).for_each(|_| call());
-        began.elapsed().as_nanos() as f64 / f64::from(calls)
-    };
-    let mut times: Vec<f64> = (0..RUNS).map(run).collect();
-    times.sort_by(f64::total_cmp);
-    times[RUNS / 2]
+/// Both servers, brought into the same state.
+struct Both {
+    proved: Proved,
+    second: Plain,
 }
 
-/// Makes one call after the other until all bytes are taken.
-fn feed(server: &mut impl Calls, session: usize, bytes: &[u8]) {
+/// Times of one act on both servers, in nanoseconds.
+struct Row {
+    name: &'static str,
+    proved: f64,
+    second: f64,
+}
+
+/// So many acts take long enough to be measured.
+fn enough(server: &mut dyn Calls, act: &dyn Fn(&mut dyn Calls)) -> u32 {
+    let mut acts = 1;
+    while timed(server, acts, act) * f64::from(acts) < LEAST_NANOSECONDS {
+        acts *= 2;
+    }
+    acts
+}
+
+/// The time of one act, over so many.
+fn timed(server: &mut dyn Calls, acts: u32, act: &dyn Fn(&mut dyn Calls)) -> f64 {
+    let began = Instant::now();
+    (0..acts).for_each(|_| act(server));
+    began.elapsed().as_nanos() as f64 / f64::from(acts)
+}
+
+/// The time below which a quarter of the runs lie: other programs on the machine only make a run longer.
+fn quarter(mut times: Vec<f64>) -> f64 {
+    times.sort_by(f64::total_cmp);
+    times[times.len() / 4]
+}
+
+impl Both {
+    fn new(sizes: Sizes) -> Both {
+        Both {
+            proved: Proved::empty(sizes, 0),
+            second: Plain {
+                server: Server::new(sizes).expect("sizes of the table"),
+                output: vec![0; OUTPUT],
+            },
+        }
+    }
+
+    fn each(&mut self, act: impl Fn(&mut dyn Calls)) {
+        act(&mut self.proved);
+        act(&mut self.second);
+    }
+
+    /// The runs of the two servers take turns, so that the machine's load is the same for both.
+    fn measure(&mut self, name: &'static str, act: impl Fn(&mut dyn Calls)) -> Row {
+        let (proved_acts, second_acts) = (
+            enough(&mut self.proved, &act),
+            enough(&mut self.second, &act),
+        );
+        let (mut proved, mut second) = (Vec::new(), Vec::new());
+        for _ in 0..RUNS {
+            proved.push(timed(&mut self.proved, proved_acts, &act));
+            second.push(timed(&mut self.second, second_acts, &act));
+        }
+        Row {
+            name,
+            proved: quarter(proved),
+            second: quarter(second),
+        }
+    }
+}
+
+/// Hands over one packet, or less.
+fn feed(server: &mut dyn Calls, session: usize, bytes: &[u8]) {
     assert_eq!(server.receive(session, bytes), bytes.len());
 }
 
@@ -118,9 +168,8 @@ fn file(length: usize) -> Vec<u8> {
     Draft::new().with_body(&vec![3; length - header]).bytes()
 }
 
-/// One block is left for session 1 to upload to, and the last place; the other blocks are spread over the other places. `files` of the
-/// files are of type 1, for equations to find.
-fn filled(server: &mut impl Calls, blocks: usize, files: usize) {
+/// Complete files at all places but the last one and on all blocks but one, which session 1 has begun to upload to.
+fn filled(server: &mut dyn Calls, blocks: usize, files: usize) {
     server.open(1);
     server.open(2);
     let (many, left) = (files - 1, blocks - 1);
@@ -133,109 +182,98 @@ fn filled(server: &mut impl Calls, blocks: usize, files: usize) {
     feed(server, 1, &upload(0, 256));
 }
 
-type Row = (&'static str, f64);
-
-/// The rows on a store with files at all places but one.
-fn rows(server: &mut impl Calls, blocks: usize, files: usize) -> Vec<Row> {
-    filled(server, blocks, files);
-    let place = files - 1;
+/// The acts on a full store.
+fn on_full_store(sizes: Sizes) -> Vec<Row> {
+    let Sizes { blocks, files, .. } = sizes;
+    let mut both = Both::new(sizes);
+    both.each(|server| filled(server, blocks, files));
     let whole = data(&[9; 256]);
-    let nothing = median(|| {
-        assert_eq!(server.receive(1, black_box(&[])), 0);
-    });
-    let at_once = median(|| {
-        server.rewind(place);
-        feed(server, 1, black_box(&whole));
-    });
-    let by_bytes = median(|| {
-        server.rewind(place);
-        whole
-            .chunks(1)
-            .for_each(|byte| feed(server, 1, black_box(byte)));
-    });
-    // every header is read and every file is above time 0, so that MAXSEL are found; or none is
     let found = select(&[0x90, 0x12, 0, 4, 0, 0, 0, 0]);
     let none = select(&[0x90, 0x12, 0, 4, 255, 255, 255, 255]);
-    let some = median(|| feed(server, 2, black_box(&found)));
-    let empty = median(|| feed(server, 2, black_box(&none)));
     vec![
-        ("receive no byte: the check alone", nothing),
-        ("receive a DATA of 256 bytes", at_once),
-        ("receive the same byte by byte", by_bytes),
-        ("SELECT that finds MAXSEL files", some),
-        ("SELECT that finds no file", empty),
+        both.measure(CHECK, |server| {
+            feed(server, 1, black_box(&[]));
+        }),
+        both.measure(RECEIVE, |server| {
+            server.rewind(files - 1);
+            feed(server, 1, black_box(&whole));
+        }),
+        both.measure("receive the same byte by byte", |server| {
+            server.rewind(files - 1);
+            whole
+                .chunks(1)
+                .for_each(|byte| feed(server, 1, black_box(byte)));
+        }),
+        both.measure("SELECT that finds MAXSEL files", |server| {
+            feed(server, 2, black_box(&found));
+        }),
+        both.measure("SELECT that finds no file", |server| {
+            feed(server, 2, black_box(&none));
+        }),
     ]
 }
 
-/// A download of a file that takes all blocks, up to the largest of 1 MiB.
-fn download_row(server: &mut impl Calls, blocks: usize) -> Row {
-    server.open(1);
-    for packet in whole_upload(&file(256 * blocks)) {
-        feed(server, 1, &packet);
-    }
-    let time = median(|| {
+/// A download of a file that takes all blocks: 1 MiB on the largest store.
+fn largest_download(sizes: Sizes) -> Row {
+    let mut both = Both::new(sizes);
+    both.each(|server| {
+        server.open(1);
+        for packet in whole_upload(&file(256 * sizes.blocks)) {
+            feed(server, 1, &packet);
+        }
+    });
+    both.measure("download a file of all blocks", |server| {
         feed(server, 1, &download(1, 0, 0));
         while server.request(1) {}
         feed(server, 1, &ack(0));
-    });
-    ("download a file of all blocks", time)
+    })
 }
 
-fn proved(sizes: Sizes) -> Proved {
-    Proved::empty(sizes, 0)
-}
-
-fn second(sizes: Sizes) -> Plain {
-    Plain {
-        server: Server::new(sizes).expect("sizes of the table"),
-        output: vec![0; OUTPUT],
-    }
-}
-
-/// The rows of both servers at one size.
-fn measure(blocks: usize, files: usize) -> Vec<(Row, Row)> {
+fn measure(blocks: usize, files: usize) -> Vec<Row> {
     let sizes = Sizes {
         blocks,
         files,
         sessions: 4,
         maxsel: 50,
     };
-    let mut ours = rows(&mut proved(sizes), blocks, files);
-    let mut theirs = rows(&mut second(sizes), blocks, files);
-    ours.push(download_row(&mut proved(sizes), blocks));
-    theirs.push(download_row(&mut second(sizes), blocks));
-    ours.into_iter().zip(theirs).collect()
+    let mut rows = on_full_store(sizes);
+    rows.push(largest_download(sizes));
+    rows
+}
+
+fn print(name: &str, rows: &[Row]) {
+    println!("{name:<34}{:>16}{:>16}{:>10}", "proved", "second", "ratio");
+    for row in rows {
+        let (proved, second) = (row.proved / 1000.0, row.second / 1000.0);
+        println!(
+            "{:<34}{proved:>13.2} us{second:>13.2} us{:>10.2}",
+            row.name,
+            proved / second
+        );
+    }
+    let of = |name| {
+        rows.iter()
+            .find(|row| row.name == name)
+            .map_or(0.0, |row| row.proved)
+    };
+    let share = 100.0 * of(CHECK) / of(RECEIVE);
+    println!("the check is {share:.0} of 100 parts of receiving a DATA of 256 bytes\n");
 }
 
 fn main() {
-    let all: Vec<Vec<(Row, Row)>> = SIZES
+    let all: Vec<Vec<Row>> = SIZES
         .iter()
         .map(|&(blocks, files)| measure(blocks, files))
         .collect();
-    print!("{:<34}", "blocks/files");
-    for (blocks, files) in SIZES {
-        let size = format!("{blocks}/{files}");
-        print!("{size:>12} proved {:>12} second {:>8}", "", "ratio");
-    }
-    println!("{:>16} {:>8}", "grows: proved", "second");
-    for (first, last) in all[0].iter().zip(&all[1]) {
-        print!("{:<34}", first.0 .0);
-        for ((_, ours), (_, theirs)) in [first, last] {
-            let (ours_us, theirs_us) = (ours / 1000.0, theirs / 1000.0);
-            print!(
-                "{ours_us:>16.2} us {theirs_us:>16.2} us {:>8.2}",
-                ours / theirs
-            );
-        }
-        println!(
-            "{:>16.1} {:>8.1}",
-            last.0 .1 / first.0 .1,
-            last.1 .1 / first.1 .1
-        );
-    }
     for ((blocks, files), rows) in SIZES.iter().zip(&all) {
-        let (check, receive) = (rows[0].0 .1, rows[1].0 .1);
-        let share = 100.0 * check / receive;
-        println!("{blocks}/{files}: the check takes {share:.0} of 100 parts of receiving a DATA of 256 bytes");
+        print(&format!("{blocks} blocks, {files} files"), rows);
+    }
+    println!(
+        "{:<34}{:>16}{:>16}",
+        "from the first size to the second", "proved", "second"
+    );
+    for (first, last) in all[0].iter().zip(&all[1]) {
+        let (proved, second) = (last.proved / first.proved, last.second / first.second);
+        println!("{:<34}{:>14.1} x{:>14.1} x", first.name, proved, second);
     }
 }
