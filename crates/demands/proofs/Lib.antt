@@ -1,2 +1,4 @@
 pub mod Checks
 pub mod Heard
+pub mod Decided
+pub mod Carried
