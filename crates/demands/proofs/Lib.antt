@@ -2,3 +2,5 @@ pub mod Checks
 pub mod Heard
 pub mod Decided
 pub mod Carried
+pub mod Steps
+pub mod Answered

@@ -1,0 +1,285 @@
+-- Demand 1: every call is answered, the local refusals come in the paper's order, and a packet of refusal changes nothing else. Assumes nothing.
+use mathlib.Core.Path.{_≡_, refl, sym, ap, _∙_, subst}
+use mathlib.Core.Bool.{Bool, true, false, cond}
+use mathlib.Core.List.{List, [], _∷_, _++_}
+use Prim.Native.Nat.{ℕ, zero, suc, _+_, _*_, _-_, _/_, _%_, _≤_, _<_}
+use native.Mathlib.Omega.{arith}
+use borrow.Author.Tests.{le-ltb, lt-ltb, ltb-true, ltb-false, eqb-true, eqb-false}
+use lib.Dec.{eqb, ltb}
+use lib.ListN.{length, drop, set, getD, replicate, length-append, length-drop, length-replicate, length-set}
+use lib.Seq.{getD-set-same, set-out}
+use Rattle.packet.specs.Numbers.{two, four}
+use Rattle.packet.specs.Packet.{packetOf}
+use Rattle.blocks.specs.Answers.{readOut, windowNumber}
+use Rattle.blocks.proofs.Laws.{read-gives, read-refused}
+use Rattle.session.specs.declared.state.Session.{Session}
+use Rattle.session.specs.declared.state.Downlink.{Downlink}
+use Rattle.session.specs.declared.state.Downlink.the-variants as down
+use Rattle.session.specs.declared.reply.Reply.{Reply}
+use Rattle.session.specs.declared.reply.Reply.the-variants as reply
+use Rattle.session.specs.declared.reply.Answer.{Answer}
+use Rattle.session.specs.declared.reply.Answer.the-variants as answer
+use Rattle.session.specs.State.{closedSession, freshSession, withHeld, withUp, withDown}
+use Rattle.session.specs.Reply.{Told, told, sentInfo, tell, answered}
+use Rattle.table.specs.declared.File.{File}
+use Rattle.table.specs.Table.{files, fileAt}
+use Rattle.carry.specs.Turn.{turnOf, Mem, mem, Turned, turned}
+use Rattle.server.specs.declared.Server.{Server}
+use Rattle.server.specs.declared.check.Check.{Check}
+use Rattle.server.specs.declared.check.Check.the-variants.{Go, Refuse}
+use Rattle.server.specs.State.{Lent, lent, Outcome, outcome, doneWith, linkOf, withLink, withTurn, withPart, ownerPart, tablePart}
+use Rattle.server.specs.Check.{sessionCheck, checkOf}
+use Rattle.server.specs.Sending.{Due, leastOf, bytesFrom, dataOf, sendingOf, dueOf}
+use Rattle.server.specs.Calls.{onLogin, loginOf, onLose, loseOf, dueAs, onRequest, requestOf, onCheck, receiveOf}
+use Rattle.history.specs.Calls.{Call, login, receive, request, lose, callOf}
+use Rattle.demands.specs.Parts.{sessionIn, bytesIn, outIn, openIn, roomIn, checkIn, oneOf}
+use Rattle.demands.specs.Demand1.{Refuses, Silent, Closes, Sends, Answers, refuses, silent, closes, sends, EveryCallAnswers, RefusedBy, Fits, IsSound, Reachable, LocalRefusals, EveryLocalRefusal, Says, forgotten, cleared, NothingElse, uploadErrors, downloadErrors, naks, PacketRefusal, EveryUploadError, EveryDownloadError, Naks, EveryNak}
+use Rattle.demands.proofs.Checks.{Through, check-33, check-35, check-sound, session-34, session-through, check-through, check-refuses}
+use Rattle.demands.proofs.Carried.{isPlain}
+use Rattle.demands.proofs.Steps as steps
+
+-- ---- what a reply puts out
+
+pub data Tells (r : Reply) (taken : ℕ) (out : List ℕ) : Type 0 where
+  quiet : tell r taken out ≡ told (answer.Quiet taken) out → Tells r taken out
+  closing : r ≡ reply.Closing → tell r taken out ≡ told (answer.Closed taken) out → Tells r taken out
+  sending : (kind : ℕ) (info : List ℕ) → kind ≤ 17 → length info ≤ 256 → tell r taken out ≡ sentInfo kind info taken out → Tells r taken out
+
+pub tells : (r : Reply) (taken : ℕ) (out : List ℕ) → Tells r taken out
+unfolding tell
+tells reply.Nothing taken out = quiet refl
+tells reply.Closing taken out = closing refl refl
+tells reply.DataEnd taken out = sending 1 [] (omega arith) (omega arith) refl
+tells (reply.Login clock) taken out = sending 2 (four clock ++ 4 ∷ []) (omega arith) (omega arith) refl
+tells (reply.Go number offset) taken out = sending 4 (four number ++ four offset) (omega arith) (omega arith) refl
+tells (reply.UploadError e) taken out = sending 5 (e ∷ []) (omega arith) (omega arith) refl
+tells reply.Ack taken out = sending 6 [] (omega arith) (omega arith) refl
+tells (reply.Nak e) taken out = sending 7 (e ∷ []) (omega arith) (omega arith) refl
+tells (reply.DownloadError e) taken out = sending 9 (e ∷ []) (omega arith) (omega arith) refl
+tells reply.Aborted taken out = sending 10 [] (omega arith) (omega arith) refl
+tells reply.Completed taken out = sending 11 [] (omega arith) (omega arith) refl
+tells (reply.Selected count) taken out = sending 17 (two count) (omega arith) (omega arith) refl
+
+-- a packet in front of what it leaves of the output
+packet-length : (kind : ℕ) (info out : List ℕ) → length info ≤ 256 → 258 ≤ length out → length (packetOf kind info ++ drop (2 + length info) out) ≡ length out
+unfolding packetOf
+packet-length kind info out h r =
+    length-append (length info % 256 ∷ (kind + 32 * (length info / 256)) ∷ info) (drop (2 + length info) out) ∙ rw (length-drop (2 + length info) out) (omega arith)
+
+sends-packet : (c : Call) (o : Outcome) (taken kind : ℕ) (info : List ℕ) → taken ≤ length (bytesIn c) → kind ≤ 17 → length info ≤ 256 → 258 ≤ length (outIn c)
+    → o .done .answer ≡ answer.Sent taken (2 + length info)
+    → o .out ≡ packetOf kind info ++ drop (2 + length info) (outIn c)
+    → Sends c o
+sends-packet c o taken kind info w k n r a e =
+    record {
+      taken = taken;
+      within = w;
+      kind = kind;
+      info = info;
+      listed = k;
+      most = n;
+      answered = a;
+      out = e;
+      same-length = ap length e ∙ packet-length kind info (outIn c) n r;
+    }
+
+-- a reply of a call that has room
+replied : (sv : Server) (l : Lent) (c : Call) (o : Outcome) (r : Reply) (taken : ℕ) → taken ≤ length (bytesIn c) → 258 ≤ length (outIn c)
+    → o .done .answer ≡ tell r taken (outIn c) .answer
+    → o .out ≡ tell r taken (outIn c) .out
+    → (r ≡ reply.Closing → linkOf (o .done .server) (sessionIn c - 1) ≡ closedSession)
+    → Answers sv l c o
+replied sv l c o r taken w room a e closed = go (tells r taken (outIn c))
+  where
+    go : Tells r taken (outIn c) → Answers sv l c o
+    go (quiet q) = silent (record { taken = taken; within = w; answered = a ∙ ap (λ (t : Told). t .answer) q; out = e ∙ ap (λ (t : Told). t .out) q })
+    go (closing z q) =
+        closes (record {
+          taken = taken;
+          within = w;
+          answered = a ∙ ap (λ (t : Told). t .answer) q;
+          out = e ∙ ap (λ (t : Told). t .out) q;
+          session = closed z;
+        })
+    go (sending kind info k n q) =
+        sends (sends-packet c o taken kind info w k n room (a ∙ ap (λ (t : Told). t .answer) q) (e ∙ ap (λ (t : Told). t .out) q))
+
+told-room : (r : Reply) (taken : ℕ) (out : List ℕ) → 258 ≤ length out → answered r taken out ≡ tell r taken out
+unfolding answered
+told-room r taken out h = rw (le-ltb (length out) 258 h)
+
+-- ---- refused locally
+
+refused-call : (sv : Server) (l : Lent) (c : Call) (n : ℕ) → checkIn sv l c ≡ Refuse n → callOf sv l c ≡ outcome (doneWith sv (answer.Refused n)) l (outIn c)
+unfolding receiveOf onCheck loginOf onLogin requestOf onRequest loseOf onLose
+refused-call sv l (login session clock out) n e = rw e
+refused-call sv l (receive session clock input out) n e = rw e
+refused-call sv l (request session out) n e = rw e
+refused-call sv l (lose session) n e = rw e
+
+-- ---- the calls that go through
+
+clash : false ≡ true → ⊥
+clash e = let z : _≡_ {A = ℕ} 0 1 = cc in omega arith
+
+closed-link : (links : List Session) (i : ℕ) → getD (set links i closedSession) i closedSession ≡ closedSession
+closed-link links i = go (ltb i (length links)) refl
+  where
+    beyond : (ks : List Session) (k : ℕ) → length ks ≤ k → getD ks k closedSession ≡ closedSession
+    beyond [] k h = refl
+    beyond (x ∷ ks) zero h = absurd (omega arith)
+    beyond (x ∷ ks) (suc k) h = beyond ks k (omega arith)
+
+    go : (t : Bool) → ltb i (length links) ≡ t → getD (set links i closedSession) i closedSession ≡ closedSession
+    go true q = getD-set-same links i closedSession closedSession (ltb-true i (length links) q)
+    go false q =
+        let h = ltb-false i (length links) q in
+        ap (λ (ks : List Session). getD ks i closedSession) (set-out links i closedSession h) ∙ beyond links i h
+
+-- a turn whose reply is the closing leaves the session closed
+acted-closed : (sv : Server) (i : ℕ) (s : Session) (m : Mem) (t : Turned) → steps.Acted sv i s m t → t .turn .reply ≡ reply.Closing
+    → t .turn .session ≡ closedSession
+acted-closed sv i s m t (steps.plain p) e = absurd (clash (sym (ap isPlain e) ∙ p))
+acted-closed sv i s m t (steps.closing q) e = ap (λ (u : Turned). u .turn .session) q
+acted-closed sv i s m t (steps.upload-error n o q) e =
+    let c : reply.UploadError n ≡ reply.Closing = sym (ap (λ (u : Turned). u .turn .reply) q) ∙ e in
+    let z : _≡_ {A = ℕ} 0 1 = cc in absurd (omega arith)
+acted-closed sv i s m t (steps.download-error n o q) e =
+    let c : reply.DownloadError n ≡ reply.Closing = sym (ap (λ (u : Turned). u .turn .reply) q) ∙ e in
+    let z : _≡_ {A = ℕ} 0 1 = cc in absurd (omega arith)
+acted-closed sv i s m t (steps.nak n u o v q k) e =
+    let c : reply.Nak n ≡ reply.Closing = sym (ap (λ (u : _). u .reply) q) ∙ e in
+    let z : _≡_ {A = ℕ} 0 1 = cc in absurd (omega arith)
+
+-- ---- receive
+
+received : (sv : Server) (l : Lent) (session clock : ℕ) (input out : List ℕ)
+    → Answers sv l (receive session clock input out) (callOf sv l (receive session clock input out))
+received sv l session clock input out = go (steps.receives sv l session clock input out)
+  where
+    go : steps.Receives sv l session clock input out → Answers sv l (receive session clock input out) (receiveOf sv l out session clock input)
+    go (steps.refused n o e q) = refuses (record { number = n; listed = o; same = q })
+    go (steps.ends-none e) =
+        silent (record {
+          taken = length input;
+          within = omega arith;
+          answered = ap (λ (o : Outcome). o .done .answer) (e .is);
+          out = ap (λ (o : Outcome). o .out) (e .is);
+        })
+    go (steps.ends-packet e) =
+        replied sv l (receive session clock input out) (receiveOf sv l out session clock input) (e .turn .turn .reply) (e .heard .taken) (e .heard .within)
+        (e .through .room) (ap (λ (o : Outcome). o .done .answer) (e .is)) (ap (λ (o : Outcome). o .out) (e .is))
+        (λ z.
+          ap (λ (o : Outcome). linkOf (o .done .server) (session - 1)) (e .is)
+          ∙ ap (λ (k : ℕ). getD (set (sv .links) k (e .turn .turn .session)) (session - 1) closedSession) (e .through .index)
+          ∙ ap (λ (s : Session). getD (set (sv .links) (session - 1) s) (session - 1) closedSession) (acted-closed sv (e .i) _ _ (e .turn) (e .acted) z)
+          ∙ closed-link (sv .links) (session - 1))
+
+-- ---- login
+
+logged-in : (sv : Server) (l : Lent) (session clock : ℕ) (out : List ℕ) → Answers sv l (login session clock out) (callOf sv l (login session clock out))
+unfolding loginOf onLogin
+logged-in sv l session clock out = go (checkOf sv l session false (length out)) refl
+  where
+    go : (k : Check) → checkOf sv l session false (length out) ≡ k
+        → Answers sv l (login session clock out) (outcome (onLogin k sv out clock .done) l (onLogin k sv out clock .out))
+    go (Refuse n) e = refuses (record { number = n; listed = check-refuses sv l session false (length out) n e; same = refl })
+    go (Go i) e =
+        let t = check-through sv l session false (length out) i e in
+        let q = told-room (reply.Login clock) 0 out (t .room) in
+        replied sv l (login session clock out) _ (reply.Login clock) 0 (omega arith) (t .room) (ap (λ (t : Told). t .answer) q) (ap (λ (t : Told). t .out) q)
+        (λ z. let y : _≡_ {A = ℕ} 0 1 = cc in absurd (omega arith))
+
+-- ---- lose
+
+lost : (sv : Server) (l : Lent) (session : ℕ) → Answers sv l (lose session) (callOf sv l (lose session))
+unfolding loseOf onLose
+lost sv l session = go (checkOf sv l session true 258) refl
+  where
+    go : (k : Check) → checkOf sv l session true 258 ≡ k
+        → Answers sv l (lose session)
+        (outcome (onLose k sv (l .selected) (l .held) .done)
+        (lent (l .disk) (l .map) (l .owner) (l .table) (onLose k sv (l .selected) (l .held) .selected) (onLose k sv (l .selected) (l .held) .held)) [])
+    go (Refuse n) e = refuses (record { number = n; listed = check-refuses sv l session true 258 n e; same = refl })
+    go (Go i) e = silent (record { taken = 0; within = omega arith; answered = refl; out = refl })
+
+-- ---- request
+
+bytes-length : (disk owner : List ℕ) (place at n : ℕ) → length (bytesFrom disk owner place at n) ≡ n
+bytes-length disk owner place at n = go (eqb (windowNumber (length disk) owner (place % 65536) at (length zeros)) 0) refl
+  where
+    zeros : List ℕ
+    zeros = replicate n 0
+
+    size : length zeros ≡ n
+    size = length-replicate {A = ℕ} n 0
+
+    go : (t : Bool) → eqb (windowNumber (length disk) owner (place % 65536) at (length zeros)) 0 ≡ t
+        → length (readOut disk owner (place % 65536) at zeros) ≡ n
+    go true q = read-gives disk owner (place % 65536) at zeros (eqb-true _ _ q) .1 ∙ size
+    go false q = ap length (read-refused disk owner (place % 65536) at zeros (eqb-false _ _ q)) ∙ size
+
+least-most : (n : ℕ) → leastOf n ≤ 256
+unfolding leastOf
+least-most n = go (ltb n 256) refl
+  where
+    go : (t : Bool) → ltb n 256 ≡ t → cond t n 256 ≤ 256
+    go true q = omega (arith, ltb-true n 256 q)
+    go false q = omega arith
+
+module _ (sv : Server) (l : Lent) (session : ℕ) (out : List ℕ) (room : 258 ≤ length out) where
+  Fine : Server → Due → Type 0
+  Fine sv′ d = Answers sv l (request session out) (outcome (doneWith sv′ (d .asked .answer)) l (d .out))
+
+  due-told : (sv′ : Server) (s : Session) (r : Reply) → (r ≡ reply.Closing → ⊥)
+      → Answers sv l (request session out) (outcome (doneWith sv′ (answered r 0 out .answer)) l (answered r 0 out .out))
+  due-told sv′ s r n =
+      let q = told-room r 0 out room in
+      replied sv l (request session out) _ r 0 (omega arith) room (ap (λ (t : Told). t .answer) q) (ap (λ (t : Told). t .out) q) (λ z. absurd (n z))
+
+  due-data : (sv′ : Server) (s : Session) (place offset sent n : ℕ) (disk owner : List ℕ) → n ≤ 256 → Fine sv′ (dataOf s place offset sent n disk owner out)
+  unfolding dataOf Fine
+  due-data sv′ s place offset sent n disk owner h =
+      let e = bytes-length disk owner place (offset + sent) n in
+      sends
+      (sends-packet (request session out) _ 0 0 (bytesFrom disk owner place (offset + sent) n) (omega arith) (omega arith) (omega arith) room
+      (ap (λ (k : ℕ). answer.Sent 0 (2 + k)) (sym e))
+      (ap (λ (k : ℕ). packetOf 0 (bytesFrom disk owner place (offset + sent) n) ++ drop (2 + k) out) (sym e)))
+
+  due-sending : (sv′ : Server) (s : Session) (place offset sent : ℕ) (disk owner : List ℕ) (fs : List File)
+      → Fine sv′ (sendingOf s place offset sent disk owner fs out)
+  unfolding sendingOf Fine
+  due-sending sv′ s place offset sent disk owner fs = go (ltb (offset + sent) (fileAt fs place .size))
+    where
+      go : (t : Bool)
+          → Fine sv′
+          (cond t (dataOf s place offset sent (leastOf (fileAt fs place .size - (offset + sent))) disk owner out)
+          (record { asked = record { session = withDown s (down.Ended place); answer = answered reply.DataEnd 0 out .answer }; out = answered reply.DataEnd 0 out .out }))
+      go true = due-data sv′ s place offset sent _ disk owner (least-most (fileAt fs place .size - (offset + sent)))
+      go false = due-told sv′ s reply.DataEnd (λ z. let y : _≡_ {A = ℕ} 0 1 = cc in omega arith)
+
+  due : (sv′ : Server) (d : Downlink) (s : Session) (disk owner : List ℕ) (fs : List File) → Fine sv′ (dueOf d s disk owner fs out)
+  unfolding dueOf Fine
+  due sv′ down.Idle s disk owner fs = silent (record { taken = 0; within = omega arith; answered = refl; out = refl })
+  due sv′ (down.Sending place offset sent) s disk owner fs = due-sending sv′ s place offset sent disk owner fs
+  due sv′ (down.Ended place) s disk owner fs = silent (record { taken = 0; within = omega arith; answered = refl; out = refl })
+  due sv′ (down.Aborting place) s disk owner fs = due-told sv′ s reply.Aborted (λ z. let y : _≡_ {A = ℕ} 0 1 = cc in omega arith)
+
+requested : (sv : Server) (l : Lent) (session : ℕ) (out : List ℕ) → Answers sv l (request session out) (callOf sv l (request session out))
+unfolding requestOf onRequest dueAs Fine
+requested sv l session out = go (checkOf sv l session true (length out)) refl
+  where
+    go : (k : Check) → checkOf sv l session true (length out) ≡ k
+        → Answers sv l (request session out) (outcome (onRequest k sv l out .done) l (onRequest k sv l out .out))
+    go (Refuse n) e = refuses (record { number = n; listed = check-refuses sv l session true (length out) n e; same = refl })
+    go (Go i) e =
+        due sv l session out (check-through sv l session true (length out) i e .room) _ (linkOf sv i .down) (linkOf sv i) (l .disk) (ownerPart sv l)
+        (files (tablePart sv l))
+
+-- ---- THEOREM: every call has one of the four answers
+
+pub every-call-answers : EveryCallAnswers
+every-call-answers sv l (login session clock out) = logged-in sv l session clock out
+every-call-answers sv l (receive session clock input out) = received sv l session clock input out
+every-call-answers sv l (request session out) = requested sv l session out
+every-call-answers sv l (lose session) = lost sv l session
