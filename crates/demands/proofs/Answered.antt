@@ -23,6 +23,7 @@ use Rattle.session.specs.State.{closedSession, freshSession, withHeld, withUp, 
 use Rattle.session.specs.Reply.{Told, told, sentInfo, tell, answered}
 use Rattle.table.specs.declared.File.{File}
 use Rattle.table.specs.Table.{files, fileAt}
+use Rattle.carry.specs.declared.turn.Turn.{Turn}
 use Rattle.carry.specs.Turn.{turnOf, Mem, mem, Turned, turned}
 use Rattle.server.specs.declared.Server.{Server}
 use Rattle.server.specs.declared.check.Check.{Check}
@@ -33,7 +34,7 @@ use Rattle.server.specs.Sending.{Due, leastOf, bytesFrom, dataOf, sendingOf, du
 use Rattle.server.specs.Calls.{onLogin, loginOf, onLose, loseOf, dueAs, onRequest, requestOf, onCheck, receiveOf}
 use Rattle.history.specs.Calls.{Call, login, receive, request, lose, callOf}
 use Rattle.demands.specs.Parts.{sessionIn, bytesIn, outIn, openIn, roomIn, checkIn, oneOf}
-use Rattle.demands.specs.Demand1.{Refuses, Silent, Closes, Sends, Answers, refuses, silent, closes, sends, EveryCallAnswers, RefusedBy, Fits, IsSound, Reachable, LocalRefusals, EveryLocalRefusal, Says, forgotten, cleared, NothingElse, uploadErrors, downloadErrors, naks, PacketRefusal, EveryUploadError, EveryDownloadError, Naks, EveryNak}
+use Rattle.demands.specs.Demand1.{Refuses, Silent, Closes, Sends, Answers, refuses, silent, closes, sends, EveryCallAnswers, RefusedBy, Fits, IsSound, Reachable, LocalRefusals, EveryLocalRefusal, Says, forgotten, cleared, NothingElse, uploadErrors, downloadErrors, naks, PacketRefusal, UploadOver, EveryUploadError, EveryDownloadError, Naks, EveryNak}
 use Rattle.demands.proofs.Checks.{Through, check-33, check-35, check-sound, session-34, session-through, check-through, check-refuses}
 use Rattle.demands.proofs.Carried.{isPlain}
 use Rattle.demands.proofs.Steps as steps
@@ -283,3 +284,258 @@ every-call-answers sv l (login session clock out) = logged-in sv l session clock
 every-call-answers sv l (receive session clock input out) = received sv l session clock input out
 every-call-answers sv l (request session out) = requested sv l session out
 every-call-answers sv l (lose session) = lost sv l session
+
+-- ---- a call that goes through is not refused
+
+isRefused : Answer → Bool
+isRefused (answer.Quiet taken) = false
+isRefused (answer.Sent taken size) = false
+isRefused (answer.Closed taken) = false
+isRefused (answer.Refused n) = true
+
+told-not : (r : Reply) (taken : ℕ) (out : List ℕ) → isRefused (tell r taken out .answer) ≡ false
+unfolding tell isRefused
+told-not reply.Nothing taken out = refl
+told-not reply.Closing taken out = refl
+told-not reply.DataEnd taken out = refl
+told-not (reply.Login clock) taken out = refl
+told-not (reply.Go number offset) taken out = refl
+told-not (reply.UploadError e) taken out = refl
+told-not reply.Ack taken out = refl
+told-not (reply.Nak e) taken out = refl
+told-not (reply.DownloadError e) taken out = refl
+told-not reply.Aborted taken out = refl
+told-not reply.Completed taken out = refl
+told-not (reply.Selected count) taken out = refl
+
+answered-not : (r : Reply) (taken : ℕ) (out : List ℕ) → 258 ≤ length out → isRefused (answered r taken out .answer) ≡ false
+answered-not r taken out h = ap (λ (t : Told). isRefused (t .answer)) (told-room r taken out h) ∙ told-not r taken out
+
+sending-not : (s : Session) (place offset sent : ℕ) (disk owner : List ℕ) (fs : List File) (out : List ℕ) → 258 ≤ length out
+    → isRefused (sendingOf s place offset sent disk owner fs out .asked .answer) ≡ false
+unfolding sendingOf dataOf isRefused
+sending-not s place offset sent disk owner fs out h = go (ltb (offset + sent) (fileAt fs place .size)) _ refl
+  where
+    go : (t : Bool) (d : Due) → isRefused (d .asked .answer) ≡ false
+        → isRefused (cond t d (record { asked = record { session = withDown s (down.Ended place); answer = answered reply.DataEnd 0 out .answer }; out = answered reply.DataEnd 0 out .out }) .asked .answer) ≡ false
+    go true d e = e
+    go false d e = answered-not reply.DataEnd 0 out h
+
+due-not : (d : Downlink) (s : Session) (disk owner : List ℕ) (fs : List File) (out : List ℕ) → 258 ≤ length out
+    → isRefused (dueOf d s disk owner fs out .asked .answer) ≡ false
+unfolding dueOf isRefused
+due-not down.Idle s disk owner fs out h = refl
+due-not (down.Sending place offset sent) s disk owner fs out h = sending-not s place offset sent disk owner fs out h
+due-not (down.Ended place) s disk owner fs out h = refl
+due-not (down.Aborting place) s disk owner fs out h = answered-not reply.Aborted 0 out h
+
+not-refused : (sv : Server) (l : Lent) (c : Call) (i : ℕ) → checkIn sv l c ≡ Go i → 258 ≤ roomIn c → isRefused (callOf sv l c .done .answer) ≡ false
+unfolding loginOf onLogin requestOf onRequest dueAs loseOf onLose isRefused
+not-refused sv l (login session clock out) i e h = rw e (answered-not (reply.Login clock) 0 out h)
+not-refused sv l (receive session clock input out) i e h = go (steps.receives sv l session clock input out)
+  where
+    go : steps.Receives sv l session clock input out → isRefused (receiveOf sv l out session clock input .done .answer) ≡ false
+    go (steps.refused n o f q) =
+        let c : Refuse n ≡ Go i = sym f ∙ e in
+        let z : _≡_ {A = ℕ} 0 1 = cc in absurd (omega arith)
+    go (steps.ends-none f) = ap (λ (o : Outcome). isRefused (o .done .answer)) (f .is)
+    go (steps.ends-packet f) = ap (λ (o : Outcome). isRefused (o .done .answer)) (f .is) ∙ told-not (f .turn .turn .reply) (f .heard .taken) out
+not-refused sv l (request session out) i e h = rw e (due-not (linkOf sv i .down) (linkOf sv i) (l .disk) (ownerPart sv l) (files (tablePart sv l)) out h)
+not-refused sv l (lose session) i e h = rw e
+
+-- ---- THEOREM: the local refusals, in the paper's order
+
+refused-by : (sv : Server) (l : Lent) (c : Call) (n : ℕ) → checkIn sv l c ≡ Refuse n → RefusedBy sv l c n
+refused-by sv l c n e = ap (λ (o : Outcome). o .done .answer) (refused-call sv l c n e)
+
+pub every-local-refusal : EveryLocalRefusal
+every-local-refusal sv l c =
+    record {
+      by33 = λ f. refused-by sv l c 33 (check-33 sv l (sessionIn c) (openIn c) (roomIn c) f);
+      by35 = λ f s. refused-by sv l c 35 (check-35 sv l (sessionIn c) (openIn c) (roomIn c) f s);
+      by34 = λ f s r.
+          refused-by sv l c 34
+          (check-sound sv l (sessionIn c) (openIn c) (roomIn c) f s
+          ∙ session-34 sv l (sessionIn c) (openIn c) (roomIn c) (λ a b e. r (record { from-one = a; in-range = b; in-state = e })));
+      by32 = λ f s r h. refused-by sv l c 32 (through f s r ∙ ap (λ (t : Bool). cond t (Refuse 32) (Go (sessionIn c - 1))) (lt-ltb (roomIn c) 258 h));
+      by-none = λ f s r h n e.
+          clash
+          (sym (not-refused sv l c (sessionIn c - 1) (through f s r ∙ ap (λ (t : Bool). cond t (Refuse 32) (Go (sessionIn c - 1))) (le-ltb (roomIn c) 258 h)) h)
+          ∙ (unfold isRefused in ap isRefused e));
+    }
+  where
+    through : Fits sv l → IsSound sv l → Reachable sv c → checkIn sv l c ≡ cond (ltb (roomIn c) 258) (Refuse 32) (Go (sessionIn c - 1))
+    through f s r =
+        check-sound sv l (sessionIn c) (openIn c) (roomIn c) f s
+        ∙ session-through sv l (sessionIn c) (openIn c) (roomIn c) (r .from-one) (r .in-range) (r .in-state)
+
+-- ---- the packets of refusal
+
+pub data OneByte (kind e : ℕ) : Reply → Type 0 where
+  five : kind ≡ 5 → OneByte kind e (reply.UploadError e)
+  seven : kind ≡ 7 → OneByte kind e (reply.Nak e)
+  nine : kind ≡ 9 → OneByte kind e (reply.DownloadError e)
+
+module _ (kind e taken taken′ : ℕ) (out : List ℕ) where
+  -- a packet's second byte and its one byte of information
+  same-kind : (k n : ℕ) → packetOf k (n ∷ []) ++ drop 3 out ≡ packetOf kind (e ∷ []) ++ drop 3 out → (kind ≡ k) × (n ≡ e)
+  unfolding packetOf
+  same-kind k n q =
+      let a : k + 32 * (1 / 256) ≡ kind + 32 * (1 / 256) = ap (λ (l : List ℕ). getD l 1 0) q in
+      let b : n ≡ e = ap (λ (l : List ℕ). getD l 2 0) q in
+      (omega arith, b)
+
+  says-reply : (r : Reply) → tell r taken out .answer ≡ answer.Sent taken′ 3 → tell r taken out .out ≡ packetOf kind (e ∷ []) ++ drop 3 out → OneByte kind e r
+  unfolding tell
+  says-reply reply.Nothing a q = let z : _≡_ {A = ℕ} 0 1 = cc in absurd (omega arith)
+  says-reply reply.Closing a q = let z : _≡_ {A = ℕ} 0 1 = cc in absurd (omega arith)
+  says-reply reply.DataEnd a q = let z : _≡_ {A = ℕ} 2 3 = cc in absurd (omega arith)
+  says-reply (reply.Login clock) a q = let z : _≡_ {A = ℕ} 7 3 = cc in absurd (omega arith)
+  says-reply (reply.Go number offset) a q = let z : _≡_ {A = ℕ} 10 3 = cc in absurd (omega arith)
+  says-reply (reply.UploadError n) a q = let p = same-kind 5 n q in subst (λ (m : ℕ). OneByte kind e (reply.UploadError m)) (sym (p .1)) (five (p .0))
+  says-reply reply.Ack a q = let z : _≡_ {A = ℕ} 2 3 = cc in absurd (omega arith)
+  says-reply (reply.Nak n) a q = let p = same-kind 7 n q in subst (λ (m : ℕ). OneByte kind e (reply.Nak m)) (sym (p .1)) (seven (p .0))
+  says-reply (reply.DownloadError n) a q =
+      let p = same-kind 9 n q in subst (λ (m : ℕ). OneByte kind e (reply.DownloadError m)) (sym (p .1)) (nine (p .0))
+  says-reply reply.Aborted a q = let z : _≡_ {A = ℕ} 2 3 = cc in absurd (omega arith)
+  says-reply reply.Completed a q = let z : _≡_ {A = ℕ} 2 3 = cc in absurd (omega arith)
+  says-reply (reply.Selected count) a q = let z : _≡_ {A = ℕ} 4 3 = cc in absurd (omega arith)
+
+-- a call that says so ended a packet, and the turn's reply is that
+pub record Spoken (sv : Server) (l : Lent) (session clock : ℕ) (input out : List ℕ) (kind e : ℕ) : Type 0 where
+  pub ended : steps.EndsPacket sv l session clock input out
+  pub says : OneByte kind e (ended .turn .turn .reply)
+
+spoken : (sv : Server) (l : Lent) (session clock : ℕ) (input out : List ℕ) (kind e : ℕ) → Says sv l session clock input out kind e
+    → Spoken sv l session clock input out kind e
+spoken sv l session clock input out kind e s = go (steps.receives sv l session clock input out)
+  where
+    not-sent : (o : Outcome) → receiveOf sv l out session clock input ≡ o → o .done .answer ≡ answer.Sent (s .taken) 3
+    not-sent o q = sym (ap (λ (o : Outcome). o .done .answer) q) ∙ s .answered
+
+    go : steps.Receives sv l session clock input out → Spoken sv l session clock input out kind e
+    go (steps.refused n o f q) =
+        let c : answer.Refused n ≡ answer.Sent (s .taken) 3 = not-sent _ q in
+        let z : _≡_ {A = ℕ} 0 1 = cc in absurd (omega arith)
+    go (steps.ends-none f) =
+        let c : answer.Quiet (length input) ≡ answer.Sent (s .taken) 3 = not-sent _ (f .is) in
+        let z : _≡_ {A = ℕ} 0 1 = cc in absurd (omega arith)
+    go (steps.ends-packet f) =
+        record {
+          ended = f;
+          says = says-reply kind e (f .heard .taken) (s .taken) out (f .turn .turn .reply) (not-sent _ (f .is))
+              (sym (ap (λ (o : Outcome). o .out) (f .is)) ∙ s .packet);
+        }
+
+module _ (sv : Server) (l : Lent) (session clock : ℕ) (input out : List ℕ) (p : steps.EndsPacket sv l session clock input out) where
+  -- what the turn of a refusal leaves
+  left : (r : Reply)
+      → p .turn ≡ turned (turnOf (withHeld (linkOf sv (p .i)) 0) (sv .last) r) (mem (l .disk) (l .map) (l .owner) (l .table) (l .selected))
+      → NothingElse sv l session (callOf sv l (receive session clock input out))
+  left r q =
+      record {
+        server = ap (λ (o : Outcome). o .done .server) (p .is) ∙ ap (λ (t : Turned). withTurn sv (p .i) (t .turn)) q ∙ ap (λ (k : ℕ). forgotten sv k) (p .through .index);
+        lent = ap (λ (o : Outcome). o .lent) (p .is)
+            ∙ ap (λ (t : Turned). lent (t .mem .disk) (t .mem .map) (t .mem .owner) (t .mem .table) (t .mem .selected) (withPart (p .i * 258) 258 (replicate 258 0) (l .held))) q
+            ∙ ap (λ (k : ℕ). cleared k l) (p .through .index);
+      }
+
+  reply-of : (r : Reply) (s : Session) (m : Mem) → p .turn ≡ turned (turnOf s (sv .last) r) m → p .turn .turn .reply ≡ r
+  reply-of r s m q = ap (λ (t : Turned). t .turn .reply) q
+
+  upload-refused : (e : ℕ) → p .turn .turn .reply ≡ reply.UploadError e
+      → steps.Acted sv (p .i) (withHeld (linkOf sv (p .i)) 0) (mem (l .disk) (l .map) (l .owner) (l .table) (l .selected)) (p .turn)
+      → PacketRefusal uploadErrors sv l session clock input out e
+  upload-refused e r (steps.plain h) = absurd (clash (sym (ap isPlain r) ∙ h))
+  upload-refused e r (steps.closing q) =
+      let c : reply.Closing ≡ reply.UploadError e = sym (reply-of reply.Closing _ _ q) ∙ r in
+      let z : _≡_ {A = ℕ} 0 1 = cc in absurd (omega arith)
+  upload-refused e r (steps.upload-error n o q) =
+      let c : reply.UploadError n ≡ reply.UploadError e = sym (reply-of (reply.UploadError n) _ _ q) ∙ r in
+      let z : n ≡ e = cc in
+      record { listed = subst (λ (k : ℕ). oneOf k uploadErrors ≡ true) z o; left = left (reply.UploadError n) q }
+  upload-refused e r (steps.download-error n o q) =
+      let c : reply.DownloadError n ≡ reply.UploadError e = sym (reply-of (reply.DownloadError n) _ _ q) ∙ r in
+      let z : _≡_ {A = ℕ} 0 1 = cc in absurd (omega arith)
+  upload-refused e r (steps.nak n u o v q k) =
+      let c : reply.Nak n ≡ reply.UploadError e = sym (ap (λ (t : Turn). t .reply) q) ∙ r in
+      let z : _≡_ {A = ℕ} 0 1 = cc in absurd (omega arith)
+
+  download-refused : (e : ℕ) → p .turn .turn .reply ≡ reply.DownloadError e
+      → steps.Acted sv (p .i) (withHeld (linkOf sv (p .i)) 0) (mem (l .disk) (l .map) (l .owner) (l .table) (l .selected)) (p .turn)
+      → PacketRefusal downloadErrors sv l session clock input out e
+  download-refused e r (steps.plain h) = absurd (clash (sym (ap isPlain r) ∙ h))
+  download-refused e r (steps.closing q) =
+      let c : reply.Closing ≡ reply.DownloadError e = sym (reply-of reply.Closing _ _ q) ∙ r in
+      let z : _≡_ {A = ℕ} 0 1 = cc in absurd (omega arith)
+  download-refused e r (steps.upload-error n o q) =
+      let c : reply.UploadError n ≡ reply.DownloadError e = sym (reply-of (reply.UploadError n) _ _ q) ∙ r in
+      let z : _≡_ {A = ℕ} 0 1 = cc in absurd (omega arith)
+  download-refused e r (steps.download-error n o q) =
+      let c : reply.DownloadError n ≡ reply.DownloadError e = sym (reply-of (reply.DownloadError n) _ _ q) ∙ r in
+      let z : n ≡ e = cc in
+      record { listed = subst (λ (k : ℕ). oneOf k downloadErrors ≡ true) z o; left = left (reply.DownloadError n) q }
+  download-refused e r (steps.nak n u o v q k) =
+      let c : reply.Nak n ≡ reply.DownloadError e = sym (ap (λ (t : Turn). t .reply) q) ∙ r in
+      let z : _≡_ {A = ℕ} 0 1 = cc in absurd (omega arith)
+
+  nak-refused : (e : ℕ) → p .turn .turn .reply ≡ reply.Nak e
+      → steps.Acted sv (p .i) (withHeld (linkOf sv (p .i)) 0) (mem (l .disk) (l .map) (l .owner) (l .table) (l .selected)) (p .turn)
+      → Naks sv l session clock input out e
+  nak-refused e r (steps.plain h) = absurd (clash (sym (ap isPlain r) ∙ h))
+  nak-refused e r (steps.closing q) =
+      let c : reply.Closing ≡ reply.Nak e = sym (reply-of reply.Closing _ _ q) ∙ r in
+      let z : _≡_ {A = ℕ} 0 1 = cc in absurd (omega arith)
+  nak-refused e r (steps.upload-error n o q) =
+      let c : reply.UploadError n ≡ reply.Nak e = sym (reply-of (reply.UploadError n) _ _ q) ∙ r in
+      let z : _≡_ {A = ℕ} 0 1 = cc in absurd (omega arith)
+  nak-refused e r (steps.download-error n o q) =
+      let c : reply.DownloadError n ≡ reply.Nak e = sym (reply-of (reply.DownloadError n) _ _ q) ∙ r in
+      let z : _≡_ {A = ℕ} 0 1 = cc in absurd (omega arith)
+  nak-refused e r (steps.nak n u o v q k) =
+      let c : reply.Nak n ≡ reply.Nak e = sym (ap (λ (t : Turn). t .reply) q) ∙ r in
+      let z : n ≡ e = cc in
+      record {
+        listed = subst (λ (k : ℕ). oneOf k naks ≡ true) z o;
+        uplink = u;
+        over = subst (λ (k : ℕ). UploadOver k u) z v;
+        server = ap (λ (o : Outcome). o .done .server) (p .is) ∙ ap (λ (t : Turn). withTurn sv (p .i) t) q
+            ∙ ap (λ (k : ℕ). withLink sv k (withUp (withHeld (linkOf sv k) 0) u)) (p .through .index);
+        selected = ap (λ (o : Outcome). o .lent .selected) (p .is) ∙ k;
+        held = ap (λ (o : Outcome). o .lent .held) (p .is) ∙ ap (λ (k : ℕ). withPart (k * 258) 258 (replicate 258 0) (l .held)) (p .through .index);
+      }
+
+-- ---- THEOREMS: what UL_ERROR_RESP, DL_ERROR_RESP and UL_NAK_RESP say and leave
+
+pub every-upload-error : EveryUploadError
+every-upload-error sv l session clock input out e s = go (spoken sv l session clock input out 5 e s)
+  where
+    go : Spoken sv l session clock input out 5 e → PacketRefusal uploadErrors sv l session clock input out e
+    go k = by (k .ended .turn .turn .reply) refl (k .says)
+      where
+        by : (r : Reply) → k .ended .turn .turn .reply ≡ r → OneByte 5 e r → PacketRefusal uploadErrors sv l session clock input out e
+        by r q (five h) = upload-refused sv l session clock input out (k .ended) e q (k .ended .acted)
+        by r q (seven h) = absurd (omega arith)
+        by r q (nine h) = absurd (omega arith)
+
+pub every-download-error : EveryDownloadError
+every-download-error sv l session clock input out e s = go (spoken sv l session clock input out 9 e s)
+  where
+    go : Spoken sv l session clock input out 9 e → PacketRefusal downloadErrors sv l session clock input out e
+    go k = by (k .ended .turn .turn .reply) refl (k .says)
+      where
+        by : (r : Reply) → k .ended .turn .turn .reply ≡ r → OneByte 9 e r → PacketRefusal downloadErrors sv l session clock input out e
+        by r q (five h) = absurd (omega arith)
+        by r q (seven h) = absurd (omega arith)
+        by r q (nine h) = download-refused sv l session clock input out (k .ended) e q (k .ended .acted)
+
+pub every-nak : EveryNak
+every-nak sv l session clock input out e s = go (spoken sv l session clock input out 7 e s)
+  where
+    go : Spoken sv l session clock input out 7 e → Naks sv l session clock input out e
+    go k = by (k .ended .turn .turn .reply) refl (k .says)
+      where
+        by : (r : Reply) → k .ended .turn .turn .reply ≡ r → OneByte 7 e r → Naks sv l session clock input out e
+        by r q (five h) = absurd (omega arith)
+        by r q (seven h) = nak-refused sv l session clock input out (k .ended) e q (k .ended .acted)
+        by r q (nine h) = absurd (omega arith)
