@@ -4,3 +4,5 @@ pub mod Decided
 pub mod Carried
 pub mod Steps
 pub mod Answered
+pub mod ClosingIsLosing
+pub mod Unique

@@ -1,2 +1,4 @@
 pub mod Parts
 pub mod Demand1
+pub mod Closing
+pub mod Unique

@@ -1,0 +1,124 @@
+-- A link that the server closes leaves what a lost one leaves, and the server closes exactly where the paper says. Assumes nothing.
+use mathlib.Core.Path.{_≡_, refl, sym, ap, _∙_, subst}
+use mathlib.Core.Bool.{Bool, true, false, cond, not}
+use mathlib.Core.List.{List, [], _∷_, _++_}
+use mathlib.Core.Option.{Option, none, some}
+use Prim.Native.Nat.{ℕ, _+_, _*_, _-_, _≤_, _<_}
+use native.Mathlib.Omega.{arith}
+use lib.ListN.{length, replicate}
+use Rattle.packet.specs.declared.frame.Frame.{Frame}
+use Rattle.packet.specs.declared.frame.Frame.the-variants.{Open, TooLong, Whole, Refused}
+use Rattle.packet.specs.Machine.{Call, call}
+use Rattle.packet.specs.Frame.{Held, Event, packet, too-long, none-held, byte, withoutPacket, answerBy}
+use Rattle.session.specs.declared.state.Session.{Session}
+use Rattle.session.specs.declared.reply.Reply.{Reply}
+use Rattle.session.specs.declared.reply.Reply.the-variants as reply
+use Rattle.session.specs.declared.reply.Answer.{Answer}
+use Rattle.session.specs.declared.reply.Answer.the-variants as answer
+use Rattle.session.specs.State.{closedSession, withHeld}
+use Rattle.session.specs.Expected.{expected}
+use Rattle.session.specs.Reply.{Told, told, tell}
+use Rattle.carry.specs.declared.turn.Turn.{Turn}
+use Rattle.carry.specs.Turn.{turnOf, Mem, mem, Turned, turned}
+use Rattle.server.specs.declared.Server.{Server}
+use Rattle.server.specs.declared.check.Check.{Check}
+use Rattle.server.specs.declared.check.Check.the-variants.{Go, Refuse}
+use Rattle.server.specs.State.{Lent, lent, Outcome, outcome, doneWith, linkOf, withLink, withTurn, part, withPart}
+use Rattle.server.specs.Check.{sessionCheck, checkOf}
+use Rattle.server.specs.Calls.{Lost, onLose, loseOf, receiveOf}
+use Rattle.history.specs.Calls.{receive, lose, callOf}
+use Rattle.demands.specs.Closing.{ClosesBy, SameAsLost, ClosingIsLosing, eventAt, Unwelcome, long, unexpected, ClosesExactly, EveryClosing}
+use Rattle.demands.proofs.Checks.{Through, check-sound, through-again}
+use Rattle.demands.proofs.Heard.{Unended, Ended}
+use Rattle.demands.proofs.Carried.{isPlain}
+use Rattle.demands.proofs.Steps as steps
+use Rattle.demands.proofs.Answered.{Tells, quiet, closing, sending, tells}
+
+clash : false ≡ true → ⊥
+clash e = let z : _≡_ {A = ℕ} 0 1 = cc in omega arith
+
+-- only the closing reply is answered by Closed
+closed-reply : (r : Reply) (taken n : ℕ) (out : List ℕ) → tell r taken out .answer ≡ answer.Closed n → r ≡ reply.Closing
+closed-reply r taken n out e = go (tells r taken out)
+  where
+    go : Tells r taken out → r ≡ reply.Closing
+    go (quiet q) =
+        let c : answer.Quiet taken ≡ answer.Closed n = sym (ap (λ (t : Told). t .answer) q) ∙ e in
+        let z : _≡_ {A = ℕ} 0 1 = cc in absurd (omega arith)
+    go (closing z q) = z
+    go (sending kind info k m q) =
+        let c : answer.Sent taken (2 + length info) ≡ answer.Closed n = sym (ap (λ (t : Told). t .answer) q) ∙ e in
+        let z : _≡_ {A = ℕ} 0 1 = cc in absurd (omega arith)
+
+-- a call that closes ended a packet, and its turn closes
+pub record Closed (sv : Server) (l : Lent) (session clock : ℕ) (input out : List ℕ) : Type 0 where
+  pub ended : steps.EndsPacket sv l session clock input out
+  pub turn : ended .turn
+      ≡ turned (turnOf closedSession (sv .last) reply.Closing)
+      (mem (l .disk) (l .map) (l .owner) (l .table) (withPart (ended .i * sv .most) (sv .most) (replicate (sv .most) 0) (l .selected)))
+
+acted-closing : (sv : Server) (i : ℕ) (s : Session) (m : Mem) (t : Turned) → steps.Acted sv i s m t → t .turn .reply ≡ reply.Closing
+    → t
+    ≡ turned (turnOf closedSession (sv .last) reply.Closing)
+    (mem (m .disk) (m .map) (m .owner) (m .table) (withPart (i * sv .most) (sv .most) (replicate (sv .most) 0) (m .selected)))
+acted-closing sv i s m t (steps.plain p) e = absurd (clash (sym (ap isPlain e) ∙ p))
+acted-closing sv i s m t (steps.closing q) e = q
+acted-closing sv i s m t (steps.upload-error n o q) e =
+    let c : reply.UploadError n ≡ reply.Closing = sym (ap (λ (u : Turned). u .turn .reply) q) ∙ e in
+    let z : _≡_ {A = ℕ} 0 1 = cc in absurd (omega arith)
+acted-closing sv i s m t (steps.download-error n o q) e =
+    let c : reply.DownloadError n ≡ reply.Closing = sym (ap (λ (u : Turned). u .turn .reply) q) ∙ e in
+    let z : _≡_ {A = ℕ} 0 1 = cc in absurd (omega arith)
+acted-closing sv i s m t (steps.nak n u o v q k) e =
+    let c : reply.Nak n ≡ reply.Closing = sym (ap (λ (t : Turn). t .reply) q) ∙ e in
+    let z : _≡_ {A = ℕ} 0 1 = cc in absurd (omega arith)
+
+closed : (sv : Server) (l : Lent) (session clock : ℕ) (input out : List ℕ) (taken : ℕ) → ClosesBy sv l session clock input out taken
+    → Closed sv l session clock input out
+closed sv l session clock input out taken e = go (steps.receives sv l session clock input out)
+  where
+    said : (o : Outcome) → receiveOf sv l out session clock input ≡ o → o .done .answer ≡ answer.Closed taken
+    said o q = sym (ap (λ (o : Outcome). o .done .answer) q) ∙ e
+
+    go : steps.Receives sv l session clock input out → Closed sv l session clock input out
+    go (steps.refused n o f q) =
+        let c : answer.Refused n ≡ answer.Closed taken = said _ q in
+        let z : _≡_ {A = ℕ} 0 1 = cc in absurd (omega arith)
+    go (steps.ends-none f) =
+        let c : answer.Quiet (length input) ≡ answer.Closed taken = said _ (f .is) in
+        let z : _≡_ {A = ℕ} 0 1 = cc in absurd (omega arith)
+    go (steps.ends-packet f) =
+        record {
+          ended = f;
+          turn = acted-closing sv (f .i) _ _ (f .turn) (f .acted) (closed-reply (f .turn .turn .reply) (f .heard .taken) taken out (said _ (f .is)));
+        }
+
+-- what is left of a lost link
+lost-call : (sv : Server) (l : Lent) (session room i : ℕ) → Through sv l session true room i
+    → callOf sv l (lose session)
+    ≡ outcome (doneWith (withLink sv i closedSession) (answer.Quiet 0))
+    (lent (l .disk) (l .map) (l .owner) (l .table) (withPart (i * sv .most) (sv .most) (replicate (sv .most) 0) (l .selected))
+    (withPart (i * 258) 258 (replicate 258 0) (l .held)))
+    []
+unfolding loseOf onLose
+lost-call sv l session room i t =
+    rw (check-sound sv l session true 258 (t .fit) (t .is-sound), through-again sv l session true room i 258 t (omega arith))
+
+-- THEOREM: closing leaves what losing leaves
+pub closing-is-losing : ClosingIsLosing
+closing-is-losing sv l session clock input out taken e = go (closed sv l session clock input out taken e)
+  where
+    go : Closed sv l session clock input out → SameAsLost sv l session clock input out
+    go c =
+        let k = lost-call sv l session (length out) (c .ended .i) (c .ended .through) in
+        record {
+          server = ap (λ (o : Outcome). o .done .server) (c .ended .is) ∙ ap (λ (t : Turned). withTurn sv (c .ended .i) (t .turn)) (c .turn)
+              ∙ sym (ap (λ (o : Outcome). o .done .server) k);
+          lent = ap (λ (o : Outcome). o .lent) (c .ended .is)
+              ∙ ap
+              (λ (t : Turned).
+                lent (t .mem .disk) (t .mem .map) (t .mem .owner) (t .mem .table) (t .mem .selected)
+                (withPart (c .ended .i * 258) 258 (replicate 258 0) (l .held)))
+              (c .turn)
+              ∙ sym (ap (λ (o : Outcome). o .lent) k);
+        }
