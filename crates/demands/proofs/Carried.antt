@@ -48,6 +48,7 @@ use Rattle.carry.specs.Download as download
 use Rattle.carry.specs.Carry.{onFrees, onWrites, onMoves, onChooses, carryOut}
 use Rattle.decide.specs.declared.act.Act.{Act}
 use Rattle.decide.specs.declared.act.Act.the-variants as act
+use Rattle.decide.proofs.Closing.{closes, close-alone}
 use Rattle.demands.specs.Parts.{oneOf}
 use Rattle.demands.specs.Demand1.{uploadErrors, downloadErrors, naks, UploadOver, over, overrun}
 use Rattle.demands.proofs.Decided as decided
@@ -69,13 +70,22 @@ isPlain reply.Aborted = true
 isPlain reply.Completed = true
 isPlain (reply.Selected count) = true
 
+-- the link stays open
 pub data Carried (s : Session) (last : Last) (m : Mem) : Turned → Type 0 where
   plain : (t : Turned) → isPlain (t .turn .reply) ≡ true → Carried s last m t
-  closing : Carried s last m (onChooses m (download.closeTurn last (m .selected)))
   upload-error : (e : ℕ) → oneOf e uploadErrors ≡ true → Carried s last m (turned (turnOf s last (reply.UploadError e)) m)
   download-error : (e : ℕ) → oneOf e downloadErrors ≡ true → Carried s last m (turned (turnOf s last (reply.DownloadError e)) m)
   nak : (e : ℕ) (u : Uplink) (map owner table : List ℕ) → oneOf e naks ≡ true → UploadOver e u
       → Carried s last m (turned (turnOf (withUp s u) last (reply.Nak e)) (mem (m .disk) map owner table (m .selected)))
+
+clash : false ≡ true → ⊥
+clash e = let z : _≡_ {A = ℕ} 0 1 = cc in omega arith
+
+pub carried-open : (s : Session) (last : Last) (m : Mem) (t : Turned) → Carried s last m t → t .turn .reply ≡ reply.Closing → ⊥
+carried-open s last m t (plain t′ e) q = clash (sym (ap isPlain q) ∙ e)
+carried-open s last m t (upload-error e o) q = let z : _≡_ {A = ℕ} 0 1 = cc in omega arith
+carried-open s last m t (download-error e o) q = let z : _≡_ {A = ℕ} 0 1 = cc in omega arith
+carried-open s last m t (nak e u map owner table o v) q = let z : _≡_ {A = ℕ} 0 1 = cc in omega arith
 
 -- ---- the numbers
 
@@ -302,20 +312,26 @@ module _ (s : Session) (last : Last) (clock most size : ℕ) (info : List ℕ) (
       go s′ true = plain _ refl
       go s′ false = plain _ refl
 
-  pub carried : (a : Act) → decided.Proper (s .up) size (files (m .table)) a → Carried s last m (carryOut a s last clock most size info m)
+  pub carried : (a : Act) → decided.Proper (s .up) size (files (m .table)) a → closes a ≡ false → Carried s last m (carryOut a s last clock most size info m)
   unfolding carryOut
-  carried a decided.close = closing
-  carried a decided.ignore = plain _ refl
-  carried a (decided.upload-error e o) = upload-error e o
-  carried a (decided.download-error e o) = download-error e o
-  carried a (decided.begin n) = begin-carried (nextNumber (last .number)) n
-  carried a (decided.resume place number received) = plain _ refl
-  carried a (decided.store place offset received u h) = store-carried place offset received u h
-  carried a (decided.overrun place u) = discard-carried place 16 up.Ignoring refl (overrun refl)
-  carried a decided.stop = plain _ refl
-  carried a (decided.finish place u) = finish-carried place u
-  carried a decided.select = select-carried
-  carried a (decided.send place offset lock passed) = send-carried place offset lock passed
-  carried a (decided.confirm place destination) = confirm-carried place destination
-  carried a decided.ending = plain _ refl
-  carried a (decided.abort place) = plain _ refl
+  carried a decided.close f = let z : _≡_ {A = ℕ} 0 1 = cc in absurd (omega arith)
+  carried a decided.ignore f = plain _ refl
+  carried a (decided.upload-error e o) f = upload-error e o
+  carried a (decided.download-error e o) f = download-error e o
+  carried a (decided.begin n) f = begin-carried (nextNumber (last .number)) n
+  carried a (decided.resume place number received) f = plain _ refl
+  carried a (decided.store place offset received u h) f = store-carried place offset received u h
+  carried a (decided.overrun place u) f = discard-carried place 16 up.Ignoring refl (overrun refl)
+  carried a decided.stop f = plain _ refl
+  carried a (decided.finish place u) f = finish-carried place u
+  carried a decided.select f = select-carried
+  carried a (decided.send place offset lock passed) f = send-carried place offset lock passed
+  carried a (decided.confirm place destination) f = confirm-carried place destination
+  carried a decided.ending f = plain _ refl
+  carried a (decided.abort place) f = plain _ refl
+
+-- closing alone
+pub carried-close : (a : Act) (s : Session) (last : Last) (clock most size : ℕ) (info : List ℕ) (m : Mem) → closes a ≡ true
+    → carryOut a s last clock most size info m ≡ onChooses m (download.closeTurn last (m .selected))
+unfolding carryOut
+carried-close a s last clock most size info m e = ap (λ (b : Act). carryOut b s last clock most size info m) (close-alone a e)

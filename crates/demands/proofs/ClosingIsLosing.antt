@@ -20,16 +20,17 @@ use Rattle.session.specs.Expected.{expected}
 use Rattle.session.specs.Reply.{Told, told, tell}
 use Rattle.carry.specs.declared.turn.Turn.{Turn}
 use Rattle.carry.specs.Turn.{turnOf, Mem, mem, Turned, turned}
+use Rattle.decide.proofs.Closing as decide
 use Rattle.server.specs.declared.Server.{Server}
 use Rattle.server.specs.declared.check.Check.{Check}
 use Rattle.server.specs.declared.check.Check.the-variants.{Go, Refuse}
 use Rattle.server.specs.State.{Lent, lent, Outcome, outcome, doneWith, linkOf, withLink, withTurn, part, withPart}
 use Rattle.server.specs.Check.{sessionCheck, checkOf}
-use Rattle.server.specs.Calls.{Lost, onLose, loseOf, receiveOf}
+use Rattle.server.specs.Calls.{Lost, onLose, loseOf, stepOf, onCheck, receiveOf}
 use Rattle.history.specs.Calls.{receive, lose, callOf}
 use Rattle.demands.specs.Closing.{ClosesBy, SameAsLost, ClosingIsLosing, eventAt, Unwelcome, long, unexpected, ClosesExactly, EveryClosing}
-use Rattle.demands.proofs.Checks.{Through, check-sound, through-again}
-use Rattle.demands.proofs.Heard.{Unended, Ended}
+use Rattle.demands.proofs.Checks.{Through, check-sound, check-through, through-again}
+use Rattle.demands.proofs.Heard.{Unended, Ended, Hears, unended, ended}
 use Rattle.demands.proofs.Carried.{isPlain}
 use Rattle.demands.proofs.Steps as steps
 use Rattle.demands.proofs.Answered.{Tells, quiet, closing, sending, tells}
@@ -122,3 +123,80 @@ closing-is-losing sv l session clock input out taken e = go (closed sv l session
               (c .turn)
               ∙ sym (ap (λ (o : Outcome). o .lent) k);
         }
+
+-- ---- when a link is closed
+
+no-event : {E : Type 0} (v : E) → none ≡ some v → ⊥
+no-event v e = let z : _≡_ {A = ℕ} 0 1 = cc in omega arith
+
+-- nothing unwelcome without an event
+unwelcome-none : (s : Session) (o : Option Event) → o ≡ none → Unwelcome s o → ⊥
+unwelcome-none s o e long = no-event too-long (sym e)
+unwelcome-none s o e (unexpected kind info x) = no-event (packet kind info) (sym e)
+
+not-false : (b : Bool) → not b ≡ true → b ≡ false
+not-false true e = absurd (clash e)
+not-false false e = refl
+
+-- the framing's answer closes exactly for an unwelcome event
+frame-closes : (s : Session) (taken : ℕ) (v : Event) → Unwelcome s (some v) → decide.closing (withHeld s 0) (answerBy taken none-held (some v) .frame) ≡ true
+unfolding answerBy withoutPacket
+frame-closes s taken v long = refl
+frame-closes s taken v (unexpected kind info x) = rw x
+
+closes-frame : (s : Session) (taken : ℕ) (v : Event) → decide.closing (withHeld s 0) (answerBy taken none-held (some v) .frame) ≡ true → Unwelcome s (some v)
+unfolding answerBy withoutPacket
+closes-frame s taken (packet kind info) e = unexpected kind info (not-false (expected (s .up) (s .down) kind (length info)) e)
+closes-frame s taken too-long e = long
+
+module _ (sv : Server) (l : Lent) (session clock : ℕ) (input out : List ℕ) (i : ℕ) (t : Through sv l session true (length out) i)
+    (go-on : checkOf sv l session true (length out) ≡ Go i) where
+  step-is : receiveOf sv l out session clock input ≡ stepOf sv i clock input l out
+  unfolding receiveOf onCheck
+  step-is = rw go-on
+
+  act-closes : (h : Ended (part (i * 258) 258 (l .held)) (linkOf sv i .held) input)
+      → decide.closes (steps.actAt sv l session clock input out i t h)
+      ≡ decide.closing (withHeld (linkOf sv i) 0) (answerBy (h .taken) none-held (some (h .event)) .frame)
+  unfolding steps.actAt
+  act-closes h =
+      decide.decide-closes (withHeld (linkOf sv i) 0) (sv .links) (answerBy (h .taken) none-held (some (h .event)) .frame)
+      (answerBy (h .taken) none-held (some (h .event)) .info) _ _ (steps.framed-facts (h .taken) (h .event) (h .info) .info)
+
+  closes-at : Hears (part (i * 258) 258 (l .held)) (linkOf sv i .held) input → ClosesExactly sv l session clock input out i
+  closes-at (unended u) =
+      record {
+        closes = λ w. absurd (unwelcome-none _ _ (ap (λ (c : Call Held Event). c .event) (u .came)) w);
+        only = λ taken e.
+            let c : answer.Quiet (length input) ≡ answer.Closed taken =
+            sym (ap (λ (o : Outcome). o .done .answer) (step-is ∙ steps.step-unended sv l session clock input out i t u)) ∙ e in
+            let z : _≡_ {A = ℕ} 0 1 = cc in absurd (omega arith);
+      }
+  closes-at (ended h) =
+      record {
+        closes = λ w.
+            answered
+            ∙ ap (λ (k : Turned). tell (k .turn .reply) (h .taken) out .answer)
+            (steps.turn-closes sv l session clock input out i t h
+            (act-closes h ∙ frame-closes (linkOf sv i) (h .taken) (h .event) (subst (λ (o : Option Event). Unwelcome (linkOf sv i) o) (ap (λ (c : Call Held Event). c .event) (h .came)) w)))
+            ∙ (unfold tell in ap (λ (c : Call Held Event). answer.Closed (c .taken)) (sym (h .came)));
+        only = λ taken e.
+            subst (λ (o : Option Event). Unwelcome (linkOf sv i) o) (sym (ap (λ (c : Call Held Event). c .event) (h .came)))
+            (by-act (decide.closes (steps.actAt sv l session clock input out i t h)) refl (closed-reply _ (h .taken) taken out (sym answered ∙ e)));
+      }
+    where
+      answered : receiveOf sv l out session clock input .done .answer
+          ≡ tell (steps.turnAt sv l session clock input out i t h .turn .reply) (h .taken) out .answer
+      answered = ap (λ (o : Outcome). o .done .answer) (step-is ∙ steps.step-ended sv l session clock input out i t h)
+
+      by-act : (b : Bool) → decide.closes (steps.actAt sv l session clock input out i t h) ≡ b
+          → steps.turnAt sv l session clock input out i t h .turn .reply ≡ reply.Closing
+          → Unwelcome (linkOf sv i) (some (h .event))
+      by-act true q r = closes-frame (linkOf sv i) (h .taken) (h .event) (sym (act-closes h) ∙ q)
+      by-act false q r = absurd (steps.turn-open sv l session clock input out i t h q r)
+
+-- THEOREM: the server closes a link exactly where the paper says
+pub every-closing : EveryClosing
+every-closing sv l session clock input out i e =
+    let t = check-through sv l session true (length out) i e in
+    closes-at sv l session clock input out i t e (steps.heard-by sv l session clock input out i t)

@@ -28,6 +28,8 @@ use Rattle.carry.specs.Turn.{turnOf, Mem, mem, Turned, turned}
 use Rattle.carry.specs.Download as download
 use Rattle.carry.specs.Carry.{onChooses, carryOut}
 use Rattle.decide.specs.Decide.{decideOf, onFrame}
+use Rattle.decide.specs.declared.act.Act.{Act}
+use Rattle.decide.proofs.Closing.{closes}
 use Rattle.server.specs.declared.Server.{Server}
 use Rattle.server.specs.declared.check.Check.{Check}
 use Rattle.server.specs.declared.check.Check.the-variants.{Go, Refuse}
@@ -89,22 +91,27 @@ pub data Acted (sv : Server) (i : ℕ) (s : Session) (m : Mem) (t : Turned) : Ty
       → t .mem .selected ≡ m .selected
       → Acted sv i s m t
 
-module _ (sv : Server) (i : ℕ) (s : Session) (m : Mem) (n : length (part (i * sv .most) (sv .most) (m .selected)) ≡ sv .most) where
-  acted-by : (t : Turned) → carried.Carried s (sv .last) (partsOf sv i m) t → Acted sv i s m (putBack sv i m t)
+module _ (sv : Server) (i : ℕ) (s : Session) (m : Mem) where
+  stays-by : (t : Turned) → carried.Carried s (sv .last) (partsOf sv i m) t → Acted sv i s m (putBack sv i m t)
   unfolding putBack
-  acted-by t (carried.plain t′ e) = plain e
-  acted-by t carried.closing =
-      closing
-      (unfold onChooses download.closeTurn in
+  stays-by t (carried.plain t′ e) = plain e
+  stays-by t (carried.upload-error e o) = upload-error e o (put-back-same sv i m (turnOf s (sv .last) (reply.UploadError e)))
+  stays-by t (carried.download-error e o) = download-error e o (put-back-same sv i m (turnOf s (sv .last) (reply.DownloadError e)))
+  stays-by t (carried.nak e u map owner table o v) = nak e u o v refl (part-back (i * sv .most) (sv .most) (m .selected))
+
+module _ (sv : Server) (i : ℕ) (m : Mem) where
+  pub put-back-closed : length (part (i * sv .most) (sv .most) (m .selected)) ≡ sv .most
+      → putBack sv i m (onChooses (partsOf sv i m) (download.closeTurn (sv .last) (part (i * sv .most) (sv .most) (m .selected))))
+      ≡ turned (turnOf closedSession (sv .last) reply.Closing)
+      (mem (m .disk) (m .map) (m .owner) (m .table) (withPart (i * sv .most) (sv .most) (replicate (sv .most) 0) (m .selected)))
+  unfolding putBack onChooses download.closeTurn
+  put-back-closed n =
       rw (
         take-append-drop (words (sv .blocks)) (m .map),
         take-append-drop (sv .blocks) (m .owner),
         take-append-drop (4 * sv .files) (m .table),
         n,
-      ))
-  acted-by t (carried.upload-error e o) = upload-error e o (put-back-same sv i m (turnOf s (sv .last) (reply.UploadError e)))
-  acted-by t (carried.download-error e o) = download-error e o (put-back-same sv i m (turnOf s (sv .last) (reply.DownloadError e)))
-  acted-by t (carried.nak e u map owner table o v) = nak e u o v refl (part-back (i * sv .most) (sv .most) (m .selected))
+      )
 
 -- ---- the store and the sessions that an act is handed
 
@@ -142,7 +149,7 @@ module _ (sv : Server) (l : Lent) (session clock : ℕ) (input out : List ℕ) (
       )
 
   -- bytes that end a packet
-  pub turnAt : Ended (part (i * 258) 258 (l .held)) (linkOf sv i .held) input → Turned
+  unfoldable pub turnAt : Ended (part (i * 258) 258 (l .held)) (linkOf sv i .held) input → Turned
   turnAt e =
       actOf sv i (withHeld (linkOf sv i) 0) (answerBy (e .taken) none-held (some (e .event)) .frame) clock
       (answerBy (e .taken) none-held (some (e .event)) .info) (mem (l .disk) (l .map) (l .owner) (l .table) (l .selected))
@@ -158,14 +165,21 @@ module _ (sv : Server) (l : Lent) (session clock : ℕ) (input out : List ℕ) (
       let f = framed-facts (e .taken) (e .event) (e .info) in
       rw (e .is, f .took, f .held, le-ltb (length out) 258 (t .room))
 
-  pub turn-acted : (e : Ended (part (i * 258) 258 (l .held)) (linkOf sv i .held) input)
-      → Acted sv i (withHeld (linkOf sv i) 0) (mem (l .disk) (l .map) (l .owner) (l .table) (l .selected)) (turnAt e)
-  unfolding turnAt actOf
-  turn-acted e =
-      acted-by sv i (withHeld (linkOf sv i) 0) (mem (l .disk) (l .map) (l .owner) (l .table) (l .selected)) selection-part _
-      (carried.carried (withHeld (linkOf sv i) 0) (sv .last) clock (sv .most) _ _ (partsOf sv i (mem (l .disk) (l .map) (l .owner) (l .table) (l .selected)))
+  -- what is decided on it
+  unfoldable pub actAt : Ended (part (i * 258) 258 (l .held)) (linkOf sv i .held) input → Act
+  actAt e =
+      decideOf (withHeld (linkOf sv i) 0) (sv .links) (answerBy (e .taken) none-held (some (e .event)) .frame)
+      (answerBy (e .taken) none-held (some (e .event)) .info) (files (take (4 * sv .files) (l .table))) (part (i * sv .most) (sv .most) (l .selected))
+
+  carried-at : (e : Ended (part (i * 258) 258 (l .held)) (linkOf sv i .held) input) → closes (actAt e) ≡ false
+      → carried.Carried (withHeld (linkOf sv i) 0) (sv .last) (partsOf sv i (mem (l .disk) (l .map) (l .owner) (l .table) (l .selected)))
+      (carryOut (actAt e) (withHeld (linkOf sv i) 0) (sv .last) clock (sv .most) (sizeIn (answerBy (e .taken) none-held (some (e .event)) .frame))
+      (answerBy (e .taken) none-held (some (e .event)) .info) (partsOf sv i (mem (l .disk) (l .map) (l .owner) (l .table) (l .selected))))
+  unfolding actAt
+  carried-at e f =
+      carried.carried (withHeld (linkOf sv i) 0) (sv .last) clock (sv .most) _ _ (partsOf sv i (mem (l .disk) (l .map) (l .owner) (l .table) (l .selected)))
       (ready (framed-facts (e .taken) (e .event) (e .info))) _
-      (decided.decide-proper (withHeld (linkOf sv i) 0) (sv .links) _ _ _ _))
+      (decided.decide-proper (withHeld (linkOf sv i) 0) (sv .links) _ _ _ _) f
     where
       ready : FramedFacts (e .taken) (answerBy (e .taken) none-held (some (e .event)))
           → carried.Ready (withHeld (linkOf sv i) 0) (sv .last) (sv .most) (sizeIn (answerBy (e .taken) none-held (some (e .event)) .frame))
@@ -181,6 +195,36 @@ module _ (sv : Server) (l : Lent) (session clock : ℕ) (input out : List ℕ) (
             fits = f .size;
             file = λ place u. facts .sessions .each i below linked .receiving place (u .offset) (u .received) (u .is) .number;
           }
+
+  pub turn-stays : (e : Ended (part (i * 258) 258 (l .held)) (linkOf sv i .held) input) → closes (actAt e) ≡ false
+      → Acted sv i (withHeld (linkOf sv i) 0) (mem (l .disk) (l .map) (l .owner) (l .table) (l .selected)) (turnAt e)
+  unfolding turnAt actAt actOf
+  turn-stays e f = stays-by sv i (withHeld (linkOf sv i) 0) (mem (l .disk) (l .map) (l .owner) (l .table) (l .selected)) _ (carried-at e f)
+
+  -- and then the reply does not close
+  pub turn-open : (e : Ended (part (i * 258) 258 (l .held)) (linkOf sv i .held) input) → closes (actAt e) ≡ false
+      → turnAt e .turn .reply ≡ reply.Closing
+      → ⊥
+  unfolding turnAt actAt actOf putBack
+  turn-open e f q = carried.carried-open _ _ _ _ (carried-at e f) q
+
+  pub turn-closes : (e : Ended (part (i * 258) 258 (l .held)) (linkOf sv i .held) input) → closes (actAt e) ≡ true
+      → turnAt e
+      ≡ turned (turnOf closedSession (sv .last) reply.Closing)
+      (mem (l .disk) (l .map) (l .owner) (l .table) (withPart (i * sv .most) (sv .most) (replicate (sv .most) 0) (l .selected)))
+  unfolding turnAt actAt actOf
+  turn-closes e f =
+      ap (λ (t : Turned). putBack sv i (mem (l .disk) (l .map) (l .owner) (l .table) (l .selected)) t)
+      (carried.carried-close (actAt e) (withHeld (linkOf sv i) 0) (sv .last) clock (sv .most) _ _ (partsOf sv i (mem (l .disk) (l .map) (l .owner) (l .table) (l .selected))) f)
+      ∙ put-back-closed sv i (mem (l .disk) (l .map) (l .owner) (l .table) (l .selected)) selection-part
+
+  pub turn-acted : (e : Ended (part (i * 258) 258 (l .held)) (linkOf sv i .held) input)
+      → Acted sv i (withHeld (linkOf sv i) 0) (mem (l .disk) (l .map) (l .owner) (l .table) (l .selected)) (turnAt e)
+  turn-acted e = go (closes (actAt e)) refl
+    where
+      go : (t : Bool) → closes (actAt e) ≡ t → Acted sv i (withHeld (linkOf sv i) 0) (mem (l .disk) (l .map) (l .owner) (l .table) (l .selected)) (turnAt e)
+      go true q = closing (turn-closes e q)
+      go false q = turn-stays e q
 
 -- ---- the cases of a receive call
 
