@@ -6,3 +6,4 @@ pub mod Steps
 pub mod Answered
 pub mod ClosingIsLosing
 pub mod Unique
+pub mod Parts
