@@ -7,3 +7,4 @@ pub mod Answered
 pub mod ClosingIsLosing
 pub mod Unique
 pub mod Parts
+pub mod Held

@@ -2,3 +2,4 @@ pub mod Parts
 pub mod Demand1
 pub mod Closing
 pub mod Unique
+pub mod Cut
