@@ -8,3 +8,4 @@ pub mod ClosingIsLosing
 pub mod Unique
 pub mod Parts
 pub mod Held
+pub mod Joined

@@ -131,8 +131,11 @@ module _ (sv : Server) (l : Lent) (session clock : ℕ) (input out : List ℕ) (
   pub selection-part : length (part (i * sv .most) (sv .most) (l .selected)) ≡ sv .most
   selection-part = part-length (l .selected) i (sv .sessions) (sv .most) below (facts .room .selected)
 
+  pub few-held : linkOf sv i .held < 258
+  few-held = held-few sv l facts i below linked
+
   pub heard-by : Hears (part (i * 258) 258 (l .held)) (linkOf sv i .held) input
-  heard-by = hears (part (i * 258) 258 (l .held)) (linkOf sv i .held) input packet-part (held-few sv l facts i below linked)
+  heard-by = hears (part (i * 258) 258 (l .held)) (linkOf sv i .held) input packet-part few-held
 
   -- bytes that end no packet change the unfinished packet alone
   pub step-unended : (u : Unended (part (i * 258) 258 (l .held)) (linkOf sv i .held) input)
