@@ -77,13 +77,13 @@ answered-shift r k taken out = go (ltb (length out) 258)
 
 -- ---- a step by what was heard
 
-unfoldable stepWith : Server → ℕ → ℕ → Lent → List ℕ → Heard → Outcome
+unfoldable pub stepWith : Server → ℕ → ℕ → Lent → List ℕ → Heard → Outcome
 stepWith sv i clock l out h =
     answeredBy sv i (h .answer .taken) (withPart (i * 258) 258 (h .part) (l .held)) out
     (actOf sv i (withHeld (linkOf sv i) (h .answer .held)) (h .answer .frame) clock (h .answer .info)
     (mem (l .disk) (l .map) (l .owner) (l .table) (l .selected)))
 
-step-with : (sv : Server) (i clock : ℕ) (l : Lent) (out input : List ℕ) (h : Heard)
+pub step-with : (sv : Server) (i clock : ℕ) (l : Lent) (out input : List ℕ) (h : Heard)
     → frame.receiveOf (part (i * 258) 258 (l .held)) (linkOf sv i .held) input ≡ h
     → stepOf sv i clock input l out ≡ stepWith sv i clock l out h
 unfolding stepOf heardBy hearOf stepWith

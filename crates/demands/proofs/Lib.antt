@@ -9,3 +9,4 @@ pub mod Unique
 pub mod Parts
 pub mod Held
 pub mod Joined
+pub mod Others
