@@ -10,3 +10,4 @@ pub mod Parts
 pub mod Held
 pub mod Joined
 pub mod Others
+pub mod CutCalls
