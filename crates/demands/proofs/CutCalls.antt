@@ -8,10 +8,12 @@ use native.Mathlib.Omega.{arith}
 use borrow.Author.Tests.{le-ltb}
 use lib.Dec.{eqb, ltb}
 use lib.ListN.{length}
+use lib.Seq.{set-getD}
 use Rattle.packet.specs.Machine.{Call, call}
 use Rattle.packet.specs.Frame as frame
 use Rattle.packet.specs.Frame.{Held, Event, byte}
 use Rattle.session.specs.declared.state.Session.{Session}
+use Rattle.session.specs.State.{closedSession}
 use Rattle.session.specs.declared.reply.Answer.{Answer}
 use Rattle.session.specs.declared.reply.Answer.the-variants as answer
 use Rattle.server.specs.declared.Server.{Server}
@@ -25,7 +27,7 @@ use Rattle.history.specs.Calls.{login, receive, request, lose, callOf, State, s
 use Rattle.history.specs.Good.{Good}
 use Rattle.demands.specs.Parts.{sessionIn}
 use Rattle.demands.specs.Closing.{eventAt}
-use Rattle.demands.specs.Cut.{Seen, sent, closed, seenIn, seenOf, seen, endsIn, Recut, same, back, chain, also, joined, passed, untaken, SameAfter, CutElsewhere}
+use Rattle.demands.specs.Cut.{Seen, sent, closed, seenIn, seenOf, seen, endsIn, Recut, same, back, chain, also, joined, empty, passed, untaken, SameAfter, CutElsewhere}
 use Rattle.demands.proofs.Checks.{Through, StateFacts, check-through, state-facts, good-check, through-again}
 use Rattle.demands.proofs.Heard.{Unended, Ended}
 use Rattle.demands.proofs.Held.{hold, keep, hold-seen}
@@ -55,6 +57,36 @@ no-packet sv l session clock xs out e f =
     let a : eventAt sv l (f .i) xs ≡ some (f .heard .event) = ap (λ (c : Call Held Event). c .event) (f .heard .came) in
     let b : none ≡ some (f .heard .event) = sym e ∙ ap (λ (j : ℕ). eventAt sv l j xs) (sym (f .through .index)) ∙ a in
     let z : _≡_ {A = ℕ} 0 1 = cc in omega arith
+
+-- ---- a call that is lent no byte
+
+-- a session that holds what it held
+hold-same : (sv : Server) (i : ℕ) → hold sv i (linkOf sv i .held) ≡ sv
+hold-same sv i =
+    ap (λ (ks : List Session). record { blocks = sv .blocks; files = sv .files; sessions = sv .sessions; most = sv .most; last = sv .last; links = ks })
+    (set-getD (sv .links) i closedSession)
+
+keep-same : (l : Lent) (i : ℕ) → keep l i (part (i * 258) 258 (l .held)) ≡ l
+keep-same l i = ap (λ (k : List ℕ). lent (l .disk) (l .map) (l .owner) (l .table) (l .selected) k) (steps.part-back (i * 258) 258 (l .held))
+
+pub record Nothing (sv : Server) (l : Lent) (c : history.Call) : Type 0 where
+  pub server : callOf sv l c .done .server ≡ sv
+  pub lent : callOf sv l c .lent ≡ l
+
+empty-call : (sv : Server) (l : Lent) (session clock : ℕ) (out : List ℕ) → Nothing sv l (receive session clock [] out)
+unfolding call
+empty-call sv l session clock out = go (steps.receives sv l session clock [] out)
+  where
+    go : steps.Receives sv l session clock [] out → Nothing sv l (receive session clock [] out)
+    go (steps.refused n o k q) = record { server = ap (λ (o : Outcome). o .done .server) q; lent = ap (λ (o : Outcome). o .lent) q }
+    go (steps.ends-none e) =
+        let s : record { count = linkOf sv (e .i) .held; part = part (e .i * 258) 258 (l .held) } ≡ e .heard .state =
+        ap (λ (c : Call Held Event). c .state) (e .heard .came) in
+        record {
+          server = ap (λ (o : Outcome). o .done .server) (e .is) ∙ ap (λ (h : Held). hold sv (e .i) (h .count)) (sym s) ∙ hold-same sv (e .i);
+          lent = ap (λ (o : Outcome). o .lent) (e .is) ∙ ap (λ (h : Held). keep l (e .i) (h .part)) (sym s) ∙ keep-same l (e .i);
+        }
+    go (steps.ends-packet f) = absurd (no-packet sv l session clock [] out refl f)
 
 -- ---- the moves, on a state that calls made
 
@@ -304,6 +336,16 @@ module _ (good-kept : (sv : Server) (l : Lent) → Good sv l → (c : history.Ca
               seen = lists (seen s h) _ _ _ _ (w .none-first) (w .call-seen) (w .none-last);
             }
 
+    empty-after : (h : History) (session clock : ℕ) (out : List ℕ) → SameAfter s (h ▸ receive session clock [] out) h
+    unfolding after seen call
+    empty-after h session clock out =
+        let w = empty-call (after s h .server) (after s h .lent) session clock out in
+        record {
+          state = ap (λ (x : Server). state x (callOf (after s h .server) (after s h .lent) (receive session clock [] out) .lent)) (w .server)
+              ∙ ap (λ (x : Lent). state (after s h .server) x) (w .lent);
+          seen = ap (λ (k : List Seen). seen s h ++ k) (unended-seen (after s h .server) (after s h .lent) session clock [] out refl) ∙ append-nil (seen s h);
+        }
+
     untaken-after : (h : History) (session clock : ℕ) (xs ys out : List ℕ) (e : Event)
         → endsIn s h session xs ≡ some e
         → SameAfter s (h ▸ receive session clock (xs ++ ys) out) (h ▸ receive session clock xs out)
@@ -333,6 +375,7 @@ module _ (good-kept : (sv : Server) (l : Lent) → Good sv l → (c : history.Ca
         record { state = v .state ∙ w .state; seen = v .seen ∙ w .seen }
     same-after h k (also h′ k′ r c) = also-after h′ k′ (same-after h′ k′ r) c
     same-after h k (joined g session clock clock′ xs ys out out′ e a b) = joined-after g session clock clock′ xs ys out out′ e a b
+    same-after h k (empty _ session clock out) = empty-after k session clock out
     same-after h k (passed g session clock xs out c e d) = passed-after g session clock xs out c e d
     same-after h k (untaken g session clock xs ys out e q) = untaken-after g session clock xs ys out e q
 

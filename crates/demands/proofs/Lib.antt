@@ -11,3 +11,4 @@ pub mod Held
 pub mod Joined
 pub mod Others
 pub mod CutCalls
+pub mod Demand2

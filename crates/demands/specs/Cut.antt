@@ -57,6 +57,8 @@ pub data Recut (s : Start) : History → History → Type 0 where
       → 258 ≤ length out
       → 258 ≤ length out′
       → Recut s (h ▸ receive session clock xs out ▸ receive session clock′ ys out′) (h ▸ receive session clock′ (xs ++ ys) out′)
+  -- a call that is lent no byte
+  empty : (h : History) (session clock : ℕ) (out : List ℕ) → Recut s (h ▸ receive session clock [] out) h
   -- bytes that end nothing, before or after a call for another session
   passed : (h : History) (session clock : ℕ) (xs out : List ℕ) (c : Call)
       → endsIn s h session xs ≡ none

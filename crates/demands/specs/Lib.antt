@@ -3,3 +3,4 @@ pub mod Demand1
 pub mod Closing
 pub mod Unique
 pub mod Cut
+pub mod Demand2
