@@ -37,7 +37,7 @@ use Rattle.demands.proofs.Steps as steps
 
 -- ---- by the check
 
-refused-receive : (sv : Server) (l : Lent) (session clock : ℕ) (input out : List ℕ) (n : ℕ) → checkOf sv l session true (length out) ≡ Refuse n
+pub refused-receive : (sv : Server) (l : Lent) (session clock : ℕ) (input out : List ℕ) (n : ℕ) → checkOf sv l session true (length out) ≡ Refuse n
     → receiveOf sv l out session clock input ≡ outcome (doneWith sv (answer.Refused n)) l out
 unfolding receiveOf onCheck
 refused-receive sv l session clock input out n e = rw e
@@ -52,7 +52,7 @@ unfolding sessionCheck
 session-rooms sv session wanted a b h k = rw (le-ltb a 258 h, le-ltb b 258 k)
 
 -- bytes that end no packet do not end one
-no-packet : (sv : Server) (l : Lent) (session clock : ℕ) (xs out : List ℕ) → eventAt sv l (session - 1) xs ≡ none → steps.EndsPacket sv l session clock xs out → ⊥
+pub no-packet : (sv : Server) (l : Lent) (session clock : ℕ) (xs out : List ℕ) → eventAt sv l (session - 1) xs ≡ none → steps.EndsPacket sv l session clock xs out → ⊥
 no-packet sv l session clock xs out e f =
     let a : eventAt sv l (f .i) xs ≡ some (f .heard .event) = ap (λ (c : Call Held Event). c .event) (f .heard .came) in
     let b : none ≡ some (f .heard .event) = sym e ∙ ap (λ (j : ℕ). eventAt sv l j xs) (sym (f .through .index)) ∙ a in
@@ -127,7 +127,7 @@ module _ (good-kept : (sv : Server) (l : Lent) → Good sv l → (c : history.Ca
             ∙ passes
 
     -- bytes lent in one call, or in two
-    joined-call : eventAt sv l (session - 1) xs ≡ none → 258 ≤ length out → 258 ≤ length out′
+    pub joined-call : eventAt sv l (session - 1) xs ≡ none → 258 ≤ length out → 258 ≤ length out′
         → callOf sv l (receive session clock′ (xs ++ ys) out′)
         ≡ shifted (length xs)
         (callOf (callOf sv l (receive session clock xs out) .done .server) (callOf sv l (receive session clock xs out) .lent) (receive session clock′ ys out′))
@@ -267,7 +267,7 @@ module _ (good-kept : (sv : Server) (l : Lent) → Good sv l → (c : history.Ca
 
 -- ---- whole histories
 
-seen-shift : (session k : ℕ) (a : Answer) (out : List ℕ) → seenIn session (shift k a) out ≡ seenIn session a out
+pub seen-shift : (session k : ℕ) (a : Answer) (out : List ℕ) → seenIn session (shift k a) out ≡ seenIn session a out
 unfolding seenIn shift
 seen-shift session k (answer.Quiet taken) out = refl
 seen-shift session k (answer.Sent taken size) out = refl
@@ -275,7 +275,7 @@ seen-shift session k (answer.Closed taken) out = refl
 seen-shift session k (answer.Refused n) out = refl
 
 -- bytes that end nothing are not seen
-unended-seen : (sv : Server) (l : Lent) (session clock : ℕ) (xs out : List ℕ) → eventAt sv l (session - 1) xs ≡ none
+pub unended-seen : (sv : Server) (l : Lent) (session clock : ℕ) (xs out : List ℕ) → eventAt sv l (session - 1) xs ≡ none
     → seenOf (receive session clock xs out) (callOf sv l (receive session clock xs out)) ≡ []
 unfolding seenIn
 unended-seen sv l session clock xs out none-ends = go (steps.receives sv l session clock xs out)

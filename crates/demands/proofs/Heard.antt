@@ -129,6 +129,7 @@ pub record Unended (part : List ℕ) (held : ℕ) (input : List ℕ) : Type 0 wh
 pub record Ended (part : List ℕ) (held : ℕ) (input : List ℕ) : Type 0 where
   pub taken : ℕ
   pub within : taken ≤ length input
+  pub some-taken : 1 ≤ length input → 1 ≤ taken
   pub event : Event
   pub came : call byte (record { count = held; part = part }) input ≡ record { taken = taken; state = none-held; event = some event }
   pub is : receiveOf part held input ≡ heard (answerBy taken none-held (some event)) (replicate 258 0)
@@ -159,6 +160,7 @@ hears part held input w room =
             ended (record {
               taken = c .taken;
               within = f .within;
+              some-taken = f .some-taken;
               event = v;
               came = e ∙ rw (← f .nothing v q, ← q);
               is = rw (eq-eqb (length part) 258 w, lt-ltb held 258 room, e, q, f .nothing v q);

@@ -12,3 +12,4 @@ pub mod Joined
 pub mod Others
 pub mod CutCalls
 pub mod Demand2
+pub mod Feeding

@@ -4,3 +4,4 @@ pub mod Closing
 pub mod Unique
 pub mod Cut
 pub mod Demand2
+pub mod Feeding
