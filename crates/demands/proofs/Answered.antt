@@ -2,11 +2,11 @@
 use mathlib.Core.Path.{_≡_, refl, sym, ap, _∙_, subst}
 use mathlib.Core.Bool.{Bool, true, false, cond}
 use mathlib.Core.List.{List, [], _∷_, _++_}
-use Prim.Native.Nat.{ℕ, zero, suc, _+_, _*_, _-_, _/_, _%_, _≤_, _<_}
+use Prim.Native.Nat.{ℕ, zero, suc, _+_, _*_, _-_, _/_, _%_, _≤_}
 use native.Mathlib.Omega.{arith}
 use borrow.Author.Tests.{le-ltb, lt-ltb, ltb-true, ltb-false, eqb-true, eqb-false}
 use lib.Dec.{eqb, ltb}
-use lib.ListN.{length, drop, set, getD, replicate, length-append, length-drop, length-replicate, length-set}
+use lib.ListN.{length, drop, set, getD, replicate, length-append, length-drop, length-replicate}
 use lib.Seq.{getD-set-same, set-out}
 use Rattle.packet.specs.Numbers.{two, four}
 use Rattle.packet.specs.Packet.{packetOf}
@@ -19,7 +19,7 @@ use Rattle.session.specs.declared.reply.Reply.{Reply}
 use Rattle.session.specs.declared.reply.Reply.the-variants as reply
 use Rattle.session.specs.declared.reply.Answer.{Answer}
 use Rattle.session.specs.declared.reply.Answer.the-variants as answer
-use Rattle.session.specs.State.{closedSession, freshSession, withHeld, withUp, withDown}
+use Rattle.session.specs.State.{closedSession, withHeld, withUp, withDown}
 use Rattle.session.specs.Reply.{Told, told, sentInfo, tell, answered}
 use Rattle.table.specs.declared.File.{File}
 use Rattle.table.specs.Table.{files, fileAt}
@@ -29,13 +29,13 @@ use Rattle.server.specs.declared.Server.{Server}
 use Rattle.server.specs.declared.check.Check.{Check}
 use Rattle.server.specs.declared.check.Check.the-variants.{Go, Refuse}
 use Rattle.server.specs.State.{Lent, lent, Outcome, outcome, doneWith, linkOf, withLink, withTurn, withPart, ownerPart, tablePart}
-use Rattle.server.specs.Check.{sessionCheck, checkOf}
+use Rattle.server.specs.Check.{checkOf}
 use Rattle.server.specs.Sending.{Due, leastOf, bytesFrom, dataOf, sendingOf, dueOf}
 use Rattle.server.specs.Calls.{onLogin, loginOf, onLose, loseOf, dueAs, onRequest, requestOf, onCheck, receiveOf}
 use Rattle.history.specs.Calls.{Call, login, receive, request, lose, callOf}
 use Rattle.demands.specs.Parts.{sessionIn, bytesIn, outIn, openIn, roomIn, checkIn, oneOf}
-use Rattle.demands.specs.Demand1.{Refuses, Silent, Closes, Sends, Answers, refuses, silent, closes, sends, EveryCallAnswers, RefusedBy, Fits, IsSound, Reachable, LocalRefusals, EveryLocalRefusal, Says, forgotten, cleared, NothingElse, uploadErrors, downloadErrors, naks, PacketRefusal, UploadOver, EveryUploadError, EveryDownloadError, Naks, EveryNak}
-use Rattle.demands.proofs.Checks.{Through, check-33, check-35, check-sound, session-34, session-through, check-through, check-refuses}
+use Rattle.demands.specs.Demand1.{Sends, Answers, refuses, silent, closes, sends, EveryCallAnswers, RefusedBy, Fits, IsSound, Reachable, EveryLocalRefusal, Says, forgotten, cleared, NothingElse, uploadErrors, downloadErrors, naks, PacketRefusal, UploadOver, EveryUploadError, EveryDownloadError, Naks, EveryNak, Demand1}
+use Rattle.demands.proofs.Checks.{check-33, check-35, check-sound, session-34, session-through, check-through, check-refuses}
 use Rattle.demands.proofs.Carried.{isPlain}
 use Rattle.demands.proofs.Steps as steps
 
@@ -171,10 +171,10 @@ received sv l session clock input out = go (steps.receives sv l session clock in
         replied sv l (receive session clock input out) (receiveOf sv l out session clock input) (e .turn .turn .reply) (e .heard .taken) (e .heard .within)
         (e .through .room) (ap (λ (o : Outcome). o .done .answer) (e .is)) (ap (λ (o : Outcome). o .out) (e .is))
         (λ z.
-          ap (λ (o : Outcome). linkOf (o .done .server) (session - 1)) (e .is)
-          ∙ ap (λ (k : ℕ). getD (set (sv .links) k (e .turn .turn .session)) (session - 1) closedSession) (e .through .index)
-          ∙ ap (λ (s : Session). getD (set (sv .links) (session - 1) s) (session - 1) closedSession) (acted-closed sv (e .i) _ _ (e .turn) (e .acted) z)
-          ∙ closed-link (sv .links) (session - 1))
+        ap (λ (o : Outcome). linkOf (o .done .server) (session - 1)) (e .is)
+        ∙ ap (λ (k : ℕ). getD (set (sv .links) k (e .turn .turn .session)) (session - 1) closedSession) (e .through .index)
+        ∙ ap (λ (s : Session). getD (set (sv .links) (session - 1) s) (session - 1) closedSession) (acted-closed sv (e .i) _ _ (e .turn) (e .acted) z)
+        ∙ closed-link (sv .links) (session - 1))
 
 -- ---- login
 
@@ -539,3 +539,14 @@ every-nak sv l session clock input out e s = go (spoken sv l session clock input
         by r q (five h) = absurd (omega arith)
         by r q (seven h) = nak-refused sv l session clock input out (k .ended) e q (k .ended .acted)
         by r q (nine h) = absurd (omega arith)
+
+-- THEOREM: demand 1
+pub demand-1 : Demand1
+demand-1 =
+    record {
+      answers = every-call-answers;
+      locals = every-local-refusal;
+      upload-errors = every-upload-error;
+      download-errors = every-download-error;
+      naks = every-nak;
+    }

@@ -1,12 +1,12 @@
 -- What each act leaves where it refuses, closes or discards; the numbers are those of the table, since the store is sound. Assumes nothing.
 use mathlib.Core.Path.{_≡_, refl, sym, ap, _∙_, subst}
-use mathlib.Core.Bool.{Bool, true, false, cond, _&&_}
-use mathlib.Core.List.{List, [], _∷_}
+use mathlib.Core.Bool.{Bool, true, false, cond}
+use mathlib.Core.List.{List}
 use Prim.Native.Nat.{ℕ, _+_, _≤_, _<_}
 use native.Mathlib.Omega.{arith}
 use borrow.Author.Tests.{le-ltb, le-leb, eq-eqb, ne-eqb, eqb-true, eqb-false}
 use lib.Dec.{eqb, leb, ltb}
-use lib.ListN.{length, take, drop, getD}
+use lib.ListN.{length, take, drop}
 use lib.Seq.{length-take-le}
 use mathlib.Core.Option.{Option, none, some}
 use Rattle.header.specs.Items.{marked, walk, fieldsOf}
@@ -15,39 +15,34 @@ use Rattle.packet.specs.Numbers.{number}
 use Rattle.equation.specs.Answer.{refusal, validityOf}
 use Rattle.equation.specs.Tree.{Tree, parse}
 use Rattle.blocks.specs.FreeMap.{freeCount}
-use Rattle.blocks.specs.Answers.{reserveNumber, storeFits}
 use Rattle.session.specs.declared.state.Session.{Session}
 use Rattle.session.specs.declared.state.Uplink.{Uplink}
 use Rattle.session.specs.declared.state.Uplink.the-variants as up
-use Rattle.session.specs.declared.state.Downlink.the-variants as down
 use Rattle.session.specs.declared.reply.Reply.{Reply}
 use Rattle.session.specs.declared.reply.Reply.the-variants as reply
-use Rattle.session.specs.State.{closedSession, withUp}
+use Rattle.session.specs.State.{withUp}
 use Rattle.table.specs.declared.Found.{Found}
 use Rattle.table.specs.declared.Found.the-variants.{Nothing, At}
 use Rattle.table.specs.declared.Given.{Given}
 use Rattle.table.specs.declared.Given.the-variants.{UsedUp, Next}
-use Rattle.table.specs.Table.{files, freeOf, fileAt}
+use Rattle.table.specs.Table.{files, freeOf}
 use Rattle.table.specs.Given.{nextNumber, uploadTime, blocksFor}
 use Rattle.table.proofs.Finding.{free-place}
-use Rattle.files.specs.declared.Begun.{Begun}
 use Rattle.files.specs.declared.Begun.the-variants.{Refused, Started}
 use Rattle.files.specs.Uploads as filesUp
 use Rattle.files.specs.View.{recordAt, bytesAt}
 use Rattle.files.specs.Completion.{checkOf, completeOf, destinationsAt}
-use Rattle.files.specs.Selection.{selectNumber, selectOf, Selects, selects}
+use Rattle.files.specs.Selection.{selectNumber, selectOf, selects}
 use Rattle.files.specs.Sound.{Sound, Sizes}
 use Rattle.files.proofs.Soundness.{store-is, files-most}
 use Rattle.files.proofs.Received.{append-done}
 use Rattle.files.proofs.Completed.{check-is, complete-done}
 use Rattle.carry.specs.declared.turn.Last.{Last}
-use Rattle.carry.specs.declared.turn.Turn.{Turn}
-use Rattle.carry.specs.Turn.{lastOf, turnOf, Mem, mem, Turned, turned, Frees, Moves, Chooses}
+use Rattle.carry.specs.Turn.{turnOf, Mem, mem, Turned, turned}
 use Rattle.carry.specs.Upload as upload
 use Rattle.carry.specs.Download as download
 use Rattle.carry.specs.Carry.{onFrees, onWrites, onMoves, onChooses, carryOut}
 use Rattle.decide.specs.declared.act.Act.{Act}
-use Rattle.decide.specs.declared.act.Act.the-variants as act
 use Rattle.decide.proofs.Closing.{closes, close-alone}
 use Rattle.demands.specs.Parts.{oneOf}
 use Rattle.demands.specs.Demand1.{uploadErrors, downloadErrors, naks, UploadOver, over, overrun}
@@ -211,7 +206,7 @@ module _ (s : Session) (last : Last) (clock most size : ℕ) (info : List ℕ) (
       rw (
         le-ltb (length info) size (omega (arith, r .information, r .fits)),
         append-done (m .map) (m .disk) (m .owner) (m .table) (last .number) (last .time) (r .sound) (r .sizes) place (r .file place u) (take size info)
-        (rw (length-take-le size info (omega (arith, r .information, r .fits))) h),
+            (rw (length-take-le size info (omega (arith, r .information, r .fits))) h),
       )
       (plain _ refl)
 

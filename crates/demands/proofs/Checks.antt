@@ -1,24 +1,22 @@
 -- The local refusals of a call, by their reasons, and what is known of a call that goes through. Assumes nothing.
 use mathlib.Core.Path.{_≡_, refl, sym, ap, _∙_, subst}
-use mathlib.Core.Bool.{Bool, true, false, cond, not}
-use mathlib.Core.List.{List, [], _∷_, _++_}
-use Prim.Native.Nat.{ℕ, _+_, _*_, _-_, _≤_, _<_}
+use mathlib.Core.Bool.{Bool, true, false, cond}
+use mathlib.Core.List.{List, [], _∷_}
+use Prim.Native.Nat.{ℕ, _*_, _-_, _≤_, _<_}
 use native.Mathlib.Omega.{arith}
-use borrow.Author.Tests.{lt-ltb, le-ltb, ne-eqb, ltb-true, ltb-false, leb-true, eqb-true, eqb-false}
+use borrow.Author.Tests.{le-ltb, ne-eqb, ltb-true, ltb-false, leb-true, eqb-false}
 use lib.Dec.{eqb, leb, ltb}
-use lib.ListN.{length, getD, take, drop, length-drop, length-take}
+use lib.ListN.{length, drop, length-drop}
 use lib.Seq.{length-take-le}
-use Rattle.session.specs.State.{closedSession}
 use Rattle.table.specs.Table.{files}
 use Rattle.files.specs.Sound.{soundTest, Sound, Sizes}
 use Rattle.files.proofs.Soundness.{sound-facts}
 use Rattle.links.specs.Sound.{linksSound}
 use Rattle.links.proofs.Facts as links
 use Rattle.server.specs.declared.Server.{Server}
-use Rattle.server.specs.declared.check.Check.{Check}
 use Rattle.server.specs.declared.check.Check.the-variants.{Go, Refuse}
-use Rattle.server.specs.State.{Lent, linkOf, words, mapPart, ownerPart, tablePart, part}
-use Rattle.server.specs.Check.{sizesFit, roomFits, fits, soundParts, inState, sessionCheck, checkParts, checkOf}
+use Rattle.server.specs.State.{Lent, linkOf, mapPart, ownerPart, tablePart, part}
+use Rattle.server.specs.Check.{sizesFit, fits, soundParts, inState, sessionCheck, checkParts, checkOf}
 use Rattle.server.proofs.CheckLaws as laws
 use Rattle.history.specs.Good.{Good}
 use Rattle.demands.specs.Parts.{oneOf}

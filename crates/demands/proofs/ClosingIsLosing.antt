@@ -1,36 +1,33 @@
 -- A link that the server closes leaves what a lost one leaves, and the server closes exactly where the paper says. Assumes nothing.
 use mathlib.Core.Path.{_≡_, refl, sym, ap, _∙_, subst}
-use mathlib.Core.Bool.{Bool, true, false, cond, not}
-use mathlib.Core.List.{List, [], _∷_, _++_}
+use mathlib.Core.Bool.{Bool, true, false, not}
+use mathlib.Core.List.{List, []}
 use mathlib.Core.Option.{Option, none, some}
-use Prim.Native.Nat.{ℕ, _+_, _*_, _-_, _≤_, _<_}
+use Prim.Native.Nat.{ℕ, _+_, _*_}
 use native.Mathlib.Omega.{arith}
 use lib.ListN.{length, replicate}
-use Rattle.packet.specs.declared.frame.Frame.{Frame}
-use Rattle.packet.specs.declared.frame.Frame.the-variants.{Open, TooLong, Whole, Refused}
-use Rattle.packet.specs.Machine.{Call, call}
-use Rattle.packet.specs.Frame.{Held, Event, packet, too-long, none-held, byte, withoutPacket, answerBy}
+use Rattle.packet.specs.declared.frame.Frame.the-variants.{Refused}
+use Rattle.packet.specs.Machine.{Call}
+use Rattle.packet.specs.Frame.{Held, Event, packet, too-long, none-held, withoutPacket, answerBy}
 use Rattle.session.specs.declared.state.Session.{Session}
 use Rattle.session.specs.declared.reply.Reply.{Reply}
 use Rattle.session.specs.declared.reply.Reply.the-variants as reply
-use Rattle.session.specs.declared.reply.Answer.{Answer}
 use Rattle.session.specs.declared.reply.Answer.the-variants as answer
 use Rattle.session.specs.State.{closedSession, withHeld}
 use Rattle.session.specs.Expected.{expected}
-use Rattle.session.specs.Reply.{Told, told, tell}
+use Rattle.session.specs.Reply.{Told, tell}
 use Rattle.carry.specs.declared.turn.Turn.{Turn}
 use Rattle.carry.specs.Turn.{turnOf, Mem, mem, Turned, turned}
 use Rattle.decide.proofs.Closing as decide
 use Rattle.server.specs.declared.Server.{Server}
-use Rattle.server.specs.declared.check.Check.{Check}
-use Rattle.server.specs.declared.check.Check.the-variants.{Go, Refuse}
+use Rattle.server.specs.declared.check.Check.the-variants.{Go}
 use Rattle.server.specs.State.{Lent, lent, Outcome, outcome, doneWith, linkOf, withLink, withTurn, part, withPart}
-use Rattle.server.specs.Check.{sessionCheck, checkOf}
-use Rattle.server.specs.Calls.{Lost, onLose, loseOf, stepOf, onCheck, receiveOf}
-use Rattle.history.specs.Calls.{receive, lose, callOf}
-use Rattle.demands.specs.Closing.{ClosesBy, SameAsLost, ClosingIsLosing, eventAt, Unwelcome, long, unexpected, ClosesExactly, EveryClosing}
+use Rattle.server.specs.Check.{checkOf}
+use Rattle.server.specs.Calls.{onLose, loseOf, stepOf, onCheck, receiveOf}
+use Rattle.history.specs.Calls.{lose, callOf}
+use Rattle.demands.specs.Closing.{ClosesBy, SameAsLost, ClosingIsLosing, Unwelcome, long, unexpected, ClosesExactly, EveryClosing}
 use Rattle.demands.proofs.Checks.{Through, check-sound, check-through, through-again}
-use Rattle.demands.proofs.Heard.{Unended, Ended, Hears, unended, ended}
+use Rattle.demands.proofs.Heard.{Ended, Hears, unended, ended}
 use Rattle.demands.proofs.Carried.{isPlain}
 use Rattle.demands.proofs.Steps as steps
 use Rattle.demands.proofs.Answered.{Tells, quiet, closing, sending, tells}
@@ -118,8 +115,8 @@ closing-is-losing sv l session clock input out taken e = go (closed sv l session
           lent = ap (λ (o : Outcome). o .lent) (c .ended .is)
               ∙ ap
               (λ (t : Turned).
-                lent (t .mem .disk) (t .mem .map) (t .mem .owner) (t .mem .table) (t .mem .selected)
-                (withPart (c .ended .i * 258) 258 (replicate 258 0) (l .held)))
+              lent (t .mem .disk) (t .mem .map) (t .mem .owner) (t .mem .table) (t .mem .selected)
+              (withPart (c .ended .i * 258) 258 (replicate 258 0) (l .held)))
               (c .turn)
               ∙ sym (ap (λ (o : Outcome). o .lent) k);
         }

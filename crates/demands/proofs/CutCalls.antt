@@ -1,12 +1,11 @@
 -- The cut theorem: cutting a link's bytes elsewhere changes no packet sent and no state after it. Assumes nothing.
 use mathlib.Core.Path.{_≡_, refl, sym, ap, _∙_, subst}
-use mathlib.Core.Bool.{Bool, true, false, cond}
-use mathlib.Core.List.{List, [], _∷_, _++_, append-assoc, append-nil}
-use mathlib.Core.Option.{Option, none, some}
+use mathlib.Core.Bool.{Bool, true}
+use mathlib.Core.List.{List, [], _++_, append-nil}
+use mathlib.Core.Option.{none, some}
 use Prim.Native.Nat.{ℕ, zero, suc, _+_, _*_, _-_, _≤_, _<_}
 use native.Mathlib.Omega.{arith}
 use borrow.Author.Tests.{le-ltb}
-use lib.Dec.{eqb, ltb}
 use lib.ListN.{length}
 use lib.Seq.{set-getD}
 use Rattle.packet.specs.Machine.{Call, call}
@@ -17,19 +16,18 @@ use Rattle.session.specs.State.{closedSession}
 use Rattle.session.specs.declared.reply.Answer.{Answer}
 use Rattle.session.specs.declared.reply.Answer.the-variants as answer
 use Rattle.server.specs.declared.Server.{Server}
-use Rattle.server.specs.declared.check.Check.{Check}
 use Rattle.server.specs.declared.check.Check.the-variants.{Go, Refuse}
-use Rattle.server.specs.State.{Lent, lent, Outcome, outcome, doneWith, linkOf, withLink, part, withPart}
-use Rattle.server.specs.Check.{inState, sessionCheck, checkOf}
+use Rattle.server.specs.State.{Lent, lent, Outcome, outcome, doneWith, linkOf, part}
+use Rattle.server.specs.Check.{sessionCheck, checkOf}
 use Rattle.server.specs.Calls.{stepOf, onCheck, receiveOf}
 use Rattle.history.specs.Calls as history
-use Rattle.history.specs.Calls.{login, receive, request, lose, callOf, State, state, next, Start, legal, History, start, _▸_, after}
+use Rattle.history.specs.Calls.{receive, callOf, State, state, next, Start, legal, History, _▸_, after}
 use Rattle.history.specs.Good.{Good}
 use Rattle.demands.specs.Parts.{sessionIn}
 use Rattle.demands.specs.Closing.{eventAt}
-use Rattle.demands.specs.Cut.{Seen, sent, closed, seenIn, seenOf, seen, endsIn, Recut, same, back, chain, also, joined, empty, passed, untaken, SameAfter, CutElsewhere}
-use Rattle.demands.proofs.Checks.{Through, StateFacts, check-through, state-facts, good-check, through-again}
-use Rattle.demands.proofs.Heard.{Unended, Ended}
+use Rattle.demands.specs.Cut.{Seen, seenIn, seenOf, seen, endsIn, Recut, same, back, chain, also, joined, empty, passed, untaken, SameAfter, CutElsewhere}
+use Rattle.demands.proofs.Checks.{check-through, state-facts, good-check, through-again}
+use Rattle.demands.proofs.Heard.{Unended}
 use Rattle.demands.proofs.Held.{hold, keep, hold-seen}
 use Rattle.demands.proofs.Joined.{shift, shifted, rest-untouched, step-joined}
 use Rattle.demands.proofs.Others.{session-same, others-sessions, others-link, others-part, moved, apart-call}

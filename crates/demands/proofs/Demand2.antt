@@ -1,25 +1,23 @@
 -- Demand 2's sentences on packets, closing and cutting, together. Assumes nothing.
-use mathlib.Core.Path.{_≡_, refl, sym, ap, _∙_}
+use mathlib.Core.Path.{_≡_, sym, ap, _∙_}
 use mathlib.Core.Bool.{true}
-use mathlib.Core.List.{List, _++_}
-use Prim.Native.Nat.{ℕ, _≤_, _+_}
+use mathlib.Core.List.{List}
+use Prim.Native.Nat.{ℕ, _+_}
 use native.Mathlib.Omega.{arith}
 use lib.ListN.{length, take, drop}
-use Rattle.packet.specs.declared.plain.Plain.{Plain}
-use Rattle.packet.specs.declared.plain.Plain.the-variants as plain
-use Rattle.packet.specs.Packet.{packetOf, writeAnswer, leftIn, readAnswer}
+use Rattle.packet.specs.Packet.{leftIn, readAnswer}
 use Rattle.packet.proofs.PacketLaws.{accepted, reads-back, info-back, written-reads-back}
-use Rattle.session.specs.declared.reply.Answer.{Answer}
 use Rattle.session.specs.declared.reply.Answer.the-variants as answer
 use Rattle.server.specs.declared.Server.{Server}
 use Rattle.server.specs.State.{Lent, Outcome}
 use Rattle.history.specs.Calls.{Call, callOf, Start, legal, History, after}
 use Rattle.history.specs.Good.{Good}
-use Rattle.demands.specs.Demand1.{Refuses, Silent, Closes, Sends, Answers, refuses, silent, closes, sends}
-use Rattle.demands.specs.Demand2.{Reads, WrittenReadsBack, SentReads, SentReadsBack, Demand2}
+use Rattle.demands.specs.Demand1.{Answers, refuses, silent, closes, sends}
+use Rattle.demands.specs.Demand2.{WrittenReadsBack, SentReads, SentReadsBack, Demand2}
 use Rattle.demands.proofs.Answered.{every-call-answers}
 use Rattle.demands.proofs.ClosingIsLosing.{closing-is-losing, every-closing}
 use Rattle.demands.proofs.CutCalls.{cut-elsewhere}
+use Rattle.demands.proofs.Feeding.{enough-calls, pieces-elsewhere}
 
 -- THEOREM: what the writer leaves reads back
 pub every-written-reads-back : WrittenReadsBack
@@ -67,4 +65,6 @@ module _ (good-kept : (sv : Server) (l : Lent) → Good sv l → (c : Call) → 
         closing = every-closing;
         closing-is-losing = closing-is-losing;
         cut = cut-elsewhere good-kept good-after;
+        enough = enough-calls;
+        pieces = pieces-elsewhere good-kept good-after;
       }

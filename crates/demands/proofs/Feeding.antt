@@ -1,9 +1,9 @@
 -- The pieces in which a driver lends the bytes of a link do not matter. Assumes nothing.
 use mathlib.Core.Path.{_≡_, refl, sym, ap, _∙_, subst}
-use mathlib.Core.Bool.{Bool, true, false}
+use mathlib.Core.Bool.{true, false}
 use mathlib.Core.List.{List, [], _∷_, _++_, append-assoc, append-nil, flatten}
 use mathlib.Core.Option.{Option, none, some}
-use Prim.Native.Nat.{ℕ, zero, suc, _+_, _*_, _-_, _≤_, _<_}
+use Prim.Native.Nat.{ℕ, zero, suc, _+_, _-_, _≤_}
 use native.Mathlib.Omega.{arith}
 use lib.ListN.{length, drop, length-append, length-drop}
 use lib.Seq.{drop-append-le, drop-append-add, drop-length}
@@ -14,16 +14,14 @@ use Rattle.session.specs.declared.reply.Answer.the-variants as answer
 use Rattle.session.specs.State.{closedSession}
 use Rattle.session.specs.Reply.{Told, tell}
 use Rattle.server.specs.declared.Server.{Server}
-use Rattle.server.specs.declared.check.Check.{Check}
-use Rattle.server.specs.declared.check.Check.the-variants.{Go, Refuse}
-use Rattle.server.specs.State.{Lent, Outcome, outcome, doneWith, linkOf}
+use Rattle.server.specs.declared.check.Check.the-variants.{Refuse}
+use Rattle.server.specs.State.{Lent, Outcome, linkOf}
 use Rattle.server.specs.Check.{checkOf}
-use Rattle.server.specs.Calls.{receiveOf}
-use Rattle.history.specs.Calls.{Call, receive, callOf, State, state, next, Start, legal, History, after}
+use Rattle.history.specs.Calls.{Call, receive, callOf, State, state, Start, legal, History, after}
 use Rattle.history.specs.Good.{Good}
 use Rattle.demands.specs.Closing.{eventAt}
-use Rattle.demands.specs.Demand1.{Refuses, Silent, Closes, Sends, Answers, refuses, silent, closes, sends}
-use Rattle.demands.specs.Cut.{Seen, seenIn, seenOf}
+use Rattle.demands.specs.Demand1.{Answers, refuses, silent, closes, sends}
+use Rattle.demands.specs.Cut.{Seen, seenIn}
 use Rattle.demands.specs.Feeding.{Fed, fed, andThen, onward, feed, feedAll, EnoughCalls, feedPieces, PiecesElsewhere}
 use Rattle.demands.proofs.Joined.{shift, shifted, rest-untouched}
 use Rattle.demands.proofs.Answered.{Tells, quiet, closing, sending, tells, every-call-answers}
@@ -69,7 +67,7 @@ module _ (session clock : ℕ) (out : List ℕ) where
   stuck-refused st n e (suc k) (b ∷ bs) =
       ap
       (λ (o : Outcome).
-        andThen (seenIn session (o .done .answer) (o .out)) (onward (o .done .answer) (left o) (λ taken. feed k (left o) session clock out (drop taken (b ∷ bs)))))
+      andThen (seenIn session (o .done .answer) (o .out)) (onward (o .done .answer) (left o) (λ taken. feed k (left o) session clock out (drop taken (b ∷ bs)))))
       (refused-receive (st .server) (st .lent) session clock (b ∷ bs) out n e)
       ∙ (unfold seenIn onward in refl)
 
@@ -186,9 +184,9 @@ module _ (session clock : ℕ) (out : List ℕ) where
     where
       go : Went (length (x ∷ bs)) (at st (x ∷ bs))
           → ((taken : ℕ)
-            → 1 ≤ taken
-            → feed k (left (at st (x ∷ bs))) session clock out (drop taken (x ∷ bs))
-            ≡ feed m (left (at st (x ∷ bs))) session clock out (drop taken (x ∷ bs)))
+          → 1 ≤ taken
+          → feed k (left (at st (x ∷ bs))) session clock out (drop taken (x ∷ bs))
+          ≡ feed m (left (at st (x ∷ bs))) session clock out (drop taken (x ∷ bs)))
           → onward (at st (x ∷ bs) .done .answer) (left (at st (x ∷ bs)))
           (λ taken. feed k (left (at st (x ∷ bs))) session clock out (drop taken (x ∷ bs)))
           ≡ onward (at st (x ∷ bs) .done .answer) (left (at st (x ∷ bs)))
@@ -395,8 +393,8 @@ module _ (good-kept : (sv : Server) (l : Lent) → Good sv l → (c : Call) → 
 
         go : (a : Answer) → Good (at session clock out st (b ∷ bs) .done .server) (at session clock out st (b ∷ bs) .lent)
             → ((taken : ℕ)
-              → Good (feed k (left (at session clock out st (b ∷ bs))) session clock out (drop taken (b ∷ bs)) .state .server)
-              (feed k (left (at session clock out st (b ∷ bs))) session clock out (drop taken (b ∷ bs)) .state .lent))
+            → Good (feed k (left (at session clock out st (b ∷ bs))) session clock out (drop taken (b ∷ bs)) .state .server)
+            (feed k (left (at session clock out st (b ∷ bs))) session clock out (drop taken (b ∷ bs)) .state .lent))
             → Good
             (onward a (left (at session clock out st (b ∷ bs))) (λ taken. feed k (left (at session clock out st (b ∷ bs))) session clock out (drop taken (b ∷ bs))) .state .server)
             (onward a (left (at session clock out st (b ∷ bs))) (λ taken. feed k (left (at session clock out st (b ∷ bs))) session clock out (drop taken (b ∷ bs))) .state .lent)

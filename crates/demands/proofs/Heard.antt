@@ -1,18 +1,16 @@
 -- What a receive call hears: how many bytes it takes, and what it leaves of the unfinished packet. Assumes nothing.
 use mathlib.Core.Path.{_≡_, refl, sym, ap, _∙_, subst}
 use mathlib.Core.Bool.{Bool, true, false, cond}
-use mathlib.Core.List.{List, [], _∷_, _++_}
+use mathlib.Core.List.{List, [], _∷_}
 use mathlib.Core.Option.{Option, none, some}
-use Prim.Native.Nat.{ℕ, zero, suc, _+_, _*_, _-_, _≤_, _<_}
+use Prim.Native.Nat.{ℕ, _+_, _≤_, _<_}
 use native.Mathlib.Omega.{arith}
 use borrow.Author.Tests.{ltb-true, ltb-false, eq-eqb, lt-ltb}
-use lib.Dec.{eqb, ltb}
-use lib.ListN.{length, take, drop, set, replicate, length-set, length-append, length-replicate}
-use Rattle.packet.specs.declared.frame.Frame.{Frame}
-use Rattle.packet.specs.declared.frame.Frame.the-variants.{Open, TooLong, Whole, Refused}
-use Rattle.packet.specs.declared.frame.Framed.{Framed}
-use Rattle.packet.specs.Machine.{Step, more, ends, Call, further, called, call}
-use Rattle.packet.specs.Frame.{Held, Event, packet, too-long, none-held, announcedIn, packetIn, judged, byte, Heard, heard, padded, withoutPacket, answerBy, answerOf, refusedPart, receiveOf}
+use lib.Dec.{ltb}
+use lib.ListN.{length, take, drop, set, replicate, length-set}
+use Rattle.packet.specs.declared.frame.Frame.the-variants.{Open}
+use Rattle.packet.specs.Machine.{Step, more, ends, Call, called, call}
+use Rattle.packet.specs.Frame.{Held, Event, packet, too-long, none-held, announcedIn, packetIn, judged, byte, heard, withoutPacket, answerBy, answerOf, receiveOf}
 use Rattle.files.proofs.Choice.{take-le}
 
 no-event : {E : Type 0} (v : E) → none ≡ some v → ⊥

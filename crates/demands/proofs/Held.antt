@@ -1,13 +1,13 @@
 -- A session that holds other bytes of an unfinished packet: nothing but that session's next packet depends on it. Assumes nothing.
-use mathlib.Core.Path.{_≡_, refl, sym, ap, _∙_, subst}
+use mathlib.Core.Path.{_≡_, refl, sym, ap, _∙_}
 use mathlib.Core.Bool.{Bool, true, false, cond}
-use mathlib.Core.List.{List, [], _∷_, _++_}
-use Prim.Native.Nat.{ℕ, _+_, _*_, _-_, _≤_, _<_}
+use mathlib.Core.List.{List}
+use Prim.Native.Nat.{ℕ, _*_, _<_}
 use native.Mathlib.Omega.{arith}
 use borrow.Author.Tests.{eqb-true, eqb-false}
 use lib.Dec.{eqb, ltb}
-use lib.ListN.{length, take, drop, set, getD}
-use lib.Seq.{getD-set-same, getD-set-other, set-set, set-comm}
+use lib.ListN.{length, take}
+use lib.Seq.{getD-set-same, getD-set-other}
 use Rattle.packet.specs.declared.frame.Frame.{Frame}
 use Rattle.packet.specs.declared.frame.Frame.the-variants.{Open, TooLong, Whole, Refused}
 use Rattle.session.specs.declared.state.Session.{Session}
@@ -19,7 +19,7 @@ use Rattle.table.specs.declared.File.{File}
 use Rattle.table.specs.declared.Found.{Found}
 use Rattle.table.specs.declared.Found.the-variants.{Nothing, At}
 use Rattle.table.specs.Table.{files, fileAt, findOf}
-use Rattle.carry.specs.Turn.{Mem, mem, Turned, turned}
+use Rattle.carry.specs.Turn.{Mem}
 use Rattle.carry.specs.Carry.{carryOut}
 use Rattle.decide.specs.Words.{wordAt}
 use Rattle.decide.specs.Uplink.{uploads, uploading, onContinued, onUpload, onData, onEnd, onUplink}
@@ -28,7 +28,7 @@ use Rattle.decide.specs.Decide.{onPacket, onFrame, decideOf}
 use Rattle.decide.specs.declared.act.Act.{Act}
 use Rattle.decide.specs.declared.act.Act.the-variants as act
 use Rattle.server.specs.declared.Server.{Server}
-use Rattle.server.specs.State.{Lent, lent, Outcome, linkOf, withLink, withTurn, part, withPart}
+use Rattle.server.specs.State.{Lent, lent, linkOf, withLink, part, withPart}
 use Rattle.server.specs.Turns.{sizeIn, partsOf, putBack, actOf}
 
 -- session i holds n bytes of a packet, which are p
@@ -83,11 +83,11 @@ module _ (sv : Server) (i n : ℕ) (h : i < length (sv .links)) where
   continued-same (At place) number size fs =
       ap
       (λ (b : Bool).
-        cond (eqb (fileAt fs place .time) 0)
-        (cond (eqb (fileAt fs place .size) size)
-        (cond b (act.Tell (UploadError 2)) (act.Resume place number (fileAt fs place .received)))
-        (act.Tell (UploadError 2)))
-        (act.Tell (UploadError 12)))
+      cond (eqb (fileAt fs place .time) 0)
+      (cond (eqb (fileAt fs place .size) size)
+      (cond b (act.Tell (UploadError 2)) (act.Resume place number (fileAt fs place .received)))
+      (act.Tell (UploadError 2)))
+      (act.Tell (UploadError 12)))
       (uploading-same place)
 
   upload-same : (size : ℕ) (info : List ℕ) (fs : List File) → onUpload (hold sv i n .links) size info fs ≡ onUpload (sv .links) size info fs
@@ -110,8 +110,8 @@ module _ (sv : Server) (i n : ℕ) (h : i < length (sv .links)) where
   frame-same s (Whole kind size) info fs selected =
       ap
       (λ (a : Act).
-        cond (expected (s .up) (s .down) kind size)
-        (cond (ltb kind 8) a (onDownlink (s .down) (s .count) (s .next) kind size info fs selected)) act.Close)
+      cond (expected (s .up) (s .down) kind size)
+      (cond (ltb kind 8) a (onDownlink (s .down) (s .count) (s .next) kind size info fs selected)) act.Close)
       (uplink-same (s .up) kind size info fs)
   frame-same s (Refused k) info fs selected = refl
 

@@ -1,15 +1,14 @@
 -- Bytes that end no packet, and the next bytes of that link: lent in two calls or in one; and bytes behind the end of a packet. Assumes nothing.
 use mathlib.Core.Path.{_≡_, refl, sym, ap, _∙_, subst}
 use mathlib.Core.Bool.{Bool, true, false, cond}
-use mathlib.Core.List.{List, [], _∷_, _++_}
+use mathlib.Core.List.{List, _++_}
 use mathlib.Core.Option.{Option, none, some}
 use Prim.Native.Nat.{ℕ, _+_, _*_, _-_, _≤_, _<_}
 use native.Mathlib.Omega.{arith}
-use borrow.Author.Tests.{eq-eqb, lt-ltb, le-ltb}
+use borrow.Author.Tests.{eq-eqb, lt-ltb}
 use lib.Dec.{eqb, ltb}
-use lib.ListN.{length, set, getD}
+use lib.ListN.{length}
 use lib.Seq.{set-set}
-use Rattle.packet.specs.declared.frame.Frame.{Frame}
 use Rattle.packet.specs.declared.frame.Framed.{Framed}
 use Rattle.packet.specs.Machine.{Call, call, further}
 use Rattle.packet.specs.Frame as frame
@@ -20,19 +19,18 @@ use Rattle.session.specs.declared.reply.Reply.the-variants as reply
 use Rattle.session.specs.declared.reply.Answer.{Answer}
 use Rattle.session.specs.declared.reply.Answer.the-variants as answer
 use Rattle.session.specs.State.{withHeld}
-use Rattle.session.specs.Reply.{Told, told, tell, answered}
-use Rattle.carry.specs.Turn.{Mem, mem, Turned}
+use Rattle.session.specs.Reply.{told, tell, answered}
+use Rattle.carry.specs.Turn.{mem}
 use Rattle.server.specs.declared.Server.{Server}
 use Rattle.server.specs.declared.check.Check.{Check}
 use Rattle.server.specs.declared.check.Check.the-variants.{Go, Refuse}
-use Rattle.server.specs.State.{Lent, lent, Outcome, outcome, doneWith, linkOf, withLink, withTurn, part, withPart}
-use Rattle.server.specs.Check.{sessionCheck, checkOf}
-use Rattle.server.specs.Turns.{HeardIn, heardIn, hearOf, actOf}
+use Rattle.server.specs.State.{Lent, lent, Outcome, outcome, doneWith, linkOf, part, withPart}
+use Rattle.server.specs.Check.{checkOf}
+use Rattle.server.specs.Turns.{hearOf, actOf}
 use Rattle.server.specs.Calls.{answeredBy, heardBy, stepOf, onCheck, receiveOf}
-use Rattle.history.specs.Good.{Good}
 use Rattle.demands.specs.Closing.{eventAt}
-use Rattle.demands.proofs.Checks.{Through, StateFacts, check-through, state-facts, good-check, through-again, part-length}
-use Rattle.demands.proofs.Heard.{Unended, Ended}
+use Rattle.demands.proofs.Checks.{Through, check-through, state-facts}
+use Rattle.demands.proofs.Heard.{Unended}
 use Rattle.demands.proofs.Parts.{part-own, with-over}
 use Rattle.demands.proofs.Held.{hold, keep, hold-own, act-same}
 use Rattle.demands.proofs.Steps as steps
@@ -176,7 +174,7 @@ module _ (sv : Server) (l : Lent) (session clock : ℕ) (xs ys out : List ℕ) (
       rw (
         hold-own sv i (u .state .count) below,
         act-same sv i (u .state .count) below i (withHeld (linkOf sv i) (h .answer .held)) (h .answer .frame) clock (h .answer .info)
-        (mem (l .disk) (l .map) (l .owner) (l .table) (l .selected)),
+            (mem (l .disk) (l .map) (l .owner) (l .table) (l .selected)),
         with-over (i * 258) 258 (u .state .part) (l .held) (u .size) room (h .part),
         set-set (sv .links) i (withHeld (linkOf sv i) (u .state .count)) _,
       )

@@ -11,5 +11,5 @@ pub mod Held
 pub mod Joined
 pub mod Others
 pub mod CutCalls
-pub mod Demand2
 pub mod Feeding
+pub mod Demand2

@@ -1,11 +1,11 @@
 -- A call for another session, before or after bytes that end no packet. Assumes nothing.
-use mathlib.Core.Path.{_≡_, refl, sym, ap, _∙_, subst}
+use mathlib.Core.Path.{_≡_, refl, sym, ap, _∙_}
 use mathlib.Core.Bool.{Bool, true, false, cond}
-use mathlib.Core.List.{List, [], _∷_, _++_}
+use mathlib.Core.List.{List, []}
 use Prim.Native.Nat.{ℕ, _+_, _*_, _-_, _≤_, _<_}
 use native.Mathlib.Omega.{arith}
 use lib.Dec.{eqb, ltb}
-use lib.ListN.{length, set, getD, replicate, length-replicate}
+use lib.ListN.{length, set, replicate, length-replicate}
 use lib.Seq.{getD-set-other, set-comm}
 use Rattle.packet.specs.Frame as frame
 use Rattle.packet.specs.Frame.{Heard}
@@ -13,21 +13,21 @@ use Rattle.session.specs.declared.state.Session.{Session}
 use Rattle.session.specs.State.{closedSession, freshSession, withHeld}
 use Rattle.table.specs.Table.{files}
 use Rattle.carry.specs.declared.turn.Turn.{Turn}
-use Rattle.carry.specs.Turn.{Mem, mem, Turned}
+use Rattle.carry.specs.Turn.{mem}
 use Rattle.server.specs.declared.Server.{Server}
 use Rattle.server.specs.declared.check.Check.{Check}
 use Rattle.server.specs.declared.check.Check.the-variants.{Go, Refuse}
-use Rattle.server.specs.State.{Lent, lent, Outcome, outcome, doneWith, linkOf, withLink, withTurn, part, withPart, ownerPart, tablePart}
+use Rattle.server.specs.State.{Lent, lent, Outcome, outcome, doneWith, linkOf, withLink, withTurn, part, ownerPart, tablePart}
 use Rattle.server.specs.Check.{inState, sessionCheck, checkOf}
 use Rattle.server.specs.Turns.{actOf}
 use Rattle.server.specs.Sending.{Due, dueOf}
-use Rattle.server.specs.Calls.{answeredBy, stepOf, onCheck, receiveOf, onLogin, loginOf, onLose, loseOf, dueAs, onRequest, requestOf}
+use Rattle.server.specs.Calls.{answeredBy, onCheck, receiveOf, onLogin, loginOf, onLose, loseOf, dueAs, onRequest, requestOf}
 use Rattle.history.specs.Calls.{Call, login, receive, request, lose, callOf}
 use Rattle.history.specs.Good.{Good}
 use Rattle.links.proofs.Facts.{part-end}
 use Rattle.demands.specs.Parts.{sessionIn, openIn, roomIn, checkIn}
 use Rattle.demands.proofs.Checks.{Through, StateFacts, check-through, state-facts, good-check}
-use Rattle.demands.proofs.Heard.{Unended, Ended, Hears, unended, ended}
+use Rattle.demands.proofs.Heard.{Hears, unended, ended}
 use Rattle.demands.proofs.Parts.{part-other, with-comm}
 use Rattle.demands.proofs.Held.{hold, keep, hold-other, hold-seen, act-same}
 use Rattle.demands.proofs.Joined.{stepWith, step-with}
@@ -42,15 +42,15 @@ unfolding sessionCheck
 session-same sv sv′ session wanted room e f =
     ap
     (λ (n : ℕ).
-      cond (eqb session 0) (Refuse 34)
-      (cond (ltb n session) (Refuse 34)
-      (cond (inState wanted (linkOf sv′ (session - 1) .linked)) (cond (ltb room 258) (Refuse 32) (Go (session - 1))) (Refuse 34))))
+    cond (eqb session 0) (Refuse 34)
+    (cond (ltb n session) (Refuse 34)
+    (cond (inState wanted (linkOf sv′ (session - 1) .linked)) (cond (ltb room 258) (Refuse 32) (Go (session - 1))) (Refuse 34))))
     e
     ∙ ap
     (λ (b : Bool).
-      cond (eqb session 0) (Refuse 34)
-      (cond (ltb (sv .sessions) session) (Refuse 34)
-      (cond (inState wanted b) (cond (ltb room 258) (Refuse 32) (Go (session - 1))) (Refuse 34))))
+    cond (eqb session 0) (Refuse 34)
+    (cond (ltb (sv .sessions) session) (Refuse 34)
+    (cond (inState wanted b) (cond (ltb room 258) (Refuse 32) (Go (session - 1))) (Refuse 34))))
     f
 
 -- a call goes to the session that it names
@@ -205,7 +205,7 @@ module _ (sv : Server) (l : Lent) (i n : ℕ) (p : List ℕ) (good : Good sv l) 
   request-moved (Go j) out d =
       ap
       (λ (s : Session).
-        outcome (doneWith (withLink (hold sv i n) j (due s .asked .session)) (due s .asked .answer)) (keep l i p) (due s .out))
+      outcome (doneWith (withLink (hold sv i n) j (due s .asked .session)) (due s .asked .answer)) (keep l i p) (due s .out))
       (hold-other sv i n link-below j (λ q. d j refl (sym q)))
       ∙ ap (λ (x : Server). outcome (doneWith x (due (linkOf sv j) .asked .answer)) (keep l i p) (due (linkOf sv j) .out))
       (link-comm sv i j n (due (linkOf sv j) .asked .session) (d j refl))
@@ -236,11 +236,11 @@ module _ (sv : Server) (l : Lent) (i n : ℕ) (p : List ℕ) (good : Good sv l) 
       rw (
         hold-other sv i n link-below j (λ q. d (sym q)),
         act-same sv i n link-below j (withHeld (linkOf sv j) (h .answer .held)) (h .answer .frame) clock (h .answer .info)
-        (mem (l .disk) (l .map) (l .owner) (l .table) (l .selected)),
+            (mem (l .disk) (l .map) (l .owner) (l .table) (l .selected)),
         turn-comm sv i j n
-        (actOf sv j (withHeld (linkOf sv j) (h .answer .held)) (h .answer .frame) clock (h .answer .info)
-        (mem (l .disk) (l .map) (l .owner) (l .table) (l .selected)) .turn)
-        d,
+            (actOf sv j (withHeld (linkOf sv j) (h .answer .held)) (h .answer .frame) clock (h .answer .info)
+            (mem (l .disk) (l .map) (l .owner) (l .table) (l .selected)) .turn)
+            d,
         with-comm i j 258 p (l .held) d whole here (h .part) s r,
       )
 
@@ -273,10 +273,10 @@ module _ (sv : Server) (l : Lent) (i n : ℕ) (p : List ℕ) (good : Good sv l) 
   apart-call (lose session) d =
       ap
       (λ (k : Check).
-        outcome (onLose k (hold sv i n) (l .selected) (keep l i p .held) .done)
-        (lent (l .disk) (l .map) (l .owner) (l .table) (onLose k (hold sv i n) (l .selected) (keep l i p .held) .selected)
-        (onLose k (hold sv i n) (l .selected) (keep l i p .held) .held))
-        [])
+      outcome (onLose k (hold sv i n) (l .selected) (keep l i p .held) .done)
+      (lent (l .disk) (l .map) (l .owner) (l .table) (onLose k (hold sv i n) (l .selected) (keep l i p .held) .selected)
+      (onLose k (hold sv i n) (l .selected) (keep l i p .held) .held))
+      [])
       (check-same session true 258)
       ∙ lose-moved (checkOf sv l session true 258) (λ j e q. goes sv l (lose session) j i e d (sym q))
       (λ j e. through-room sv l session true 258 j (check-through sv l session true 258 j e))

@@ -1,27 +1,21 @@
 -- A receive call by its cases: refused, bytes that end no packet, and bytes that end one. Assumes nothing.
 use mathlib.Core.Path.{_≡_, refl, sym, ap, _∙_, subst}
-use mathlib.Core.Bool.{Bool, true, false, cond}
+use mathlib.Core.Bool.{Bool, true, false}
 use mathlib.Core.List.{List, [], _∷_, _++_}
-use mathlib.Core.Option.{Option, none, some}
-use Prim.Native.Nat.{ℕ, _+_, _*_, _-_, _≤_, _<_}
+use mathlib.Core.Option.{some}
+use Prim.Native.Nat.{ℕ, _*_, _-_, _≤_, _<_}
 use native.Mathlib.Omega.{arith}
-use borrow.Author.Tests.{le-ltb, eq-eqb}
-use lib.Dec.{eqb, ltb}
-use lib.ListN.{length, take, drop, set, getD, replicate, length-append, length-replicate, take-append-drop}
-use lib.Seq.{length-take-le}
-use Rattle.packet.specs.declared.frame.Frame.{Frame}
-use Rattle.packet.specs.declared.frame.Frame.the-variants.{Open, TooLong, Whole, Refused}
+use borrow.Author.Tests.{le-ltb}
+use lib.ListN.{length, take, drop, replicate, length-append, length-replicate, take-append-drop}
+use Rattle.packet.specs.declared.frame.Frame.the-variants.{Refused}
 use Rattle.packet.specs.declared.frame.Framed.{Framed}
-use Rattle.packet.specs.Frame.{Held, Event, packet, too-long, none-held, Heard, heard, padded, withoutPacket, answerBy}
-use Rattle.packet.specs.Frame as frame
+use Rattle.packet.specs.Frame.{Event, packet, too-long, none-held, heard, padded, withoutPacket, answerBy}
 use Rattle.session.specs.declared.state.Session.{Session}
 use Rattle.session.specs.declared.state.Uplink.{Uplink}
-use Rattle.session.specs.declared.state.Uplink.the-variants as up
-use Rattle.session.specs.declared.reply.Reply.{Reply}
 use Rattle.session.specs.declared.reply.Reply.the-variants as reply
 use Rattle.session.specs.declared.reply.Answer.the-variants as answer
 use Rattle.session.specs.State.{closedSession, withHeld, withUp}
-use Rattle.session.specs.Reply.{Told, told, tell, answered}
+use Rattle.session.specs.Reply.{tell, answered}
 use Rattle.table.specs.Table.{files}
 use Rattle.carry.specs.declared.turn.Turn.{Turn}
 use Rattle.carry.specs.Turn.{turnOf, Mem, mem, Turned, turned}
@@ -33,9 +27,9 @@ use Rattle.decide.proofs.Closing.{closes}
 use Rattle.server.specs.declared.Server.{Server}
 use Rattle.server.specs.declared.check.Check.{Check}
 use Rattle.server.specs.declared.check.Check.the-variants.{Go, Refuse}
-use Rattle.server.specs.State.{Lent, lent, Outcome, outcome, doneWith, linkOf, withLink, withTurn, words, part, withPart, mapPart, ownerPart, tablePart}
+use Rattle.server.specs.State.{Lent, lent, outcome, doneWith, linkOf, withLink, withTurn, words, part, withPart}
 use Rattle.server.specs.Check.{checkOf}
-use Rattle.server.specs.Turns.{HeardIn, heardIn, hearOf, sizeIn, partsOf, putBack, actOf}
+use Rattle.server.specs.Turns.{hearOf, sizeIn, partsOf, putBack, actOf}
 use Rattle.server.specs.Calls.{answeredBy, heardBy, stepOf, onCheck, receiveOf}
 use Rattle.demands.specs.Parts.{oneOf}
 use Rattle.demands.specs.Demand1.{uploadErrors, downloadErrors, naks, UploadOver}
@@ -147,7 +141,7 @@ module _ (sv : Server) (l : Lent) (session clock : ℕ) (input out : List ℕ) (
       rw (
         u .is,
         put-back-same sv i (mem (l .disk) (l .map) (l .owner) (l .table) (l .selected))
-        (turnOf (withHeld (linkOf sv i) (u .state .count)) (sv .last) reply.Nothing),
+            (turnOf (withHeld (linkOf sv i) (u .state .count)) (sv .last) reply.Nothing),
         le-ltb (length out) 258 (t .room),
       )
 

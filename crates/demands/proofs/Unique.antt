@@ -1,5 +1,5 @@
 -- Two outcomes that meet a call's equation are the same. Assumes nothing.
-use mathlib.Core.Path.{_≡_, sym, _∙_}
+use mathlib.Core.Path.{sym, _∙_}
 use Rattle.demands.specs.Unique.{Determined, CallsDetermined}
 
 determined : {A : Type 0} (required : A) → Determined required

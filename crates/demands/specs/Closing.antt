@@ -1,10 +1,10 @@
 -- Closing a link (demand 2): when the server does it, and that it leaves what losing the link leaves. The statements hold for EVERY server and
 -- everything lent. Assumes nothing.
 use mathlib.Core.Path.{_≡_}
-use mathlib.Core.Bool.{Bool, true, false}
+use mathlib.Core.Bool.{false}
 use mathlib.Core.List.{List}
-use mathlib.Core.Option.{Option, none, some}
-use Prim.Native.Nat.{ℕ, _*_, _-_}
+use mathlib.Core.Option.{Option, some}
+use Prim.Native.Nat.{ℕ, _*_}
 use lib.ListN.{length}
 use Rattle.packet.specs.Machine.{call}
 use Rattle.packet.specs.Frame.{Event, packet, too-long, byte}

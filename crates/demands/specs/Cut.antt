@@ -1,7 +1,7 @@
 -- The cut theorem (demand 2): "Cutting elsewhere the bytes that a link takes, with each packet and closing byte at the same clock and in the same
 -- place among the other calls, changes no packet sent and no state after it." Assumes nothing.
 use mathlib.Core.Path.{_≡_}
-use mathlib.Core.Bool.{Bool, true, false}
+use mathlib.Core.Bool.{true}
 use mathlib.Core.List.{List, [], _∷_, _++_}
 use mathlib.Core.Option.{Option, none, some}
 use Prim.Native.Nat.{ℕ, _-_, _≤_}
@@ -10,7 +10,7 @@ use Rattle.packet.specs.Frame.{Event}
 use Rattle.session.specs.declared.reply.Answer.{Answer}
 use Rattle.session.specs.declared.reply.Answer.the-variants as answer
 use Rattle.server.specs.State.{Outcome}
-use Rattle.history.specs.Calls.{Call, receive, callOf, State, Start, legal, History, start, _▸_, after}
+use Rattle.history.specs.Calls.{Call, receive, callOf, Start, legal, History, start, _▸_, after}
 use Rattle.demands.specs.Parts.{sessionIn}
 use Rattle.demands.specs.Closing.{eventAt}
 

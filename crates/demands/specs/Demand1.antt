@@ -2,23 +2,20 @@
 -- and refuses by a number from the table or closes the link. A refusal leaves the files, the session and the output buffer as that table says."
 -- The statements hold for EVERY server and everything lent, also for a state that no calls made. Assumes nothing.
 use mathlib.Core.Path.{_≡_}
-use mathlib.Core.Bool.{Bool, true, false}
+use mathlib.Core.Bool.{true}
 use mathlib.Core.List.{List, [], _∷_, _++_}
 use Prim.Native.Nat.{ℕ, _+_, _*_, _-_, _≤_, _<_}
 use lib.ListN.{length, drop, replicate}
 use Rattle.packet.specs.Packet.{packetOf}
-use Rattle.session.specs.declared.state.Session.{Session}
 use Rattle.session.specs.declared.state.Uplink.{Uplink}
 use Rattle.session.specs.declared.state.Uplink.the-variants as up
 use Rattle.session.specs.declared.reply.Answer.the-variants as answer
 use Rattle.session.specs.State.{closedSession, withHeld, withUp}
 use Rattle.server.specs.declared.Server.{Server}
-use Rattle.server.specs.declared.check.Check.{Check}
-use Rattle.server.specs.declared.check.Check.the-variants.{Go, Refuse}
 use Rattle.server.specs.State.{Lent, lent, Outcome, outcome, doneWith, linkOf, withLink, withPart}
-use Rattle.server.specs.Check.{fits, soundParts, inState, checkOf}
-use Rattle.history.specs.Calls.{Call, login, receive, request, lose, callOf}
-use Rattle.demands.specs.Parts.{sessionIn, bytesIn, outIn, openIn, roomIn, checkIn, oneOf}
+use Rattle.server.specs.Check.{fits, soundParts}
+use Rattle.history.specs.Calls.{Call, receive, callOf}
+use Rattle.demands.specs.Parts.{sessionIn, bytesIn, outIn, openIn, roomIn, oneOf}
 
 -- ---- the answers of a call
 
@@ -162,3 +159,12 @@ abbrev pub EveryNak : Type 0
 EveryNak =
     (sv : Server) (l : Lent) (session clock : ℕ) (input out : List ℕ) (e : ℕ)
     → Says sv l session clock input out 7 e → Naks sv l session clock input out e
+
+-- ---- together
+
+pub record Demand1 : Type 0 where
+  pub answers : EveryCallAnswers
+  pub locals : EveryLocalRefusal
+  pub upload-errors : EveryUploadError
+  pub download-errors : EveryDownloadError
+  pub naks : EveryNak

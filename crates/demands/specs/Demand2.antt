@@ -2,17 +2,18 @@
 -- packet and closing byte at the same clock and in the same place among the other calls, changes no packet sent and no state after it." That each
 -- packet, header check, selection, refusal and closing is what the paper defines is the contract of each function. Assumes nothing.
 use mathlib.Core.Path.{_≡_}
-use mathlib.Core.List.{List, _++_}
+use mathlib.Core.List.{List}
 use Prim.Native.Nat.{ℕ, _≤_, _+_}
 use lib.ListN.{length, take, drop}
 use Rattle.packet.specs.declared.plain.Plain.the-variants as plain
-use Rattle.packet.specs.Packet.{packetOf, writeAnswer, leftIn, readAnswer}
+use Rattle.packet.specs.Packet.{writeAnswer, leftIn, readAnswer}
 use Rattle.session.specs.declared.reply.Answer.the-variants as answer
 use Rattle.server.specs.declared.Server.{Server}
 use Rattle.server.specs.State.{Lent, Outcome}
 use Rattle.history.specs.Calls.{Call, callOf}
 use Rattle.demands.specs.Closing.{ClosingIsLosing, EveryClosing}
 use Rattle.demands.specs.Cut.{CutElsewhere}
+use Rattle.demands.specs.Feeding.{EnoughCalls, PiecesElsewhere}
 
 -- the reader finds this type and this information in front of the bytes
 pub record Reads (bytes : List ℕ) (kind : ℕ) (info : List ℕ) : Type 0 where
@@ -42,3 +43,6 @@ pub record Demand2 : Type 0 where
   pub closing : EveryClosing
   pub closing-is-losing : ClosingIsLosing
   pub cut : CutElsewhere
+  -- the same for a driver that lends one link's bytes in pieces
+  pub enough : EnoughCalls
+  pub pieces : PiecesElsewhere

@@ -3,5 +3,5 @@ pub mod Demand1
 pub mod Closing
 pub mod Unique
 pub mod Cut
-pub mod Demand2
 pub mod Feeding
+pub mod Demand2
