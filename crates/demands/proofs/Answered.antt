@@ -34,7 +34,9 @@ use Rattle.server.specs.Sending.{Due, leastOf, bytesFrom, dataOf, sendingOf, du
 use Rattle.server.specs.Calls.{onLogin, loginOf, onLose, loseOf, dueAs, onRequest, requestOf, onCheck, receiveOf}
 use Rattle.history.specs.Calls.{Call, login, receive, request, lose, callOf}
 use Rattle.demands.specs.Parts.{sessionIn, bytesIn, outIn, openIn, roomIn, checkIn, oneOf}
-use Rattle.demands.specs.Demand1.{Sends, Answers, refuses, silent, closes, sends, EveryCallAnswers, RefusedBy, Fits, IsSound, Reachable, EveryLocalRefusal, Says, forgotten, cleared, NothingElse, uploadErrors, downloadErrors, naks, PacketRefusal, UploadOver, EveryUploadError, EveryDownloadError, Naks, EveryNak, Demand1}
+use Rattle.demands.specs.Demand1.{Sends, Answers, refuses, silent, closes, sends, EveryCallAnswers, RefusedBy, Fits, IsSound}
+use Rattle.demands.specs.Demand1.{Reachable, EveryLocalRefusal, Says, forgotten, cleared, NothingElse, uploadErrors, downloadErrors}
+use Rattle.demands.specs.Demand1.{naks, PacketRefusal, UploadOver, EveryUploadError, EveryDownloadError, Naks, EveryNak, Demand1}
 use Rattle.demands.proofs.Checks.{check-33, check-35, check-sound, session-34, session-through, check-through, check-refuses}
 use Rattle.demands.proofs.Carried.{isPlain}
 use Rattle.demands.proofs.Steps as steps
@@ -62,12 +64,15 @@ tells reply.Completed taken out = sending 11 [] (omega arith) (omega arith) refl
 tells (reply.Selected count) taken out = sending 17 (two count) (omega arith) (omega arith) refl
 
 -- a packet in front of what it leaves of the output
-packet-length : (kind : ℕ) (info out : List ℕ) → length info ≤ 256 → 258 ≤ length out → length (packetOf kind info ++ drop (2 + length info) out) ≡ length out
+packet-length : (kind : ℕ) (info out : List ℕ) → length info ≤ 256 → 258 ≤ length out
+    → length (packetOf kind info ++ drop (2 + length info) out) ≡ length out
 unfolding packetOf
 packet-length kind info out h r =
-    length-append (length info % 256 ∷ (kind + 32 * (length info / 256)) ∷ info) (drop (2 + length info) out) ∙ rw (length-drop (2 + length info) out) (omega arith)
+    length-append (length info % 256 ∷ (kind + 32 * (length info / 256)) ∷ info) (drop (2 + length info) out) ∙ rw
+    (length-drop (2 + length info) out) (omega arith)
 
-sends-packet : (c : Call) (o : Outcome) (taken kind : ℕ) (info : List ℕ) → taken ≤ length (bytesIn c) → kind ≤ 17 → length info ≤ 256 → 258 ≤ length (outIn c)
+sends-packet : (c : Call) (o : Outcome) (taken kind : ℕ) (info : List ℕ) → taken ≤ length (bytesIn c) → kind ≤ 17 → length info ≤ 256
+    → 258 ≤ length (outIn c)
     → o .done .answer ≡ answer.Sent taken (2 + length info)
     → o .out ≡ packetOf kind info ++ drop (2 + length info) (outIn c)
     → Sends c o
@@ -111,7 +116,8 @@ told-room r taken out h = rw (le-ltb (length out) 258 h)
 
 -- ---- refused locally
 
-refused-call : (sv : Server) (l : Lent) (c : Call) (n : ℕ) → checkIn sv l c ≡ Refuse n → callOf sv l c ≡ outcome (doneWith sv (answer.Refused n)) l (outIn c)
+refused-call : (sv : Server) (l : Lent) (c : Call) (n : ℕ) → checkIn sv l c ≡ Refuse n
+    → callOf sv l c ≡ outcome (doneWith sv (answer.Refused n)) l (outIn c)
 unfolding receiveOf onCheck loginOf onLogin requestOf onRequest loseOf onLose
 refused-call sv l (login session clock out) n e = rw e
 refused-call sv l (receive session clock input out) n e = rw e
@@ -168,7 +174,8 @@ received sv l session clock input out = go (steps.receives sv l session clock in
           out = ap (λ (o : Outcome). o .out) (e .is);
         })
     go (steps.ends-packet e) =
-        replied sv l (receive session clock input out) (receiveOf sv l out session clock input) (e .turn .turn .reply) (e .heard .taken) (e .heard .within)
+        replied sv l (receive session clock input out) (receiveOf sv l out session clock input) (e .turn .turn .reply) (e .heard .taken)
+        (e .heard .within)
         (e .through .room) (ap (λ (o : Outcome). o .done .answer) (e .is)) (ap (λ (o : Outcome). o .out) (e .is))
         (λ z.
         ap (λ (o : Outcome). linkOf (o .done .server) (session - 1)) (e .is)
@@ -178,7 +185,8 @@ received sv l session clock input out = go (steps.receives sv l session clock in
 
 -- ---- login
 
-logged-in : (sv : Server) (l : Lent) (session clock : ℕ) (out : List ℕ) → Answers sv l (login session clock out) (callOf sv l (login session clock out))
+logged-in : (sv : Server) (l : Lent) (session clock : ℕ) (out : List ℕ)
+    → Answers sv l (login session clock out) (callOf sv l (login session clock out))
 unfolding loginOf onLogin
 logged-in sv l session clock out = go (checkOf sv l session false (length out)) refl
   where
@@ -188,7 +196,8 @@ logged-in sv l session clock out = go (checkOf sv l session false (length out)) 
     go (Go i) e =
         let t = check-through sv l session false (length out) i e in
         let q = told-room (reply.Login clock) 0 out (t .room) in
-        replied sv l (login session clock out) _ (reply.Login clock) 0 (omega arith) (t .room) (ap (λ (t : Told). t .answer) q) (ap (λ (t : Told). t .out) q)
+        replied sv l (login session clock out) _ (reply.Login clock) 0 (omega arith) (t .room) (ap (λ (t : Told). t .answer) q)
+        (ap (λ (t : Told). t .out) q)
         (λ z. let y : _≡_ {A = ℕ} 0 1 = cc in absurd (omega arith))
 
 -- ---- lose
@@ -200,7 +209,8 @@ lost sv l session = go (checkOf sv l session true 258) refl
     go : (k : Check) → checkOf sv l session true 258 ≡ k
         → Answers sv l (lose session)
         (outcome (onLose k sv (l .selected) (l .held) .done)
-        (lent (l .disk) (l .map) (l .owner) (l .table) (onLose k sv (l .selected) (l .held) .selected) (onLose k sv (l .selected) (l .held) .held)) [])
+        (lent (l .disk) (l .map) (l .owner) (l .table) (onLose k sv (l .selected) (l .held) .selected)
+        (onLose k sv (l .selected) (l .held) .held)) [])
     go (Refuse n) e = refuses (record { number = n; listed = check-refuses sv l session true 258 n e; same = refl })
     go (Go i) e = silent (record { taken = 0; within = omega arith; answered = refl; out = refl })
 
@@ -220,6 +230,10 @@ bytes-length disk owner place at n = go (eqb (windowNumber (length disk) owner (
     go true q = read-gives disk owner (place % 65536) at zeros (eqb-true _ _ q) .1 ∙ size
     go false q = ap length (read-refused disk owner (place % 65536) at zeros (eqb-false _ _ q)) ∙ size
 
+-- a reply that is due, with the session after it
+abbrev due-as : Session → Told → Due
+due-as s t = record { asked = record { session = s; answer = t .answer }; out = t .out }
+
 least-most : (n : ℕ) → leastOf n ≤ 256
 unfolding leastOf
 least-most n = go (ltb n 256) refl
@@ -238,7 +252,8 @@ module _ (sv : Server) (l : Lent) (session : ℕ) (out : List ℕ) (room : 258 �
       let q = told-room r 0 out room in
       replied sv l (request session out) _ r 0 (omega arith) room (ap (λ (t : Told). t .answer) q) (ap (λ (t : Told). t .out) q) (λ z. absurd (n z))
 
-  due-data : (sv′ : Server) (s : Session) (place offset sent n : ℕ) (disk owner : List ℕ) → n ≤ 256 → Fine sv′ (dataOf s place offset sent n disk owner out)
+  due-data : (sv′ : Server) (s : Session) (place offset sent n : ℕ) (disk owner : List ℕ) → n ≤ 256
+      → Fine sv′ (dataOf s place offset sent n disk owner out)
   unfolding dataOf Fine
   due-data sv′ s place offset sent n disk owner h =
       let e = bytes-length disk owner place (offset + sent) n in
@@ -255,7 +270,7 @@ module _ (sv : Server) (l : Lent) (session : ℕ) (out : List ℕ) (room : 258 �
       go : (t : Bool)
           → Fine sv′
           (cond t (dataOf s place offset sent (leastOf (fileAt fs place .size - (offset + sent))) disk owner out)
-          (record { asked = record { session = withDown s (down.Ended place); answer = answered reply.DataEnd 0 out .answer }; out = answered reply.DataEnd 0 out .out }))
+          (due-as (withDown s (down.Ended place)) (answered reply.DataEnd 0 out)))
       go true = due-data sv′ s place offset sent _ disk owner (least-most (fileAt fs place .size - (offset + sent)))
       go false = due-told sv′ s reply.DataEnd (λ z. let y : _≡_ {A = ℕ} 0 1 = cc in omega arith)
 
@@ -317,7 +332,7 @@ unfolding sendingOf dataOf isRefused
 sending-not s place offset sent disk owner fs out h = go (ltb (offset + sent) (fileAt fs place .size)) _ refl
   where
     go : (t : Bool) (d : Due) → isRefused (d .asked .answer) ≡ false
-        → isRefused (cond t d (record { asked = record { session = withDown s (down.Ended place); answer = answered reply.DataEnd 0 out .answer }; out = answered reply.DataEnd 0 out .out }) .asked .answer) ≡ false
+        → isRefused (cond t d (due-as (withDown s (down.Ended place)) (answered reply.DataEnd 0 out)) .asked .answer) ≡ false
     go true d e = e
     go false d e = answered-not reply.DataEnd 0 out h
 
@@ -340,7 +355,8 @@ not-refused sv l (receive session clock input out) i e h = go (steps.receives sv
         let z : _≡_ {A = ℕ} 0 1 = cc in absurd (omega arith)
     go (steps.ends-none f) = ap (λ (o : Outcome). isRefused (o .done .answer)) (f .is)
     go (steps.ends-packet f) = ap (λ (o : Outcome). isRefused (o .done .answer)) (f .is) ∙ told-not (f .turn .turn .reply) (f .heard .taken) out
-not-refused sv l (request session out) i e h = rw e (due-not (linkOf sv i .down) (linkOf sv i) (l .disk) (ownerPart sv l) (files (tablePart sv l)) out h)
+not-refused sv l (request session out) i e h =
+    rw e (due-not (linkOf sv i .down) (linkOf sv i) (l .disk) (ownerPart sv l) (files (tablePart sv l)) out h)
 not-refused sv l (lose session) i e h = rw e
 
 -- ---- THEOREM: the local refusals, in the paper's order
@@ -360,7 +376,9 @@ every-local-refusal sv l c =
       by32 = λ f s r h. refused-by sv l c 32 (through f s r ∙ ap (λ (t : Bool). cond t (Refuse 32) (Go (sessionIn c - 1))) (lt-ltb (roomIn c) 258 h));
       by-none = λ f s r h n e.
           clash
-          (sym (not-refused sv l c (sessionIn c - 1) (through f s r ∙ ap (λ (t : Bool). cond t (Refuse 32) (Go (sessionIn c - 1))) (le-ltb (roomIn c) 258 h)) h)
+          (sym
+          (not-refused sv l c (sessionIn c - 1)
+          (through f s r ∙ ap (λ (t : Bool). cond t (Refuse 32) (Go (sessionIn c - 1))) (le-ltb (roomIn c) 258 h)) h)
           ∙ (unfold isRefused in ap isRefused e));
     }
   where
@@ -385,7 +403,8 @@ module _ (kind e taken taken′ : ℕ) (out : List ℕ) where
       let b : n ≡ e = ap (λ (l : List ℕ). getD l 2 0) q in
       (omega arith, b)
 
-  says-reply : (r : Reply) → tell r taken out .answer ≡ answer.Sent taken′ 3 → tell r taken out .out ≡ packetOf kind (e ∷ []) ++ drop 3 out → OneByte kind e r
+  says-reply : (r : Reply) → tell r taken out .answer ≡ answer.Sent taken′ 3 → tell r taken out .out ≡ packetOf kind (e ∷ []) ++ drop 3 out
+      → OneByte kind e r
   unfolding tell
   says-reply reply.Nothing a q = let z : _≡_ {A = ℕ} 0 1 = cc in absurd (omega arith)
   says-reply reply.Closing a q = let z : _≡_ {A = ℕ} 0 1 = cc in absurd (omega arith)
@@ -434,9 +453,13 @@ module _ (sv : Server) (l : Lent) (session clock : ℕ) (input out : List ℕ) (
       → NothingElse sv l session (callOf sv l (receive session clock input out))
   left r q =
       record {
-        server = ap (λ (o : Outcome). o .done .server) (p .is) ∙ ap (λ (t : Turned). withTurn sv (p .i) (t .turn)) q ∙ ap (λ (k : ℕ). forgotten sv k) (p .through .index);
+        server =
+            ap (λ (o : Outcome). o .done .server) (p .is) ∙ ap (λ (t : Turned). withTurn sv (p .i) (t .turn)) q ∙ ap (λ (k : ℕ). forgotten sv k)
+            (p .through .index);
         lent = ap (λ (o : Outcome). o .lent) (p .is)
-            ∙ ap (λ (t : Turned). lent (t .mem .disk) (t .mem .map) (t .mem .owner) (t .mem .table) (t .mem .selected) (withPart (p .i * 258) 258 (replicate 258 0) (l .held))) q
+            ∙ ap
+            (λ (t : Turned). lent (t .mem .disk) (t .mem .map) (t .mem .owner) (t .mem .table) (t .mem .selected)
+            (withPart (p .i * 258) 258 (replicate 258 0) (l .held))) q
             ∙ ap (λ (k : ℕ). cleared k l) (p .through .index);
       }
 

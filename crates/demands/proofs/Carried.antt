@@ -196,7 +196,8 @@ module _ (s : Session) (last : Last) (clock most size : ℕ) (info : List ℕ) (
   begin-carried UsedUp n = upload-error 3 refl
   begin-carried (Next k) n =
       begun-carried k (filesUp.beginOf (m .map) (m .owner) (m .table) (last .number) n)
-      (begin-with (m .map) (m .owner) (m .table) (last .number) (last .time) (r .sound) (r .sizes .some) (r .sizes .most) (nextNumber (last .number)) n)
+      (begin-with (m .map) (m .owner) (m .table) (last .number) (last .time) (r .sound) (r .sizes .some) (r .sizes .most)
+      (nextNumber (last .number)) n)
 
   store-carried : (place offset received : ℕ) → decided.Uploads (s .up) place
       → recordAt (m .table) place .received + size ≤ recordAt (m .table) place .size
@@ -205,7 +206,8 @@ module _ (s : Session) (last : Last) (clock most size : ℕ) (info : List ℕ) (
   store-carried place offset received u h =
       rw (
         le-ltb (length info) size (omega (arith, r .information, r .fits)),
-        append-done (m .map) (m .disk) (m .owner) (m .table) (last .number) (last .time) (r .sound) (r .sizes) place (r .file place u) (take size info)
+        append-done (m .map) (m .disk) (m .owner) (m .table) (last .number) (last .time) (r .sound) (r .sizes) place (r .file place u)
+            (take size info)
             (rw (length-take-le size info (omega (arith, r .information, r .fits))) h),
       )
       (plain _ refl)
@@ -216,7 +218,8 @@ module _ (s : Session) (last : Last) (clock most size : ℕ) (info : List ℕ) (
   discard-carried place e u o v = nak e u _ _ _ o v
 
   -- DATA_END: the header's checks, then 3
-  rejected-carried : (place : ℕ) → (checkOf (m .disk) (m .owner) (m .table) place ≡ 0 → ⊥) → oneOf (checkOf (m .disk) (m .owner) (m .table) place) naks ≡ true
+  rejected-carried : (place : ℕ) → (checkOf (m .disk) (m .owner) (m .table) place ≡ 0 → ⊥)
+      → oneOf (checkOf (m .disk) (m .owner) (m .table) place) naks ≡ true
       → Carried s last m (onMoves m (upload.finishTurn s last place clock (m .disk) (m .map) (m .owner) (m .table)))
   unfolding onMoves upload.judgedAt upload.finishAs upload.withDisk upload.discardTurn
   rejected-carried place z o = rw (ne-eqb (checkOf (m .disk) (m .owner) (m .table) place) 0 z) (nak _ up.Idle _ _ _ o over)
@@ -250,7 +253,8 @@ module _ (s : Session) (last : Last) (clock most size : ℕ) (info : List ℕ) (
           → Carried s last m (onMoves m (upload.finishTurn s last place clock (m .disk) (m .map) (m .owner) (m .table)))
       go true q =
           let z = eqb-true (checkOf (m .disk) (m .owner) (m .table) place) 0 q in
-          accepted-carried place z (complete-done (m .map) (m .disk) (m .owner) (m .table) (last .number) (last .time) (r .sound) (r .sizes) place file z)
+          accepted-carried place z
+          (complete-done (m .map) (m .disk) (m .owner) (m .table) (last .number) (last .time) (r .sound) (r .sizes) place file z)
       go false q =
           let z = eqb-false (checkOf (m .disk) (m .owner) (m .table) place) 0 q in
           rejected-carried place z
@@ -299,7 +303,8 @@ module _ (s : Session) (last : Last) (clock most size : ℕ) (info : List ℕ) (
       go s′ true = download-error 10 refl
       go s′ false = plain _ refl
 
-  confirm-carried : (place destination : ℕ) → Carried s last m (turned (download.confirmTurn s last place destination (m .disk) (m .owner) (m .table)) m)
+  confirm-carried : (place destination : ℕ)
+      → Carried s last m (turned (download.confirmTurn s last place destination (m .disk) (m .owner) (m .table)) m)
   unfolding download.confirmTurn
   confirm-carried place destination = go _ (ltb (destinationsAt (m .disk) (m .owner) (m .table) place) destination)
     where
@@ -307,7 +312,8 @@ module _ (s : Session) (last : Last) (clock most size : ℕ) (info : List ℕ) (
       go s′ true = plain _ refl
       go s′ false = plain _ refl
 
-  pub carried : (a : Act) → decided.Proper (s .up) size (files (m .table)) a → closes a ≡ false → Carried s last m (carryOut a s last clock most size info m)
+  pub carried : (a : Act) → decided.Proper (s .up) size (files (m .table)) a → closes a ≡ false
+      → Carried s last m (carryOut a s last clock most size info m)
   unfolding carryOut
   carried a decided.close f = let z : _≡_ {A = ℕ} 0 1 = cc in absurd (omega arith)
   carried a decided.ignore f = plain _ refl

@@ -63,7 +63,8 @@ module _ (sv : Server) (l : Lent) (session : ℕ) (wanted : Bool) (room : ℕ) w
   pub check-33 : (Fits sv l → ⊥) → checkOf sv l session wanted room ≡ Refuse 33
   unfolding checkParts
   check-33 h =
-      ap (λ (t : Bool). cond t (cond (soundParts sv (l .map) (l .owner) (l .table) (l .selected) (l .held)) (sessionCheck sv session wanted room) (Refuse 35)) (Refuse 33))
+      ap (λ (t : Bool). cond t
+      (cond (soundParts sv (l .map) (l .owner) (l .table) (l .selected) (l .held)) (sessionCheck sv session wanted room) (Refuse 35)) (Refuse 33))
       (not-true _ h)
 
   -- the rest of the order, where the sizes fit
@@ -72,7 +73,8 @@ module _ (sv : Server) (l : Lent) (session : ℕ) (wanted : Bool) (room : ℕ) w
       ≡ cond (soundParts sv (l .map) (l .owner) (l .table) (l .selected) (l .held)) (sessionCheck sv session wanted room) (Refuse 35)
   unfolding checkParts
   fitted h =
-      ap (λ (t : Bool). cond t (cond (soundParts sv (l .map) (l .owner) (l .table) (l .selected) (l .held)) (sessionCheck sv session wanted room) (Refuse 35)) (Refuse 33))
+      ap (λ (t : Bool). cond t
+      (cond (soundParts sv (l .map) (l .owner) (l .table) (l .selected) (l .held)) (sessionCheck sv session wanted room) (Refuse 35)) (Refuse 33))
       h
 
   -- 35
@@ -94,7 +96,8 @@ module _ (sv : Server) (l : Lent) (session : ℕ) (wanted : Bool) (room : ℕ) w
       )
 
   -- 34
-  pub session-34 : ((1 ≤ session) → (session ≤ sv .sessions) → (linkOf sv (session - 1) .linked ≡ wanted) → ⊥) → sessionCheck sv session wanted room ≡ Refuse 34
+  pub session-34 : ((1 ≤ session) → (session ≤ sv .sessions) → (linkOf sv (session - 1) .linked ≡ wanted) → ⊥)
+      → sessionCheck sv session wanted room ≡ Refuse 34
   unfolding sessionCheck
   session-34 h = go (eqb session 0) refl (ltb (sv .sessions) session) refl (inState wanted (linkOf sv (session - 1) .linked)) refl
     where
@@ -107,7 +110,8 @@ module _ (sv : Server) (l : Lent) (session : ℕ) (wanted : Bool) (room : ℕ) w
       go false p false q false r = refl
       go false p false q true r =
           absurd
-          (h (omega (arith, eqb-false session 0 p)) (omega (arith, ltb-false (sv .sessions) session q)) (state-is wanted (linkOf sv (session - 1) .linked) r))
+          (h (omega (arith, eqb-false session 0 p)) (omega (arith, ltb-false (sv .sessions) session q))
+          (state-is wanted (linkOf sv (session - 1) .linked) r))
 
   session-go : (i : ℕ) → sessionCheck sv session wanted room ≡ Go i → Fits sv l → IsSound sv l → Through sv l session wanted room i
   unfolding sessionCheck
@@ -196,7 +200,8 @@ module _ (sv : Server) (l : Lent) (session : ℕ) (wanted : Bool) (room : ℕ) w
       )
 
 -- on a state that calls made
-pub good-check : (sv : Server) (l : Lent) → Good sv l → (session : ℕ) (wanted : Bool) (room : ℕ) → checkOf sv l session wanted room ≡ sessionCheck sv session wanted room
+pub good-check : (sv : Server) (l : Lent) → Good sv l → (session : ℕ) (wanted : Bool) (room : ℕ)
+    → checkOf sv l session wanted room ≡ sessionCheck sv session wanted room
 good-check sv l g session wanted room = check-sound sv l session wanted room (g .fits) (g .sound)
 
 -- ---- the facts of a state that is not refused by 33 or 35
@@ -205,7 +210,8 @@ pub record StateFacts (sv : Server) (l : Lent) : Type 0 where
   pub sizes : laws.Sizes (sv .blocks) (sv .files) (sv .sessions) (sv .most)
   pub some-blocks : 1 ≤ sv .blocks
   pub some-most : 1 ≤ sv .most
-  pub room : laws.Room (sv .blocks) (sv .files) (sv .sessions) (sv .most) (length (l .disk)) (length (l .map)) (length (l .owner)) (length (l .table)) (length (l .selected)) (length (l .held))
+  pub room : laws.Room (sv .blocks) (sv .files) (sv .sessions) (sv .most) (length (l .disk)) (length (l .map)) (length (l .owner))
+      (length (l .table)) (length (l .selected)) (length (l .held))
   pub store : Sound (mapPart sv l) (ownerPart sv l) (tablePart sv l) (sv .last .number) (sv .last .time)
   pub store-sizes : Sizes (l .disk) (ownerPart sv l)
   pub sessions : links.LinksFacts (files (tablePart sv l)) (sv .sessions) (sv .most) (l .selected) (l .held) (sv .links)
@@ -231,7 +237,8 @@ state-facts sv l f s =
   where
     go : laws.Sizes (sv .blocks) (sv .files) (sv .sessions) (sv .most)
         → (1 ≤ sv .blocks) × (1 ≤ sv .most)
-        → laws.Room (sv .blocks) (sv .files) (sv .sessions) (sv .most) (length (l .disk)) (length (l .map)) (length (l .owner)) (length (l .table)) (length (l .selected)) (length (l .held))
+        → laws.Room (sv .blocks) (sv .files) (sv .sessions) (sv .most) (length (l .disk)) (length (l .map)) (length (l .owner)) (length (l .table))
+        (length (l .selected)) (length (l .held))
         → soundTest (mapPart sv l) (ownerPart sv l) (tablePart sv l) (sv .last .number) (sv .last .time) ≡ true
         → linksSound (files (tablePart sv l)) (sv .sessions) (sv .most) (l .selected) (l .held) (sv .links) ≡ true
         → StateFacts sv l

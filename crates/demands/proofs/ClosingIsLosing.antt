@@ -136,12 +136,14 @@ not-false true e = absurd (clash e)
 not-false false e = refl
 
 -- the framing's answer closes exactly for an unwelcome event
-frame-closes : (s : Session) (taken : ℕ) (v : Event) → Unwelcome s (some v) → decide.closing (withHeld s 0) (answerBy taken none-held (some v) .frame) ≡ true
+frame-closes : (s : Session) (taken : ℕ) (v : Event) → Unwelcome s (some v)
+    → decide.closing (withHeld s 0) (answerBy taken none-held (some v) .frame) ≡ true
 unfolding answerBy withoutPacket
 frame-closes s taken v long = refl
 frame-closes s taken v (unexpected kind info x) = rw x
 
-closes-frame : (s : Session) (taken : ℕ) (v : Event) → decide.closing (withHeld s 0) (answerBy taken none-held (some v) .frame) ≡ true → Unwelcome s (some v)
+closes-frame : (s : Session) (taken : ℕ) (v : Event) → decide.closing (withHeld s 0) (answerBy taken none-held (some v) .frame) ≡ true
+    → Unwelcome s (some v)
 unfolding answerBy withoutPacket
 closes-frame s taken (packet kind info) e = unexpected kind info (not-false (expected (s .up) (s .down) kind (length info)) e)
 closes-frame s taken too-long e = long
@@ -175,7 +177,8 @@ module _ (sv : Server) (l : Lent) (session clock : ℕ) (input out : List ℕ) (
             answered
             ∙ ap (λ (k : Turned). tell (k .turn .reply) (h .taken) out .answer)
             (steps.turn-closes sv l session clock input out i t h
-            (act-closes h ∙ frame-closes (linkOf sv i) (h .taken) (h .event) (subst (λ (o : Option Event). Unwelcome (linkOf sv i) o) (ap (λ (c : Call Held Event). c .event) (h .came)) w)))
+            (act-closes h ∙ frame-closes (linkOf sv i) (h .taken) (h .event)
+            (subst (λ (o : Option Event). Unwelcome (linkOf sv i) o) (ap (λ (c : Call Held Event). c .event) (h .came)) w)))
             ∙ (unfold tell in ap (λ (c : Call Held Event). answer.Closed (c .taken)) (sym (h .came)));
         only = λ taken e.
             subst (λ (o : Option Event). Unwelcome (linkOf sv i) o) (sym (ap (λ (c : Call Held Event). c .event) (h .came)))

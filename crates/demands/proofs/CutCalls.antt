@@ -25,10 +25,11 @@ use Rattle.history.specs.Calls.{receive, callOf, State, state, next, Start, leg
 use Rattle.history.specs.Good.{Good}
 use Rattle.demands.specs.Parts.{sessionIn}
 use Rattle.demands.specs.Closing.{eventAt}
-use Rattle.demands.specs.Cut.{Seen, seenIn, seenOf, seen, endsIn, Recut, same, back, chain, also, joined, empty, passed, untaken, SameAfter, CutElsewhere}
+use Rattle.demands.specs.Cut.{Seen, seenIn, seenOf, seen, endsIn, Recut, same, back, chain, also, joined, empty, passed, untaken}
+use Rattle.demands.specs.Cut.{SameAfter, CutElsewhere}
 use Rattle.demands.proofs.Checks.{check-through, state-facts, good-check, through-again}
 use Rattle.demands.proofs.Heard.{Unended}
-use Rattle.demands.proofs.Held.{hold, keep, hold-seen}
+use Rattle.demands.proofs.Held.{hold, keep, withLinks, hold-seen}
 use Rattle.demands.proofs.Joined.{shift, shifted, rest-untouched, step-joined}
 use Rattle.demands.proofs.Others.{session-same, others-sessions, others-link, others-part, moved, apart-call}
 use Rattle.demands.proofs.Steps as steps
@@ -45,12 +46,14 @@ gone-on : (sv : Server) (l : Lent) (session clock : ℕ) (input out : List ℕ) 
 unfolding receiveOf onCheck
 gone-on sv l session clock input out i e = rw e
 
-session-rooms : (sv : Server) (session : ℕ) (wanted : Bool) (a b : ℕ) → 258 ≤ a → 258 ≤ b → sessionCheck sv session wanted a ≡ sessionCheck sv session wanted b
+session-rooms : (sv : Server) (session : ℕ) (wanted : Bool) (a b : ℕ) → 258 ≤ a → 258 ≤ b
+    → sessionCheck sv session wanted a ≡ sessionCheck sv session wanted b
 unfolding sessionCheck
 session-rooms sv session wanted a b h k = rw (le-ltb a 258 h, le-ltb b 258 k)
 
 -- bytes that end no packet do not end one
-pub no-packet : (sv : Server) (l : Lent) (session clock : ℕ) (xs out : List ℕ) → eventAt sv l (session - 1) xs ≡ none → steps.EndsPacket sv l session clock xs out → ⊥
+pub no-packet : (sv : Server) (l : Lent) (session clock : ℕ) (xs out : List ℕ) → eventAt sv l (session - 1) xs ≡ none
+    → steps.EndsPacket sv l session clock xs out → ⊥
 no-packet sv l session clock xs out e f =
     let a : eventAt sv l (f .i) xs ≡ some (f .heard .event) = ap (λ (c : Call Held Event). c .event) (f .heard .came) in
     let b : none ≡ some (f .heard .event) = sym e ∙ ap (λ (j : ℕ). eventAt sv l j xs) (sym (f .through .index)) ∙ a in
@@ -61,7 +64,7 @@ no-packet sv l session clock xs out e f =
 -- a session that holds what it held
 hold-same : (sv : Server) (i : ℕ) → hold sv i (linkOf sv i .held) ≡ sv
 hold-same sv i =
-    ap (λ (ks : List Session). record { blocks = sv .blocks; files = sv .files; sessions = sv .sessions; most = sv .most; last = sv .last; links = ks })
+    ap (λ (ks : List Session). withLinks sv (sv .last) ks)
     (set-getD (sv .links) i closedSession)
 
 keep-same : (l : Lent) (i : ℕ) → keep l i (part (i * 258) 258 (l .held)) ≡ l
@@ -121,14 +124,16 @@ module _ (good-kept : (sv : Server) (l : Lent) → Good sv l → (c : history.Ca
         second : checkOf sv₁ l₁ session true (length out′) ≡ Go (e .i)
         second =
             good-check sv₁ l₁ good₁ session true (length out′)
-            ∙ session-same sv sv₁ session true (length out′) refl (hold-seen sv (e .i) (e .heard .state .count) below (λ s. s .linked) (λ s m. refl) (session - 1))
+            ∙ session-same sv sv₁ session true (length out′) refl
+            (hold-seen sv (e .i) (e .heard .state .count) below (λ s. s .linked) (λ s m. refl) (session - 1))
             ∙ passes
 
     -- bytes lent in one call, or in two
     pub joined-call : eventAt sv l (session - 1) xs ≡ none → 258 ≤ length out → 258 ≤ length out′
         → callOf sv l (receive session clock′ (xs ++ ys) out′)
         ≡ shifted (length xs)
-        (callOf (callOf sv l (receive session clock xs out) .done .server) (callOf sv l (receive session clock xs out) .lent) (receive session clock′ ys out′))
+        (callOf (callOf sv l (receive session clock xs out) .done .server) (callOf sv l (receive session clock xs out) .lent)
+        (receive session clock′ ys out′))
     joined-call none-ends room room′ = go (steps.receives sv l session clock xs out)
       where
         by : (o : Outcome) → receiveOf sv l out session clock xs ≡ o
@@ -156,14 +161,16 @@ module _ (good-kept : (sv : Server) (l : Lent) → Good sv l → (c : history.Ca
 
   -- what the two orders come to
   record Swapped (sv : Server) (l : Lent) (r c : history.Call) : Type 0 where
-    server : callOf (callOf sv l r .done .server) (callOf sv l r .lent) c .done .server ≡ callOf (callOf sv l c .done .server) (callOf sv l c .lent) r .done .server
+    server : callOf (callOf sv l r .done .server) (callOf sv l r .lent) c .done .server
+        ≡ callOf (callOf sv l c .done .server) (callOf sv l c .lent) r .done .server
     lent : callOf (callOf sv l r .done .server) (callOf sv l r .lent) c .lent ≡ callOf (callOf sv l c .done .server) (callOf sv l c .lent) r .lent
     -- the call is seen the same, and the bytes are not seen
     call-seen : seenOf c (callOf (callOf sv l r .done .server) (callOf sv l r .lent) c) ≡ seenOf c (callOf sv l c)
     none-first : seenOf r (callOf sv l r) ≡ []
     none-last : seenOf r (callOf (callOf sv l c .done .server) (callOf sv l c .lent) r) ≡ []
 
-  module _ (sv : Server) (l : Lent) (good : Good sv l) (session clock : ℕ) (xs out : List ℕ) (c : history.Call) (other : sessionIn c ≡ session → ⊥) where
+  module _ (sv : Server) (l : Lent) (good : Good sv l) (session clock : ℕ) (xs out : List ℕ) (c : history.Call)
+      (other : sessionIn c ≡ session → ⊥) where
     goodᶜ : Good (callOf sv l c .done .server) (callOf sv l c .lent)
     goodᶜ = good-kept sv l good c
 
@@ -199,7 +206,8 @@ module _ (good-kept : (sv : Server) (l : Lent) → Good sv l → (c : history.Ca
           none-last = ap (λ (o : Outcome). seenIn session (o .done .answer) (o .out)) b;
         }
 
-    passed-none : (e : steps.EndsNone sv l session clock xs out) → checkOf sv l session true (length out) ≡ Go (e .i) → Swapped sv l (receive session clock xs out) c
+    passed-none : (e : steps.EndsNone sv l session clock xs out) → checkOf sv l session true (length out) ≡ Go (e .i)
+        → Swapped sv l (receive session clock xs out) c
     unfolding seenIn
     passed-none e go-on =
         record {
@@ -260,7 +268,8 @@ module _ (good-kept : (sv : Server) (l : Lent) → Good sv l → (c : history.Ca
         go (steps.refused n o k q) = passed-refused n k
         go (steps.ends-none e) =
             passed-none e
-            (good-check sv l good session true (length out) ∙ through-again sv l session true (length out) (e .i) (length out) (e .through) (e .through .room))
+            (good-check sv l good session true (length out) ∙ through-again sv l session true (length out) (e .i) (length out) (e .through)
+            (e .through .room))
         go (steps.ends-packet f) = absurd (no-packet sv l session clock xs out none-ends f)
 
 -- ---- whole histories
@@ -278,7 +287,8 @@ pub unended-seen : (sv : Server) (l : Lent) (session clock : ℕ) (xs out : List
 unfolding seenIn
 unended-seen sv l session clock xs out none-ends = go (steps.receives sv l session clock xs out)
   where
-    go : steps.Receives sv l session clock xs out → seenIn session (receiveOf sv l out session clock xs .done .answer) (receiveOf sv l out session clock xs .out) ≡ []
+    go : steps.Receives sv l session clock xs out
+        → seenIn session (receiveOf sv l out session clock xs .done .answer) (receiveOf sv l out session clock xs .out) ≡ []
     go (steps.refused n o k q) = ap (λ (o : Outcome). seenIn session (o .done .answer) (o .out)) q
     go (steps.ends-none e) = ap (λ (o : Outcome). seenIn session (o .done .answer) (o .out)) (e .is)
     go (steps.ends-packet f) = absurd (no-packet sv l session clock xs out none-ends f)
@@ -341,7 +351,9 @@ module _ (good-kept : (sv : Server) (l : Lent) → Good sv l → (c : history.Ca
         record {
           state = ap (λ (x : Server). state x (callOf (after s h .server) (after s h .lent) (receive session clock [] out) .lent)) (w .server)
               ∙ ap (λ (x : Lent). state (after s h .server) x) (w .lent);
-          seen = ap (λ (k : List Seen). seen s h ++ k) (unended-seen (after s h .server) (after s h .lent) session clock [] out refl) ∙ append-nil (seen s h);
+          seen =
+              ap (λ (k : List Seen). seen s h ++ k) (unended-seen (after s h .server) (after s h .lent) session clock [] out refl) ∙ append-nil
+              (seen s h);
         }
 
     untaken-after : (h : History) (session clock : ℕ) (xs ys out : List ℕ) (e : Event)

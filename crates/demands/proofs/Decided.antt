@@ -42,7 +42,8 @@ pub data Proper (u : Uplink) (size : ℕ) (fs : List File) : Act → Type 0 wher
   download-error : (e : ℕ) → oneOf e downloadErrors ≡ true → Proper u size fs (act.Tell (DownloadError e))
   begin : (n : ℕ) → Proper u size fs (act.Begin n)
   resume : (place number received : ℕ) → Proper u size fs (act.Resume place number received)
-  store : (place offset received : ℕ) → Uploads u place → fileAt fs place .received + size ≤ fileAt fs place .size → Proper u size fs (act.Store place offset received)
+  store : (place offset received : ℕ) → Uploads u place → fileAt fs place .received + size ≤ fileAt fs place .size
+      → Proper u size fs (act.Store place offset received)
   overrun : (place : ℕ) → Uploads u place → Proper u size fs (act.Overrun place)
   stop : Proper u size fs act.Stop
   finish : (place : ℕ) → Uploads u place → Proper u size fs (act.Finish place)
@@ -73,7 +74,8 @@ module _ (u : Uplink) (size : ℕ) (fs : List File) where
   unfolding onUpload
   upload-proper links info =
       either (eqb size 8) _ _
-      (either (eqb (wordAt info 0) 0) _ _ (begin (wordAt info 4)) (continued-proper (findOf fs (wordAt info 0)) (wordAt info 0) (wordAt info 4) links))
+      (either (eqb (wordAt info 0) 0) _ _ (begin (wordAt info 4))
+      (continued-proper (findOf fs (wordAt info 0)) (wordAt info 0) (wordAt info 4) links))
       (upload-error 1 refl)
 
   data-proper : (v : Uplink) → u ≡ v → Proper u size fs (onData v size fs)
@@ -133,7 +135,8 @@ module _ (u : Uplink) (size : ℕ) (fs : List File) where
   nak-proper (down.Ended place) = ending
   nak-proper (down.Aborting place) = close
 
-  downlink-proper : (d : Downlink) (count next kind : ℕ) (info selected : List ℕ) → Proper u size fs (onDownlink d count next kind size info fs selected)
+  downlink-proper : (d : Downlink) (count next kind : ℕ) (info selected : List ℕ)
+      → Proper u size fs (onDownlink d count next kind size info fs selected)
   unfolding onDownlink
   downlink-proper d count next kind info selected =
       either (eqb kind 8) _ _ (download-proper count next info selected)
@@ -148,7 +151,8 @@ packet-proper : (s : Session) (links : List Session) (kind size : ℕ) (info : L
 unfolding onPacket
 packet-proper s links kind size info fs selected =
     either (s .up) size fs (expected (s .up) (s .down) kind size) _ _
-    (either (s .up) size fs (ltb kind 8) _ _ (uplink-proper (s .up) size fs links kind info) (downlink-proper (s .up) size fs (s .down) (s .count) (s .next) kind info selected))
+    (either (s .up) size fs (ltb kind 8) _ _ (uplink-proper (s .up) size fs links kind info)
+    (downlink-proper (s .up) size fs (s .down) (s .count) (s .next) kind info selected))
     close
 
 frame-proper : (s : Session) (links : List Session) (frame : Frame) (info : List ℕ) (fs : List File) (selected : List ℕ)

@@ -67,12 +67,14 @@ module _ (session clock : ℕ) (out : List ℕ) where
   stuck-refused st n e (suc k) (b ∷ bs) =
       ap
       (λ (o : Outcome).
-      andThen (seenIn session (o .done .answer) (o .out)) (onward (o .done .answer) (left o) (λ taken. feed k (left o) session clock out (drop taken (b ∷ bs)))))
+      andThen (seenIn session (o .done .answer) (o .out))
+      (onward (o .done .answer) (left o) (λ taken. feed k (left o) session clock out (drop taken (b ∷ bs)))))
       (refused-receive (st .server) (st .lent) session clock (b ∷ bs) out n e)
       ∙ (unfold seenIn onward in refl)
 
   -- a state in which the session is closed
-  stuck-closed : (st : State) → linkOf (st .server) (session - 1) ≡ closedSession → (k : ℕ) (bytes : List ℕ) → feed k st session clock out bytes ≡ fed st []
+  stuck-closed : (st : State) → linkOf (st .server) (session - 1) ≡ closedSession → (k : ℕ) (bytes : List ℕ)
+      → feed k st session clock out bytes ≡ fed st []
   stuck-closed st e k bytes = go (steps.receives (st .server) (st .lent) session clock [] out)
     where
       clash : linkOf (st .server) (session - 1) .linked ≡ true → ⊥
@@ -90,7 +92,8 @@ module _ (session clock : ℕ) (out : List ℕ) where
       → linkOf (at st bytes .done .server) (session - 1) ≡ closedSession
   closed-after st bytes taken e = go (every-call-answers (st .server) (st .lent) (receive session clock bytes out))
     where
-      go : Answers (st .server) (st .lent) (receive session clock bytes out) (at st bytes) → linkOf (at st bytes .done .server) (session - 1) ≡ closedSession
+      go : Answers (st .server) (st .lent) (receive session clock bytes out) (at st bytes)
+          → linkOf (at st bytes .done .server) (session - 1) ≡ closedSession
       go (refuses r) =
           let q : answer.Refused (r .number) ≡ answer.Closed taken = sym (ap (λ (o : Outcome). o .done .answer) (r .same)) ∙ e in
           let z : _≡_ {A = ℕ} 0 1 = cc in absurd (omega arith)
@@ -106,11 +109,13 @@ module _ (session clock : ℕ) (out : List ℕ) where
   unfolding onward
   on-quiet o taken e go = ap (λ (a : Answer). onward a (left o) go) e
 
-  on-sent : (o : Outcome) (taken size : ℕ) → o .done .answer ≡ answer.Sent taken size → (go : ℕ → Fed) → onward (o .done .answer) (left o) go ≡ go taken
+  on-sent : (o : Outcome) (taken size : ℕ) → o .done .answer ≡ answer.Sent taken size → (go : ℕ → Fed)
+      → onward (o .done .answer) (left o) go ≡ go taken
   unfolding onward
   on-sent o taken size e go = ap (λ (a : Answer). onward a (left o) go) e
 
-  on-closed : (o : Outcome) (taken : ℕ) → o .done .answer ≡ answer.Closed taken → (go : ℕ → Fed) → onward (o .done .answer) (left o) go ≡ fed (left o) []
+  on-closed : (o : Outcome) (taken : ℕ) → o .done .answer ≡ answer.Closed taken → (go : ℕ → Fed)
+      → onward (o .done .answer) (left o) go ≡ fed (left o) []
   unfolding onward
   on-closed o taken e go = ap (λ (a : Answer). onward a (left o) go) e
 
@@ -180,7 +185,8 @@ module _ (session clock : ℕ) (out : List ℕ) where
   enough (suc k) zero st (x ∷ bs) a b = absurd (omega arith)
   enough (suc k) (suc m) st (x ∷ bs) a b =
       ap (λ (f : Fed). andThen (fresh st (x ∷ bs)) f)
-      (go (went st (x ∷ bs)) (λ taken h. enough k m (left (at st (x ∷ bs))) (drop taken (x ∷ bs)) (dropped taken k x bs h a) (dropped taken m x bs h b)))
+      (go (went st (x ∷ bs))
+      (λ taken h. enough k m (left (at st (x ∷ bs))) (drop taken (x ∷ bs)) (dropped taken k x bs h a) (dropped taken m x bs h b)))
     where
       go : Went (length (x ∷ bs)) (at st (x ∷ bs))
           → ((taken : ℕ)
@@ -210,7 +216,9 @@ module _ (session clock : ℕ) (out : List ℕ) where
       → feedAll st session clock out bytes ≡ fed (left (at st bytes)) (fresh st bytes)
   unfolding feed
   first-stops st [] h s = absurd (omega arith)
-  first-stops st (x ∷ bs) h s = ap (λ (f : Fed). andThen (fresh st (x ∷ bs)) f) (s .on _) ∙ ap (λ (k : List Seen). fed (left (at st (x ∷ bs))) k) (append-nil (fresh st (x ∷ bs)))
+  first-stops st (x ∷ bs) h s =
+      ap (λ (f : Fed). andThen (fresh st (x ∷ bs)) f) (s .on _) ∙ ap (λ (k : List Seen). fed (left (at st (x ∷ bs))) k)
+      (append-nil (fresh st (x ∷ bs)))
 
   -- a call that stops leaves nothing to do, whatever follows
   abbrev Parted : State → List ℕ → List ℕ → Type 0
@@ -235,7 +243,8 @@ module _ (session clock : ℕ) (out : List ℕ) where
       ∙ ap (λ (o : Outcome). andThen (seenIn session (o .done .answer) (o .out)) (feedAll (left o) session clock out (drop (g .taken) (xs ++ ys)))) e
       ∙ ap (λ (bs : List ℕ). andThen (fresh st xs) (feedAll (left (at st xs)) session clock out bs)) (drop-append-le (g .taken) xs ys (g .within))
       ∙ ap (λ (f : Fed). andThen (fresh st xs) f) ih
-      ∙ ap (λ (k : List Seen). fed (feedAll (rest .state) session clock out ys .state) k) (sym (append-assoc (fresh st xs) (rest .seen) (feedAll (rest .state) session clock out ys .seen)))
+      ∙ ap (λ (k : List Seen). fed (feedAll (rest .state) session clock out ys .state) k)
+      (sym (append-assoc (fresh st xs) (rest .seen) (feedAll (rest .state) session clock out ys .seen)))
       ∙ ap (λ (f : Fed). andThen (f .seen) (feedAll (f .state) session clock out ys)) (sym (first-goes st xs h g))
     where
       rest : Fed
@@ -288,7 +297,8 @@ module _ (session clock : ℕ) (out : List ℕ) where
           ≡ onward (at (left (at st xs)) bs .done .answer) (left (at (left (at st xs)) bs)) (λ taken. go (length xs + taken))
       on-shift bs q go = ap (λ (o : Outcome). onward (o .done .answer) (left o) go) q ∙ onward-shift (length xs) _ _ go
 
-      left-same : (bs : List ℕ) → at st (xs ++ bs) ≡ shifted (length xs) (at (left (at st xs)) bs) → left (at st (xs ++ bs)) ≡ left (at (left (at st xs)) bs)
+      left-same : (bs : List ℕ) → at st (xs ++ bs) ≡ shifted (length xs) (at (left (at st xs)) bs)
+          → left (at st (xs ++ bs)) ≡ left (at (left (at st xs)) bs)
       left-same bs q = ap (λ (o : Outcome). left o) q
 
       on-with : (b : ℕ) (bs : List ℕ) → at st (xs ++ b ∷ bs) ≡ shifted (length xs) (at (left (at st xs)) (b ∷ bs))
@@ -311,8 +321,11 @@ module _ (session clock : ℕ) (out : List ℕ) where
             some-taken = λ n. omega arith;
             on = λ go. on-shift (b ∷ bs) q go ∙ r .on _;
           })
-          ∙ ap (λ (k : List Seen). andThen k (feedAll (left (at st (xs ++ b ∷ bs))) session clock out (drop (length xs + r .taken) (xs ++ b ∷ bs)))) (same-seen (b ∷ bs) q)
-          ∙ ap (λ (x : State). andThen (fresh (left (at st xs)) (b ∷ bs)) (feedAll x session clock out (drop (length xs + r .taken) (xs ++ b ∷ bs)))) (left-same (b ∷ bs) q)
+          ∙ ap (λ (k : List Seen). andThen k (feedAll (left (at st (xs ++ b ∷ bs))) session clock out (drop (length xs + r .taken) (xs ++ b ∷ bs))))
+          (same-seen (b ∷ bs) q)
+          ∙ ap
+          (λ (x : State). andThen (fresh (left (at st xs)) (b ∷ bs)) (feedAll x session clock out (drop (length xs + r .taken) (xs ++ b ∷ bs))))
+          (left-same (b ∷ bs) q)
           ∙ ap (λ (cs : List ℕ). andThen (fresh (left (at st xs)) (b ∷ bs)) (feedAll (left (at (left (at st xs)) (b ∷ bs))) session clock out cs))
           (drop-append-add xs (b ∷ bs) (r .taken))
           ∙ sym (first-goes (left (at st xs)) (b ∷ bs) (omega arith) r)
@@ -350,7 +363,8 @@ module _ (good-kept : (sv : Server) (l : Lent) → Good sv l → (c : Call) → 
             parted-stops session clock out st (x ∷ xs) ys (omega arith) (rest-untouched (st .server) (st .lent) session clock (x ∷ xs) ys out e q) s
         in-first e q ih (goes g) =
             parted-goes session clock out st (x ∷ xs) ys (omega arith) (rest-untouched (st .server) (st .lent) session clock (x ∷ xs) ys out e q) g
-            (ih (left (at session clock out st (x ∷ xs))) (drop (g .taken) (x ∷ xs)) ys kept (dropped session clock out (g .taken) k x xs (g .some-taken (omega arith)) h))
+            (ih (left (at session clock out st (x ∷ xs))) (drop (g .taken) (x ∷ xs)) ys kept
+            (dropped session clock out (g .taken) k x xs (g .some-taken (omega arith)) h))
 
         none-in-first : eventAt (st .server) (st .lent) (session - 1) (x ∷ xs) ≡ none
             → steps.Receives (st .server) (st .lent) session clock (x ∷ xs) out
@@ -358,7 +372,8 @@ module _ (good-kept : (sv : Server) (l : Lent) → Good sv l → (c : Call) → 
         none-in-first q (steps.refused n o c r) =
             stuck-refused session clock out st n c (length (x ∷ xs ++ ys)) (x ∷ xs ++ ys)
             ∙ sym
-            (ap (λ (f : Fed). andThen (f .seen) (feedAll (f .state) session clock out ys)) (stuck-refused session clock out st n c (length (x ∷ xs)) (x ∷ xs))
+            (ap (λ (f : Fed). andThen (f .seen) (feedAll (f .state) session clock out ys))
+            (stuck-refused session clock out st n c (length (x ∷ xs)) (x ∷ xs))
             ∙ stuck-refused session clock out st n c (length ys) ys)
         none-in-first q (steps.ends-none f) =
             parted-none session clock out st (x ∷ xs) ys (omega arith)
@@ -386,7 +401,8 @@ module _ (good-kept : (sv : Server) (l : Lent) → Good sv l → (c : Call) → 
     fed-good zero st bytes good = good
     fed-good (suc k) st [] good = good
     fed-good (suc k) st (b ∷ bs) good =
-        go (at session clock out st (b ∷ bs) .done .answer) kept (λ taken. fed-good k (left (at session clock out st (b ∷ bs))) (drop taken (b ∷ bs)) kept)
+        go (at session clock out st (b ∷ bs) .done .answer) kept
+        (λ taken. fed-good k (left (at session clock out st (b ∷ bs))) (drop taken (b ∷ bs)) kept)
       where
         kept : Good (at session clock out st (b ∷ bs) .done .server) (at session clock out st (b ∷ bs) .lent)
         kept = good-kept (st .server) (st .lent) good (receive session clock (b ∷ bs) out)
@@ -396,8 +412,10 @@ module _ (good-kept : (sv : Server) (l : Lent) → Good sv l → (c : Call) → 
             → Good (feed k (left (at session clock out st (b ∷ bs))) session clock out (drop taken (b ∷ bs)) .state .server)
             (feed k (left (at session clock out st (b ∷ bs))) session clock out (drop taken (b ∷ bs)) .state .lent))
             → Good
-            (onward a (left (at session clock out st (b ∷ bs))) (λ taken. feed k (left (at session clock out st (b ∷ bs))) session clock out (drop taken (b ∷ bs))) .state .server)
-            (onward a (left (at session clock out st (b ∷ bs))) (λ taken. feed k (left (at session clock out st (b ∷ bs))) session clock out (drop taken (b ∷ bs))) .state .lent)
+            (onward a (left (at session clock out st (b ∷ bs)))
+            (λ taken. feed k (left (at session clock out st (b ∷ bs))) session clock out (drop taken (b ∷ bs))) .state .server)
+            (onward a (left (at session clock out st (b ∷ bs)))
+            (λ taken. feed k (left (at session clock out st (b ∷ bs))) session clock out (drop taken (b ∷ bs))) .state .lent)
         go (answer.Quiet taken) here ih = ih taken
         go (answer.Sent taken size) here ih = ih taken
         go (answer.Closed taken) here ih = here

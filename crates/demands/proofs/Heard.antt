@@ -10,7 +10,8 @@ use lib.Dec.{ltb}
 use lib.ListN.{length, take, drop, set, replicate, length-set}
 use Rattle.packet.specs.declared.frame.Frame.the-variants.{Open}
 use Rattle.packet.specs.Machine.{Step, more, ends, Call, called, call}
-use Rattle.packet.specs.Frame.{Held, Event, packet, too-long, none-held, announcedIn, packetIn, judged, byte, heard, withoutPacket, answerBy, answerOf, receiveOf}
+use Rattle.packet.specs.Frame.{Held, Event, packet, too-long, none-held, announcedIn, packetIn, judged, byte, heard, withoutPacket}
+use Rattle.packet.specs.Frame.{answerBy, answerOf, receiveOf}
 use Rattle.files.proofs.Choice.{take-le}
 
 no-event : {E : Type 0} (v : E) → none ≡ some v → ⊥
@@ -142,7 +143,8 @@ unfolding receiveOf answerOf answerBy
 hears part held input w room =
     go (call byte (record { count = held; part = part }) input) refl (call-facts input (record { count = held; part = part }))
   where
-    go : (c : Call Held Event) → call byte (record { count = held; part = part }) input ≡ c → CallFacts (record { count = held; part = part }) input c → Hears part held input
+    go : (c : Call Held Event) → call byte (record { count = held; part = part }) input ≡ c
+        → CallFacts (record { count = held; part = part }) input c → Hears part held input
     go c e f = by (c .event) refl
       where
         by : (o : Option Event) → c .event ≡ o → Hears part held input

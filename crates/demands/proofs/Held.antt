@@ -19,6 +19,7 @@ use Rattle.table.specs.declared.File.{File}
 use Rattle.table.specs.declared.Found.{Found}
 use Rattle.table.specs.declared.Found.the-variants.{Nothing, At}
 use Rattle.table.specs.Table.{files, fileAt, findOf}
+use Rattle.carry.specs.declared.turn.Last.{Last}
 use Rattle.carry.specs.Turn.{Mem}
 use Rattle.carry.specs.Carry.{carryOut}
 use Rattle.decide.specs.Words.{wordAt}
@@ -37,6 +38,11 @@ hold sv i n = withLink sv i (withHeld (linkOf sv i) n)
 
 abbrev pub keep : Lent → ℕ → List ℕ → Lent
 keep l i p = lent (l .disk) (l .map) (l .owner) (l .table) (l .selected) (withPart (i * 258) 258 p (l .held))
+
+-- a server with other sessions and another last number and time
+abbrev pub withLinks : Server → Last → List Session → Server
+withLinks sv last links =
+    record { blocks = sv .blocks; files = sv .files; sessions = sv .sessions; most = sv .most; last = last; links = links }
 
 -- ---- the sessions
 

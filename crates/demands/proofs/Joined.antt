@@ -69,7 +69,8 @@ answered-shift r k taken out = go (ltb (length out) 258)
   where
     go : (t : Bool)
         → cond t (told (answer.Refused 32) out) (tell r (k + taken) out)
-        ≡ told (shift k (cond t (told (answer.Refused 32) out) (tell r taken out) .answer)) (cond t (told (answer.Refused 32) out) (tell r taken out) .out)
+        ≡ told (shift k (cond t (told (answer.Refused 32) out) (tell r taken out) .answer))
+        (cond t (told (answer.Refused 32) out) (tell r taken out) .out)
     go true = refl
     go false = tell-shift r k taken out
 
@@ -98,7 +99,8 @@ step-more sv i clock l out k h = rw (answered-shift _ k (h .answer .taken) out)
 
 answer-more : (k taken : ℕ) (h : Held) (o : Option Event)
     → answerBy (k + taken) h o
-    ≡ record { taken = k + answerBy taken h o .taken; held = answerBy taken h o .held; frame = answerBy taken h o .frame; info = answerBy taken h o .info }
+    ≡ record
+    { taken = k + answerBy taken h o .taken; held = answerBy taken h o .held; frame = answerBy taken h o .frame; info = answerBy taken h o .info }
 unfolding answerBy withoutPacket
 answer-more k taken h none = refl
 answer-more k taken h (some (packet kind info)) = refl
@@ -157,7 +159,8 @@ module _ (sv : Server) (l : Lent) (session clock : ℕ) (xs ys out : List ℕ) (
 
   both : call byte (record { count = linkOf sv i .held; part = part (i * 258) 258 (l .held) }) (xs ++ ys) ≡ further (length xs) rest
   both =
-      call-cut byte xs ys (record { count = linkOf sv i .held; part = part (i * 258) 258 (l .held) }) (ap (λ (c : Call Held Event). c .event) (u .came))
+      call-cut byte xs ys (record { count = linkOf sv i .held; part = part (i * 258) 258 (l .held) })
+      (ap (λ (c : Call Held Event). c .event) (u .came))
       ∙ ap (λ (c : Call Held Event). further (length xs) (call byte (c .state) ys)) (u .came)
 
   one : (held-few : linkOf sv i .held < 258) → length (part (i * 258) 258 (l .held)) ≡ 258
@@ -186,4 +189,5 @@ module _ (sv : Server) (l : Lent) (session clock : ℕ) (xs ys out : List ℕ) (
       (one (steps.few-held sv l session clock xs out i t) (steps.packet-part sv l session clock xs out i t))
       ∙ step-more sv i clock l out (length xs) (answerOf rest)
       ∙ ap (λ (o : Outcome). shifted (length xs) o)
-      (sym (held-step (answerOf rest)) ∙ sym (step-with (hold sv i (u .state .count)) i clock (keep l i (u .state .part)) out ys (answerOf rest) second))
+      (sym (held-step (answerOf rest)) ∙ sym
+      (step-with (hold sv i (u .state .count)) i clock (keep l i (u .state .part)) out ys (answerOf rest) second))

@@ -29,7 +29,7 @@ use Rattle.demands.specs.Parts.{sessionIn, openIn, roomIn, checkIn}
 use Rattle.demands.proofs.Checks.{Through, StateFacts, check-through, state-facts, good-check}
 use Rattle.demands.proofs.Heard.{Hears, unended, ended}
 use Rattle.demands.proofs.Parts.{part-other, with-comm}
-use Rattle.demands.proofs.Held.{hold, keep, hold-other, hold-seen, act-same}
+use Rattle.demands.proofs.Held.{hold, keep, withLinks, hold-other, hold-seen, act-same}
 use Rattle.demands.proofs.Joined.{stepWith, step-with}
 use Rattle.demands.proofs.Steps as steps
 
@@ -73,7 +73,8 @@ heard-size sv l session clock input out j t = go (steps.heard-by sv l session cl
 part-room : (sv : Server) (l : Lent) → StateFacts sv l → (j : ℕ) → j < sv .sessions → j * 258 + 258 ≤ length (l .held)
 part-room sv l f j h = omega (arith, f .room .held, part-end j (sv .sessions) 258 h)
 
-through-room : (sv : Server) (l : Lent) (session : ℕ) (wanted : Bool) (room j : ℕ) → Through sv l session wanted room j → j * 258 + 258 ≤ length (l .held)
+through-room : (sv : Server) (l : Lent) (session : ℕ) (wanted : Bool) (room j : ℕ) → Through sv l session wanted room j
+    → j * 258 + 258 ≤ length (l .held)
 through-room sv l session wanted room j t =
     part-room sv l (state-facts sv l (t .fit) (t .is-sound)) j (omega (arith, t .index, t .from-one, t .in-range))
 
@@ -115,7 +116,8 @@ others-link sv l (receive session clock input out) k d = go (checkOf sv l sessio
     go (Refuse n) e = refl
     go (Go j) e =
         ap (λ (o : Outcome). linkOf (o .done .server) k) (step-with sv j clock l out input _ refl)
-        ∙ (unfold stepWith answeredBy in getD-set-other (sv .links) j k _ closedSession (λ q. goes sv l (receive session clock input out) j k e d (sym q)))
+        ∙ (unfold stepWith answeredBy in getD-set-other (sv .links) j k _ closedSession
+        (λ q. goes sv l (receive session clock input out) j k e d (sym q)))
 others-link sv l (request session out) k d = go (checkOf sv l session true (length out)) refl
   where
     go : (a : Check) → checkOf sv l session true (length out) ≡ a → linkOf (onRequest a sv l out .done .server) k ≡ linkOf sv k
@@ -141,7 +143,8 @@ others-part sv l (receive session clock input out) k d = go (checkOf sv l sessio
         let t = check-through sv l session true (length out) j e in
         ap (λ (o : Outcome). part (k * 258) 258 (o .lent .held))
         (step-with sv j clock l out input (frame.receiveOf (part (j * 258) 258 (l .held)) (linkOf sv j .held) input) refl)
-        ∙ part-other j k 258 (frame.receiveOf (part (j * 258) 258 (l .held)) (linkOf sv j .held) input .part) (l .held) (λ q. goes sv l (receive session clock input out) j k e d q)
+        ∙ part-other j k 258 (frame.receiveOf (part (j * 258) 258 (l .held)) (linkOf sv j .held) input .part) (l .held)
+        (λ q. goes sv l (receive session clock input out) j k e d q)
         (heard-size sv l session clock input out j t) (through-room sv l session true (length out) j t)
 others-part sv l (request session out) k d = refl
 others-part sv l (lose session) k d = go (checkOf sv l session true 258) refl
@@ -163,13 +166,13 @@ moved i n p o = outcome (doneWith (hold (o .done .server) i n) (o .done .answer)
 -- two sessions change, in any order
 link-comm : (sv : Server) (i j n : ℕ) (s : Session) → (i ≡ j → ⊥) → withLink (hold sv i n) j s ≡ hold (withLink sv j s) i n
 link-comm sv i j n s d =
-    ap (λ (ks : List Session). record { blocks = sv .blocks; files = sv .files; sessions = sv .sessions; most = sv .most; last = sv .last; links = ks })
+    ap (λ (ks : List Session). withLinks sv (sv .last) ks)
     (set-comm (sv .links) i j (withHeld (linkOf sv i) n) s d
     ∙ ap (λ (x : Session). set (set (sv .links) j s) i (withHeld x n)) (sym (getD-set-other (sv .links) j i s closedSession d)))
 
 turn-comm : (sv : Server) (i j n : ℕ) (t : Turn) → (i ≡ j → ⊥) → withTurn (hold sv i n) j t ≡ hold (withTurn sv j t) i n
 turn-comm sv i j n t d =
-    ap (λ (ks : List Session). record { blocks = sv .blocks; files = sv .files; sessions = sv .sessions; most = sv .most; last = t .last; links = ks })
+    ap (λ (ks : List Session). withLinks sv (t .last) ks)
     (set-comm (sv .links) i j (withHeld (linkOf sv i) n) (t .session) d
     ∙ ap (λ (x : Session). set (set (sv .links) j (t .session)) i (withHeld x n)) (sym (getD-set-other (sv .links) j i (t .session) closedSession d)))
 
@@ -254,7 +257,8 @@ module _ (sv : Server) (l : Lent) (i n : ℕ) (p : List ℕ) (good : Good sv l) 
       step-with (hold sv i n) j clock (keep l i p) out input (frame.receiveOf (part (j * 258) 258 (l .held)) (linkOf sv j .held) input)
       (ap (λ (x : List ℕ). frame.receiveOf x (linkOf (hold sv i n) j .held) input) (part-other i j 258 p (l .held) (d j refl) whole here)
       ∙ ap (λ (s : Session). frame.receiveOf (part (j * 258) 258 (l .held)) (s .held) input) (hold-other sv i n link-below j (λ q. d j refl (sym q))))
-      ∙ step-moved j clock out (frame.receiveOf (part (j * 258) 258 (l .held)) (linkOf sv j .held) input) (d j refl) (heard-size sv l session clock input out j t) r
+      ∙ step-moved j clock out (frame.receiveOf (part (j * 258) 258 (l .held)) (linkOf sv j .held) input) (d j refl)
+      (heard-size sv l session clock input out j t) r
       ∙ ap (λ (o : Outcome). moved i n p o)
       (sym (step-with sv j clock l out input (frame.receiveOf (part (j * 258) 258 (l .held)) (linkOf sv j .held) input) refl))
 
@@ -262,13 +266,16 @@ module _ (sv : Server) (l : Lent) (i n : ℕ) (p : List ℕ) (good : Good sv l) 
   pub apart-call : (c : Call) → (sessionIn c ≡ i + 1 → ⊥) → callOf (hold sv i n) (keep l i p) c ≡ moved i n p (callOf sv l c)
   unfolding loginOf receiveOf requestOf loseOf
   apart-call (login session clock out) d =
-      ap (λ (k : Check). outcome (onLogin k (hold sv i n) out clock .done) (keep l i p) (onLogin k (hold sv i n) out clock .out)) (check-same session false (length out))
+      ap (λ (k : Check). outcome (onLogin k (hold sv i n) out clock .done) (keep l i p) (onLogin k (hold sv i n) out clock .out))
+      (check-same session false (length out))
       ∙ login-moved (checkOf sv l session false (length out)) session clock out (λ j e q. goes sv l (login session clock out) j i e d (sym q))
   apart-call (receive session clock input out) d =
       ap (λ (k : Check). onCheck k (hold sv i n) (keep l i p) out clock input) (check-same session true (length out))
-      ∙ receive-moved (checkOf sv l session true (length out)) session clock input out refl (λ j e q. goes sv l (receive session clock input out) j i e d (sym q))
+      ∙ receive-moved (checkOf sv l session true (length out)) session clock input out refl
+      (λ j e q. goes sv l (receive session clock input out) j i e d (sym q))
   apart-call (request session out) d =
-      ap (λ (k : Check). outcome (onRequest k (hold sv i n) (keep l i p) out .done) (keep l i p) (onRequest k (hold sv i n) (keep l i p) out .out)) (check-same session true (length out))
+      ap (λ (k : Check). outcome (onRequest k (hold sv i n) (keep l i p) out .done) (keep l i p) (onRequest k (hold sv i n) (keep l i p) out .out))
+      (check-same session true (length out))
       ∙ request-moved (checkOf sv l session true (length out)) out (λ j e q. goes sv l (request session out) j i e d (sym q))
   apart-call (lose session) d =
       ap

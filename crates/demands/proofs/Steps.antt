@@ -65,7 +65,8 @@ pub record FramedFacts (taken : ℕ) (f : Framed) : Type 0 where
   pub size : sizeIn (f .frame) ≤ 256
   pub info : length (f .info) ≡ 256
 
-pub framed-facts : (taken : ℕ) (v : Event) → ((kind : ℕ) (info : List ℕ) → v ≡ packet kind info → length info ≤ 256) → FramedFacts taken (answerBy taken none-held (some v))
+pub framed-facts : (taken : ℕ) (v : Event) → ((kind : ℕ) (info : List ℕ) → v ≡ packet kind info → length info ≤ 256)
+    → FramedFacts taken (answerBy taken none-held (some v))
 unfolding answerBy withoutPacket sizeIn
 framed-facts taken (packet kind info) h =
     record { took = refl; held = refl; size = h kind info refl; info = padded-length info (h kind info refl) }
@@ -174,7 +175,8 @@ module _ (sv : Server) (l : Lent) (session clock : ℕ) (input out : List ℕ) (
       (answerBy (e .taken) none-held (some (e .event)) .info) (partsOf sv i (mem (l .disk) (l .map) (l .owner) (l .table) (l .selected))))
   unfolding actAt
   carried-at e f =
-      carried.carried (withHeld (linkOf sv i) 0) (sv .last) clock (sv .most) _ _ (partsOf sv i (mem (l .disk) (l .map) (l .owner) (l .table) (l .selected)))
+      carried.carried (withHeld (linkOf sv i) 0) (sv .last) clock (sv .most) _ _
+      (partsOf sv i (mem (l .disk) (l .map) (l .owner) (l .table) (l .selected)))
       (ready (framed-facts (e .taken) (e .event) (e .info))) _
       (decided.decide-proper (withHeld (linkOf sv i) 0) (sv .links) _ _ _ _) f
     where
@@ -212,14 +214,16 @@ module _ (sv : Server) (l : Lent) (session clock : ℕ) (input out : List ℕ) (
   unfolding turnAt actAt actOf
   turn-closes e f =
       ap (λ (t : Turned). putBack sv i (mem (l .disk) (l .map) (l .owner) (l .table) (l .selected)) t)
-      (carried.carried-close (actAt e) (withHeld (linkOf sv i) 0) (sv .last) clock (sv .most) _ _ (partsOf sv i (mem (l .disk) (l .map) (l .owner) (l .table) (l .selected))) f)
+      (carried.carried-close (actAt e) (withHeld (linkOf sv i) 0) (sv .last) clock (sv .most) _ _
+      (partsOf sv i (mem (l .disk) (l .map) (l .owner) (l .table) (l .selected))) f)
       ∙ put-back-closed sv i (mem (l .disk) (l .map) (l .owner) (l .table) (l .selected)) selection-part
 
   pub turn-acted : (e : Ended (part (i * 258) 258 (l .held)) (linkOf sv i .held) input)
       → Acted sv i (withHeld (linkOf sv i) 0) (mem (l .disk) (l .map) (l .owner) (l .table) (l .selected)) (turnAt e)
   turn-acted e = go (closes (actAt e)) refl
     where
-      go : (t : Bool) → closes (actAt e) ≡ t → Acted sv i (withHeld (linkOf sv i) 0) (mem (l .disk) (l .map) (l .owner) (l .table) (l .selected)) (turnAt e)
+      go : (t : Bool) → closes (actAt e) ≡ t
+          → Acted sv i (withHeld (linkOf sv i) 0) (mem (l .disk) (l .map) (l .owner) (l .table) (l .selected)) (turnAt e)
       go true q = closing (turn-closes e q)
       go false q = turn-stays e q
 

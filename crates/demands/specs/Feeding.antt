@@ -1,5 +1,5 @@
--- The cut theorem for a driver (demand 2): "First, the server must hear the command, however the radio link chops the bytes." A driver lends the bytes
--- of a link piece by piece and calls until each piece is used up; the pieces do not matter. Assumes nothing.
+-- The cut theorem for a driver (demand 2): "First, the server must hear the command, however the radio link chops the bytes." A driver lends the
+-- bytes of a link piece by piece and calls until each piece is used up; the pieces do not matter. Assumes nothing.
 use mathlib.Core.Path.{_≡_}
 use mathlib.Core.Bool.{true}
 use mathlib.Core.List.{List, [], _∷_, _++_, flatten}
@@ -44,7 +44,8 @@ feedAll st session clock out bytes = feed (length bytes) st session clock out by
 
 abbrev pub EnoughCalls : Type 0
 EnoughCalls =
-    (st : State) (session clock : ℕ) (out bytes : List ℕ) (k : ℕ) → length bytes ≤ k → feed k st session clock out bytes ≡ feedAll st session clock out bytes
+    (st : State) (session clock : ℕ) (out bytes : List ℕ)
+    (k : ℕ) → length bytes ≤ k → feed k st session clock out bytes ≡ feedAll st session clock out bytes
 
 -- the pieces, one after the other
 unfoldable pub feedPieces : State → ℕ → ℕ → List ℕ → List (List ℕ) → Fed

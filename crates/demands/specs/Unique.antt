@@ -20,7 +20,8 @@ pub record CallsDetermined : Type 0 where
   -- the result and the output; all else is only read
   pub login : (sv : Server) (l : Lent) (out : List ℕ) (session clock : ℕ) → Determined {A = Opened} (loginOf sv l out session clock)
   -- the result, all slices and the output
-  pub receive : (sv : Server) (l : Lent) (out : List ℕ) (session clock : ℕ) (input : List ℕ) → Determined {A = Outcome} (receiveOf sv l out session clock input)
+  pub receive : (sv : Server) (l : Lent) (out : List ℕ) (session clock : ℕ) (input : List ℕ)
+      → Determined {A = Outcome} (receiveOf sv l out session clock input)
   -- the result and the output; all else is only read
   pub request : (sv : Server) (l : Lent) (out : List ℕ) (session : ℕ) → Determined {A = Opened} (requestOf sv l out session)
   -- the result, the selections and the unfinished packets; all else is only read
