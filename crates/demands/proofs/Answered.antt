@@ -29,15 +29,16 @@ use Rattle.server.specs.declared.Server.{Server}
 use Rattle.server.specs.declared.check.Check.{Check}
 use Rattle.server.specs.declared.check.Check.the-variants.{Go, Refuse}
 use Rattle.server.specs.State.{Lent, lent, Outcome, outcome, doneWith, linkOf, withLink, withTurn, withPart, ownerPart, tablePart}
-use Rattle.server.specs.Check.{checkOf}
+use Rattle.server.specs.Check.{fits, checkOf}
 use Rattle.server.specs.Sending.{Due, leastOf, bytesFrom, dataOf, sendingOf, dueOf}
 use Rattle.server.specs.Calls.{onLogin, loginOf, onLose, loseOf, dueAs, onRequest, requestOf, onCheck, receiveOf}
+use Rattle.server.specs.Making.{newServer, makeOf}
 use Rattle.history.specs.Calls.{Call, login, receive, request, lose, callOf}
 use Rattle.demands.specs.Parts.{sessionIn, bytesIn, outIn, openIn, roomIn, checkIn, oneOf}
 use Rattle.demands.specs.Demand1.{Sends, Answers, refuses, silent, closes, sends, EveryCallAnswers, RefusedBy, Fits, IsSound}
 use Rattle.demands.specs.Demand1.{Reachable, EveryLocalRefusal, Says, forgotten, cleared, NothingElse, uploadErrors, downloadErrors}
-use Rattle.demands.specs.Demand1.{naks, PacketRefusal, UploadOver, EveryUploadError, EveryDownloadError, Naks, EveryNak, Demand1}
-use Rattle.demands.proofs.Checks.{check-33, check-35, check-sound, session-34, session-through, check-through, check-refuses}
+use Rattle.demands.specs.Demand1.{naks, PacketRefusal, UploadOver, EveryUploadError, EveryDownloadError, Naks, EveryNak, EveryMaking, Demand1}
+use Rattle.demands.proofs.Checks.{check-33, check-35, check-sound, session-34, session-through, check-through, check-refuses, not-true}
 use Rattle.demands.proofs.Carried.{isPlain}
 use Rattle.demands.proofs.Steps as steps
 
@@ -387,6 +388,23 @@ every-local-refusal sv l c =
         check-sound sv l (sessionIn c) (openIn c) (roomIn c) f s
         ∙ session-through sv l (sessionIn c) (openIn c) (roomIn c) (r .from-one) (r .in-range) (r .in-state)
 
+-- ---- THEOREM: making a server
+
+-- the arm that a test picks
+when-true : {A : Type 0} (t : Bool) (x y : A) → t ≡ true → cond t x y ≡ x
+when-true t x y e = ap (λ (b : Bool). cond b x y) e
+
+when-false : {A : Type 0} (t : Bool) (x y : A) → t ≡ false → cond t x y ≡ y
+when-false t x y e = ap (λ (b : Bool). cond b x y) e
+
+pub every-making : EveryMaking
+unfolding makeOf
+every-making blocks files sessions most disk map owner table selected held =
+    record {
+      by33 = λ h. when-false (fits (newServer blocks files sessions most) disk map owner table selected held) _ _ (not-true _ h);
+      by-none = λ h. when-true (fits (newServer blocks files sessions most) disk map owner table selected held) _ _ h;
+    }
+
 -- ---- the packets of refusal
 
 pub data OneByte (kind e : ℕ) : Reply → Type 0 where
@@ -569,6 +587,7 @@ demand-1 =
     record {
       answers = every-call-answers;
       locals = every-local-refusal;
+      making = every-making;
       upload-errors = every-upload-error;
       download-errors = every-download-error;
       naks = every-nak;

@@ -17,6 +17,7 @@ use Rattle.demands.specs.Demand2.{WrittenReadsBack, SentReads, SentReads
 use Rattle.demands.proofs.Answered.{every-call-answers}
 use Rattle.demands.proofs.ClosingIsLosing.{closing-is-losing, every-closing}
 use Rattle.demands.proofs.CutCalls.{cut-elsewhere}
+use Rattle.demands.proofs.Earlier.{lent-earlier}
 use Rattle.demands.proofs.Feeding.{enough-calls, pieces-elsewhere}
 
 -- THEOREM: what the writer leaves reads back
@@ -65,6 +66,7 @@ module _ (good-kept : (sv : Server) (l : Lent) → Good sv l → (c : Call) → 
         closing = every-closing;
         closing-is-losing = closing-is-losing;
         cut = cut-elsewhere good-kept good-after;
+        earlier = lent-earlier good-kept good-after;
         enough = enough-calls;
         pieces = pieces-elsewhere good-kept good-after;
       }

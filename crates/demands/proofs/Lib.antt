@@ -11,5 +11,6 @@ pub mod Held
 pub mod Joined
 pub mod Others
 pub mod CutCalls
+pub mod Earlier
 pub mod Feeding
 pub mod Demand2

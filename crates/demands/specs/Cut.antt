@@ -1,10 +1,11 @@
 -- The cut theorem (demand 2): "Cutting elsewhere the bytes that a link takes, with each packet and closing byte at the same clock and in the same
 -- place among the other calls, changes no packet sent and no state after it." Assumes nothing.
 use mathlib.Core.Path.{_≡_}
-use mathlib.Core.Bool.{true}
+use mathlib.Core.Bool.{Bool, true, false, cond}
 use mathlib.Core.List.{List, [], _∷_, _++_}
 use mathlib.Core.Option.{Option, none, some}
 use Prim.Native.Nat.{ℕ, _-_, _≤_}
+use lib.Dec.{eqb}
 use lib.ListN.{length, take}
 use Rattle.packet.specs.Frame.{Event}
 use Rattle.session.specs.declared.reply.Answer.{Answer}
@@ -76,3 +77,27 @@ pub record SameAfter (s : Start) (h k : History) : Type 0 where
 
 abbrev pub CutElsewhere : Type 0
 CutElsewhere = (s : Start) → legal s ≡ true → (h k : History) → Recut s h k → SameAfter s h k
+
+-- ---- a plain form of it, with any calls for other sessions between
+
+-- a history and then calls
+infixl 20 _▸▸_
+abbrev pub _▸▸_ : History → List Call → History
+h ▸▸ [] = h
+h ▸▸ (c ∷ cs) = (h ▸ c) ▸▸ cs
+
+-- calls for other sessions alone
+abbrev pub others : ℕ → List Call → Bool
+others session [] = true
+others session (c ∷ cs) = cond (eqb (sessionIn c) session) false (others session cs)
+
+-- bytes that end nothing may be lent earlier, or together with the next ones, whatever the other sessions do between
+abbrev pub LentEarlier : Type 0
+LentEarlier =
+    (s : Start) → legal s ≡ true → (h : History) (session clock clock′ : ℕ) (xs ys out out′ : List ℕ) (cs : List Call)
+    → 1 ≤ session
+    → endsIn s h session xs ≡ none
+    → others session cs ≡ true
+    → 258 ≤ length out
+    → 258 ≤ length out′
+    → SameAfter s ((h ▸ receive session clock xs out) ▸▸ cs ▸ receive session clock′ ys out′) (h ▸▸ cs ▸ receive session clock′ (xs ++ ys) out′)

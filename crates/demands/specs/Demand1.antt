@@ -14,6 +14,7 @@ use Rattle.session.specs.State.{closedSession, withHeld, withUp}
 use Rattle.server.specs.declared.Server.{Server}
 use Rattle.server.specs.State.{Lent, lent, Outcome, outcome, doneWith, linkOf, withLink, withPart}
 use Rattle.server.specs.Check.{fits, soundParts}
+use Rattle.server.specs.Making.{newServer, emptied, emptyOf, makes, makeOf}
 use Rattle.history.specs.Calls.{Call, receive, callOf}
 use Rattle.demands.specs.Parts.{sessionIn, bytesIn, outIn, openIn, roomIn, oneOf}
 
@@ -94,6 +95,22 @@ pub record LocalRefusals (sv : Server) (l : Lent) (c : Call) : Type 0 where
 abbrev pub EveryLocalRefusal : Type 0
 EveryLocalRefusal = (sv : Server) (l : Lent) (c : Call) → LocalRefusals sv l c
 
+-- ---- making a server: 33, where nothing changes, or a server; there is no other refusal
+
+pub record MakingAnswers (blocks files sessions most disk : ℕ) (map owner table selected held : List ℕ) : Type 0 where
+  pub by33 : (fits (newServer blocks files sessions most) disk map owner table selected held ≡ true → ⊥)
+      → makeOf blocks files sessions most disk map owner table selected held
+      ≡ makes (record { refused = 33; server = newServer blocks files sessions most }) (emptied map owner table selected held)
+  pub by-none : fits (newServer blocks files sessions most) disk map owner table selected held ≡ true
+      → makeOf blocks files sessions most disk map owner table selected held
+      ≡ makes (record { refused = 0; server = newServer blocks files sessions most })
+      (emptyOf blocks files sessions most map owner table selected held)
+
+abbrev pub EveryMaking : Type 0
+EveryMaking =
+    (blocks files sessions most disk : ℕ) (map owner table selected held : List ℕ)
+    → MakingAnswers blocks files sessions most disk map owner table selected held
+
 -- ---- the refusals that go out as a packet: "1 to 16 go out as a packet: UL_ERROR to UPLOAD, UL_NAK to data, DL_ERROR on the downlink"
 
 -- a receive call answers by a packet of this type with one byte of information
@@ -165,6 +182,7 @@ EveryNak =
 pub record Demand1 : Type 0 where
   pub answers : EveryCallAnswers
   pub locals : EveryLocalRefusal
+  pub making : EveryMaking
   pub upload-errors : EveryUploadError
   pub download-errors : EveryDownloadError
   pub naks : EveryNak

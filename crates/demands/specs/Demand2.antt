@@ -12,7 +12,7 @@ use Rattle.server.specs.declared.Server.{Server}
 use Rattle.server.specs.State.{Lent, Outcome}
 use Rattle.history.specs.Calls.{Call, callOf}
 use Rattle.demands.specs.Closing.{ClosingIsLosing, EveryClosing}
-use Rattle.demands.specs.Cut.{CutElsewhere}
+use Rattle.demands.specs.Cut.{CutElsewhere, LentEarlier}
 use Rattle.demands.specs.Feeding.{EnoughCalls, PiecesElsewhere}
 
 -- the reader finds this type and this information in front of the bytes
@@ -43,6 +43,8 @@ pub record Demand2 : Type 0 where
   pub closing : EveryClosing
   pub closing-is-losing : ClosingIsLosing
   pub cut : CutElsewhere
+  -- a plain form of it
+  pub earlier : LentEarlier
   -- the same for a driver that lends one link's bytes in pieces
   pub enough : EnoughCalls
   pub pieces : PiecesElsewhere
