@@ -40,7 +40,7 @@ use Rattle.demands.specs.Demand1.{Reachable, EveryLocalRefusal, Says, fo
 use Rattle.demands.specs.Demand1.{naks, PacketRefusal, UploadOver, EveryUploadError, EveryDownloadError, Naks, EveryNak, EveryMaking, Demand1}
 use Rattle.demands.proofs.Checks.{check-33, check-35, check-sound, session-34, session-through, check-through, check-refuses, not-true}
 use Rattle.demands.proofs.Carried.{isPlain}
-use Rattle.demands.proofs.Steps as steps
+use Rattle.demands.proofs.Receiving as steps
 
 -- ---- what a reply puts out
 

@@ -27,9 +27,9 @@ use Rattle.server.specs.Calls.{onLose, loseOf, stepOf, onCheck, receiveOf}
 use Rattle.history.specs.Calls.{lose, callOf}
 use Rattle.demands.specs.Closing.{ClosesBy, SameAsLost, ClosingIsLosing, Unwelcome, long, unexpected, ClosesExactly, EveryClosing}
 use Rattle.demands.proofs.Checks.{Through, check-sound, check-through, through-again}
-use Rattle.demands.proofs.Heard.{Ended, Hears, unended, ended}
+use Rattle.demands.proofs.Hearing.{Ended, Hears, unended, ended}
 use Rattle.demands.proofs.Carried.{isPlain}
-use Rattle.demands.proofs.Steps as steps
+use Rattle.demands.proofs.Receiving as steps
 use Rattle.demands.proofs.Answered.{Tells, quiet, closing, sending, tells}
 
 clash : false ≡ true → ⊥

@@ -28,11 +28,11 @@ use Rattle.demands.specs.Closing.{eventAt}
 use Rattle.demands.specs.Cut.{Seen, seenIn, seenOf, seen, endsIn, Recut, same, back, chain, also, joined, empty, passed, untaken}
 use Rattle.demands.specs.Cut.{SameAfter, CutElsewhere}
 use Rattle.demands.proofs.Checks.{check-through, state-facts, good-check, through-again}
-use Rattle.demands.proofs.Heard.{Unended}
+use Rattle.demands.proofs.Hearing.{Unended}
 use Rattle.demands.proofs.Held.{hold, keep, withLinks, hold-seen}
 use Rattle.demands.proofs.Joined.{shift, shifted, rest-untouched, step-joined}
 use Rattle.demands.proofs.Others.{session-same, others-sessions, others-link, others-part, moved, apart-call}
-use Rattle.demands.proofs.Steps as steps
+use Rattle.demands.proofs.Receiving as steps
 
 -- ---- by the check
 

@@ -26,7 +26,7 @@ use Rattle.demands.specs.Feeding.{Fed, fed, andThen, onward, feed, feedA
 use Rattle.demands.proofs.Joined.{shift, shifted, rest-untouched}
 use Rattle.demands.proofs.Answered.{Tells, quiet, closing, sending, tells, every-call-answers}
 use Rattle.demands.proofs.CutCalls.{refused-receive, no-packet, joined-call, seen-shift, unended-seen}
-use Rattle.demands.proofs.Steps as steps
+use Rattle.demands.proofs.Receiving as steps
 
 -- the state that an outcome leaves
 abbrev left : Outcome → State

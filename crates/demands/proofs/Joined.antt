@@ -30,10 +30,10 @@ use Rattle.server.specs.Turns.{hearOf, actOf}
 use Rattle.server.specs.Calls.{answeredBy, heardBy, stepOf, onCheck, receiveOf}
 use Rattle.demands.specs.Closing.{eventAt}
 use Rattle.demands.proofs.Checks.{Through, check-through, state-facts}
-use Rattle.demands.proofs.Heard.{Unended}
+use Rattle.demands.proofs.Hearing.{Unended}
 use Rattle.demands.proofs.Parts.{part-own, with-over}
 use Rattle.demands.proofs.Held.{hold, keep, hold-own, act-same}
-use Rattle.demands.proofs.Steps as steps
+use Rattle.demands.proofs.Receiving as steps
 use Rattle.links.proofs.Facts.{part-end}
 
 -- ---- an answer that took k bytes more

@@ -1,8 +1,8 @@
 pub mod Checks
-pub mod Heard
-pub mod Decided
+pub mod Hearing
+pub mod Deciding
 pub mod Carried
-pub mod Steps
+pub mod Receiving
 pub mod Answered
 pub mod ClosingIsLosing
 pub mod Unique

@@ -27,11 +27,11 @@ use Rattle.history.specs.Good.{Good}
 use Rattle.links.proofs.Facts.{part-end}
 use Rattle.demands.specs.Parts.{sessionIn, openIn, roomIn, checkIn}
 use Rattle.demands.proofs.Checks.{Through, StateFacts, check-through, state-facts, good-check}
-use Rattle.demands.proofs.Heard.{Hears, unended, ended}
+use Rattle.demands.proofs.Hearing.{Hears, unended, ended}
 use Rattle.demands.proofs.Parts.{part-other, with-comm}
 use Rattle.demands.proofs.Held.{hold, keep, withLinks, hold-other, hold-seen, act-same}
 use Rattle.demands.proofs.Joined.{stepWith, step-with}
-use Rattle.demands.proofs.Steps as steps
+use Rattle.demands.proofs.Receiving as steps
 
 -- ---- the check of a call
 

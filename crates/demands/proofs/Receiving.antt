@@ -34,8 +34,8 @@ use Rattle.server.specs.Calls.{answeredBy, heardBy, stepOf, onCheck, receiveOf}
 use Rattle.demands.specs.Parts.{oneOf}
 use Rattle.demands.specs.Demand1.{uploadErrors, downloadErrors, naks, UploadOver}
 use Rattle.demands.proofs.Checks.{Through, StateFacts, check-through, check-refuses, state-facts, part-length, held-few}
-use Rattle.demands.proofs.Heard.{Unended, Ended, Hears, unended, ended, hears}
-use Rattle.demands.proofs.Decided as decided
+use Rattle.demands.proofs.Hearing.{Unended, Ended, Hears, unended, ended, hears}
+use Rattle.demands.proofs.Deciding as decided
 use Rattle.demands.proofs.Carried as carried
 
 -- ---- parts put back
