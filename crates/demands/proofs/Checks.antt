@@ -18,7 +18,6 @@ use Rattle.server.specs.declared.check.Check.the-variants.{Go, Refuse}
 use Rattle.server.specs.State.{Lent, linkOf, mapPart, ownerPart, tablePart, part}
 use Rattle.server.specs.Check.{sizesFit, fits, soundParts, inState, sessionCheck, checkParts, checkOf}
 use Rattle.server.proofs.CheckLaws as laws
-use Rattle.history.specs.Good.{Good}
 use Rattle.demands.specs.Parts.{oneOf}
 use Rattle.demands.specs.Demand1.{Fits, IsSound}
 
@@ -198,11 +197,6 @@ module _ (sv : Server) (l : Lent) (session : ℕ) (wanted : Bool) (room : ℕ) w
         le-ltb room′ 258 h,
         t .index,
       )
-
--- on a state that calls made
-pub good-check : (sv : Server) (l : Lent) → Good sv l → (session : ℕ) (wanted : Bool) (room : ℕ)
-    → checkOf sv l session wanted room ≡ sessionCheck sv session wanted room
-good-check sv l g session wanted room = check-sound sv l session wanted room (g .fits) (g .sound)
 
 -- ---- the facts of a state that is not refused by 33 or 35
 

@@ -1,6 +1,5 @@
 -- Demand 2's sentences on packets, closing and cutting, together. Assumes nothing.
 use mathlib.Core.Path.{_≡_, sym, ap, _∙_}
-use mathlib.Core.Bool.{true}
 use mathlib.Core.List.{List}
 use Prim.Native.Nat.{ℕ, _+_}
 use native.Mathlib.Omega.{arith}
@@ -8,10 +7,8 @@ use lib.ListN.{length, take, drop}
 use Rattle.packet.specs.Packet.{leftIn, readAnswer}
 use Rattle.packet.proofs.PacketLaws.{accepted, reads-back, info-back, written-reads-back}
 use Rattle.session.specs.declared.reply.Answer.the-variants as answer
-use Rattle.server.specs.declared.Server.{Server}
-use Rattle.server.specs.State.{Lent, Outcome}
-use Rattle.history.specs.Calls.{Call, callOf, Start, legal, History, after}
-use Rattle.history.specs.Good.{Good}
+use Rattle.server.specs.State.{Outcome}
+use Rattle.history.specs.Calls.{callOf}
 use Rattle.demands.specs.Demand1.{Answers, refuses, silent, closes, sends}
 use Rattle.demands.specs.Demand2.{WrittenReadsBack, SentReads, SentReadsBack, Demand2}
 use Rattle.demands.proofs.Answered.{every-call-answers}
@@ -56,17 +53,15 @@ every-sent-reads-back sv l c taken size e = go (every-call-answers sv l c)
         }
 
 -- THEOREM: demand 2's sentences. What every call keeps is proved in crates/history.
-module _ (good-kept : (sv : Server) (l : Lent) → Good sv l → (c : Call) → Good (callOf sv l c .done .server) (callOf sv l c .lent))
-    (good-after : (s : Start) → legal s ≡ true → (h : History) → Good (after s h .server) (after s h .lent)) where
-  pub demand-2 : Demand2
-  demand-2 =
-      record {
-        written = every-written-reads-back;
-        sent = every-sent-reads-back;
-        closing = every-closing;
-        closing-is-losing = closing-is-losing;
-        cut = cut-elsewhere good-kept good-after;
-        earlier = lent-earlier good-kept good-after;
-        enough = enough-calls;
-        pieces = pieces-elsewhere good-kept good-after;
-      }
+pub demand-2 : Demand2
+demand-2 =
+    record {
+      written = every-written-reads-back;
+      sent = every-sent-reads-back;
+      closing = every-closing;
+      closing-is-losing = closing-is-losing;
+      cut = cut-elsewhere;
+      earlier = lent-earlier;
+      enough = enough-calls;
+      pieces = pieces-elsewhere;
+    }

@@ -1,23 +1,22 @@
 -- Bytes that end nothing may be lent earlier among the calls of other sessions. Assumes nothing.
-use mathlib.Core.Path.{_≡_, refl, sym, ap, _∙_}
+use mathlib.Core.Path.{_≡_, refl, ap, _∙_}
 use mathlib.Core.Bool.{Bool, true, false, cond}
 use mathlib.Core.List.{List, [], _∷_, _++_}
-use mathlib.Core.Option.{Option, none}
+use mathlib.Core.Option.{none}
 use Prim.Native.Nat.{ℕ, _+_, _*_, _-_, _≤_}
 use native.Mathlib.Omega.{arith}
 use borrow.Author.Tests.{eqb-false}
 use lib.Dec.{eqb}
 use lib.ListN.{length}
 use Rattle.packet.specs.Machine.{call}
-use Rattle.packet.specs.Frame.{Event, byte}
+use Rattle.packet.specs.Frame.{byte}
 use Rattle.session.specs.declared.state.Session.{Session}
 use Rattle.server.specs.declared.Server.{Server}
 use Rattle.server.specs.State.{Lent, linkOf, part}
-use Rattle.history.specs.Calls.{Call, receive, callOf, Start, legal, History, _▸_, after}
-use Rattle.history.specs.Good.{Good}
+use Rattle.history.specs.Calls.{Call, receive, callOf, Start, History, _▸_, after}
 use Rattle.demands.specs.Parts.{sessionIn}
 use Rattle.demands.specs.Closing.{eventAt}
-use Rattle.demands.specs.Cut.{endsIn, Recut, same, chain, also, joined, passed, SameAfter, _▸▸_, others, LentEarlier}
+use Rattle.demands.specs.Cut.{endsIn, Recut, same, chain, also, joined, passed, _▸▸_, others, LentEarlier}
 use Rattle.demands.proofs.CutCalls.{cut-elsewhere}
 use Rattle.demands.proofs.Others.{others-link, others-part}
 
@@ -55,7 +54,8 @@ module _ (s : Start) where
     all-passed (c ∷ cs) h e o =
         let p = first-other (eqb (sessionIn c) session) (others session cs) o in
         let other = eqb-false (sessionIn c) session (p .0) in
-        chain ((h ▸ receive session clock xs out ▸ c) ▸▸ cs) ((h ▸ c ▸ receive session clock xs out) ▸▸ cs) ((h ▸ c) ▸▸ cs ▸ receive session clock xs out)
+        chain ((h ▸ receive session clock xs out ▸ c) ▸▸ cs) ((h ▸ c ▸ receive session clock xs out) ▸▸ cs)
+        ((h ▸ c) ▸▸ cs ▸ receive session clock xs out)
         (all-after cs (h ▸ receive session clock xs out ▸ c) (h ▸ c ▸ receive session clock xs out) (passed h session clock xs out c e other))
         (all-passed cs (h ▸ c) (ends-kept s h c session xs one other ∙ e) (p .1))
 
@@ -79,8 +79,6 @@ module _ (s : Start) where
       (joined (h ▸▸ cs) session clock clock′ xs ys out out′ (all-ends session clock xs out one cs h e o) a b)
 
 -- THEOREM: bytes that end nothing may be lent earlier
-module _ (good-kept : (sv : Server) (l : Lent) → Good sv l → (c : Call) → Good (callOf sv l c .done .server) (callOf sv l c .lent))
-    (good-after : (s : Start) → legal s ≡ true → (h : History) → Good (after s h .server) (after s h .lent)) where
-  pub lent-earlier : LentEarlier
-  lent-earlier s lawful h session clock clock′ xs ys out out′ cs one e o a b =
-      cut-elsewhere good-kept good-after s lawful _ _ (recut-earlier s h session clock clock′ xs ys out out′ cs one e o a b)
+pub lent-earlier : LentEarlier
+lent-earlier s lawful h session clock clock′ xs ys out out′ cs one e o a b =
+    cut-elsewhere s lawful _ _ (recut-earlier s h session clock clock′ xs ys out out′ cs one e o a b)

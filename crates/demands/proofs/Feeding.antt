@@ -13,12 +13,13 @@ use Rattle.session.specs.declared.reply.Answer.{Answer}
 use Rattle.session.specs.declared.reply.Answer.the-variants as answer
 use Rattle.session.specs.State.{closedSession}
 use Rattle.session.specs.Reply.{Told, tell}
-use Rattle.server.specs.declared.Server.{Server}
 use Rattle.server.specs.declared.check.Check.the-variants.{Refuse}
-use Rattle.server.specs.State.{Lent, Outcome, linkOf}
+use Rattle.server.specs.State.{Outcome, linkOf}
 use Rattle.server.specs.Check.{checkOf}
-use Rattle.history.specs.Calls.{Call, receive, callOf, State, state, Start, legal, History, after}
+use Rattle.history.specs.Calls.{receive, callOf, State, state, after}
 use Rattle.history.specs.Good.{Good}
+use Rattle.history.proofs.Kept.{good-kept}
+use Rattle.history.proofs.Histories.{good-after}
 use Rattle.demands.specs.Closing.{eventAt}
 use Rattle.demands.specs.Demand1.{Answers, refuses, silent, closes, sends}
 use Rattle.demands.specs.Cut.{Seen, seenIn}
@@ -341,98 +342,97 @@ enough-calls st session clock out bytes k h = enough session clock out k (length
 
 -- ---- on states that calls made
 
-module _ (good-kept : (sv : Server) (l : Lent) → Good sv l → (c : Call) → Good (callOf sv l c .done .server) (callOf sv l c .lent)) where
-  module _ (session clock : ℕ) (out : List ℕ) (room : 258 ≤ length out) where
-    -- one piece after another, or both together
-    parted : (k : ℕ) (st : State) (xs ys : List ℕ) → Good (st .server) (st .lent) → length xs ≤ k → Parted session clock out st xs ys
-    unfolding feed
-    parted zero st [] ys good h = refl
-    parted zero st (x ∷ xs) ys good h = absurd (omega arith)
-    parted (suc k) st [] ys good h = refl
-    parted (suc k) st (x ∷ xs) ys good h =
-        on (eventAt (st .server) (st .lent) (session - 1) (x ∷ xs)) refl (λ t zs ws g l. parted k t zs ws g l)
-      where
-        kept : Good (at session clock out st (x ∷ xs) .done .server) (at session clock out st (x ∷ xs) .lent)
-        kept = good-kept (st .server) (st .lent) good (receive session clock (x ∷ xs) out)
+module _ (session clock : ℕ) (out : List ℕ) (room : 258 ≤ length out) where
+  -- one piece after another, or both together
+  parted : (k : ℕ) (st : State) (xs ys : List ℕ) → Good (st .server) (st .lent) → length xs ≤ k → Parted session clock out st xs ys
+  unfolding feed
+  parted zero st [] ys good h = refl
+  parted zero st (x ∷ xs) ys good h = absurd (omega arith)
+  parted (suc k) st [] ys good h = refl
+  parted (suc k) st (x ∷ xs) ys good h =
+      on (eventAt (st .server) (st .lent) (session - 1) (x ∷ xs)) refl (λ t zs ws g l. parted k t zs ws g l)
+    where
+      kept : Good (at session clock out st (x ∷ xs) .done .server) (at session clock out st (x ∷ xs) .lent)
+      kept = good-kept (st .server) (st .lent) good (receive session clock (x ∷ xs) out)
 
-        in-first : (e : Event) → eventAt (st .server) (st .lent) (session - 1) (x ∷ xs) ≡ some e
-            → ((st : State) (zs ys : List ℕ) → Good (st .server) (st .lent) → length zs ≤ k → Parted session clock out st zs ys)
-            → Went session clock out (length (x ∷ xs)) (at session clock out st (x ∷ xs))
-            → Parted session clock out st (x ∷ xs) ys
-        in-first e q ih (stops s) =
-            parted-stops session clock out st (x ∷ xs) ys (omega arith) (rest-untouched (st .server) (st .lent) session clock (x ∷ xs) ys out e q) s
-        in-first e q ih (goes g) =
-            parted-goes session clock out st (x ∷ xs) ys (omega arith) (rest-untouched (st .server) (st .lent) session clock (x ∷ xs) ys out e q) g
-            (ih (left (at session clock out st (x ∷ xs))) (drop (g .taken) (x ∷ xs)) ys kept
-            (dropped session clock out (g .taken) k x xs (g .some-taken (omega arith)) h))
+      in-first : (e : Event) → eventAt (st .server) (st .lent) (session - 1) (x ∷ xs) ≡ some e
+          → ((st : State) (zs ys : List ℕ) → Good (st .server) (st .lent) → length zs ≤ k → Parted session clock out st zs ys)
+          → Went session clock out (length (x ∷ xs)) (at session clock out st (x ∷ xs))
+          → Parted session clock out st (x ∷ xs) ys
+      in-first e q ih (stops s) =
+          parted-stops session clock out st (x ∷ xs) ys (omega arith) (rest-untouched (st .server) (st .lent) session clock (x ∷ xs) ys out e q) s
+      in-first e q ih (goes g) =
+          parted-goes session clock out st (x ∷ xs) ys (omega arith) (rest-untouched (st .server) (st .lent) session clock (x ∷ xs) ys out e q) g
+          (ih (left (at session clock out st (x ∷ xs))) (drop (g .taken) (x ∷ xs)) ys kept
+          (dropped session clock out (g .taken) k x xs (g .some-taken (omega arith)) h))
 
-        none-in-first : eventAt (st .server) (st .lent) (session - 1) (x ∷ xs) ≡ none
-            → steps.Receives (st .server) (st .lent) session clock (x ∷ xs) out
-            → Parted session clock out st (x ∷ xs) ys
-        none-in-first q (steps.refused n o c r) =
-            stuck-refused session clock out st n c (length (x ∷ xs ++ ys)) (x ∷ xs ++ ys)
-            ∙ sym
-            (ap (λ (f : Fed). andThen (f .seen) (feedAll (f .state) session clock out ys))
-            (stuck-refused session clock out st n c (length (x ∷ xs)) (x ∷ xs))
-            ∙ stuck-refused session clock out st n c (length ys) ys)
-        none-in-first q (steps.ends-none f) =
-            parted-none session clock out st (x ∷ xs) ys (omega arith)
-            (joined-call good-kept (st .server) (st .lent) good session clock clock (x ∷ xs) ys out out q room room)
-            (unended-seen (st .server) (st .lent) session clock (x ∷ xs) out q)
-            (record {
-              taken = length (x ∷ xs);
-              within = omega arith;
-              some-taken = λ n. n;
-              on = on-quiet session clock out (at session clock out st (x ∷ xs)) (length (x ∷ xs)) (ap (λ (o : Outcome). o .done .answer) (f .is));
-            })
-            refl
-        none-in-first q (steps.ends-packet f) = absurd (no-packet (st .server) (st .lent) session clock (x ∷ xs) out q f)
+      none-in-first : eventAt (st .server) (st .lent) (session - 1) (x ∷ xs) ≡ none
+          → steps.Receives (st .server) (st .lent) session clock (x ∷ xs) out
+          → Parted session clock out st (x ∷ xs) ys
+      none-in-first q (steps.refused n o c r) =
+          stuck-refused session clock out st n c (length (x ∷ xs ++ ys)) (x ∷ xs ++ ys)
+          ∙ sym
+          (ap (λ (f : Fed). andThen (f .seen) (feedAll (f .state) session clock out ys))
+          (stuck-refused session clock out st n c (length (x ∷ xs)) (x ∷ xs))
+          ∙ stuck-refused session clock out st n c (length ys) ys)
+      none-in-first q (steps.ends-none f) =
+          parted-none session clock out st (x ∷ xs) ys (omega arith)
+          (joined-call (st .server) (st .lent) good session clock clock (x ∷ xs) ys out out q room room)
+          (unended-seen (st .server) (st .lent) session clock (x ∷ xs) out q)
+          (record {
+            taken = length (x ∷ xs);
+            within = omega arith;
+            some-taken = λ n. n;
+            on = on-quiet session clock out (at session clock out st (x ∷ xs)) (length (x ∷ xs)) (ap (λ (o : Outcome). o .done .answer) (f .is));
+          })
+          refl
+      none-in-first q (steps.ends-packet f) = absurd (no-packet (st .server) (st .lent) session clock (x ∷ xs) out q f)
 
-        on : (e : Option Event) → eventAt (st .server) (st .lent) (session - 1) (x ∷ xs) ≡ e
-            → ((st : State) (zs ys : List ℕ) → Good (st .server) (st .lent) → length zs ≤ k → Parted session clock out st zs ys)
-            → Parted session clock out st (x ∷ xs) ys
-        on none q ih = none-in-first q (steps.receives (st .server) (st .lent) session clock (x ∷ xs) out)
-        on (some e) q ih = in-first e q ih (went session clock out st (x ∷ xs))
+      on : (e : Option Event) → eventAt (st .server) (st .lent) (session - 1) (x ∷ xs) ≡ e
+          → ((st : State) (zs ys : List ℕ) → Good (st .server) (st .lent) → length zs ≤ k → Parted session clock out st zs ys)
+          → Parted session clock out st (x ∷ xs) ys
+      on none q ih = none-in-first q (steps.receives (st .server) (st .lent) session clock (x ∷ xs) out)
+      on (some e) q ih = in-first e q ih (went session clock out st (x ∷ xs))
 
-    -- the state stays good
-    fed-good : (k : ℕ) (st : State) (bytes : List ℕ) → Good (st .server) (st .lent)
-        → Good (feed k st session clock out bytes .state .server) (feed k st session clock out bytes .state .lent)
-    unfolding feed onward
-    fed-good zero st bytes good = good
-    fed-good (suc k) st [] good = good
-    fed-good (suc k) st (b ∷ bs) good =
-        go (at session clock out st (b ∷ bs) .done .answer) kept
-        (λ taken. fed-good k (left (at session clock out st (b ∷ bs))) (drop taken (b ∷ bs)) kept)
-      where
-        kept : Good (at session clock out st (b ∷ bs) .done .server) (at session clock out st (b ∷ bs) .lent)
-        kept = good-kept (st .server) (st .lent) good (receive session clock (b ∷ bs) out)
+  -- the state stays good
+  fed-good : (k : ℕ) (st : State) (bytes : List ℕ) → Good (st .server) (st .lent)
+      → Good (feed k st session clock out bytes .state .server) (feed k st session clock out bytes .state .lent)
+  unfolding feed onward
+  fed-good zero st bytes good = good
+  fed-good (suc k) st [] good = good
+  fed-good (suc k) st (b ∷ bs) good =
+      go (at session clock out st (b ∷ bs) .done .answer) kept
+      (λ taken. fed-good k (left (at session clock out st (b ∷ bs))) (drop taken (b ∷ bs)) kept)
+    where
+      kept : Good (at session clock out st (b ∷ bs) .done .server) (at session clock out st (b ∷ bs) .lent)
+      kept = good-kept (st .server) (st .lent) good (receive session clock (b ∷ bs) out)
 
-        go : (a : Answer) → Good (at session clock out st (b ∷ bs) .done .server) (at session clock out st (b ∷ bs) .lent)
-            → ((taken : ℕ)
-            → Good (feed k (left (at session clock out st (b ∷ bs))) session clock out (drop taken (b ∷ bs)) .state .server)
-            (feed k (left (at session clock out st (b ∷ bs))) session clock out (drop taken (b ∷ bs)) .state .lent))
-            → Good
-            (onward a (left (at session clock out st (b ∷ bs)))
-            (λ taken. feed k (left (at session clock out st (b ∷ bs))) session clock out (drop taken (b ∷ bs))) .state .server)
-            (onward a (left (at session clock out st (b ∷ bs)))
-            (λ taken. feed k (left (at session clock out st (b ∷ bs))) session clock out (drop taken (b ∷ bs))) .state .lent)
-        go (answer.Quiet taken) here ih = ih taken
-        go (answer.Sent taken size) here ih = ih taken
-        go (answer.Closed taken) here ih = here
-        go (answer.Refused n) here ih = here
+      go : (a : Answer) → Good (at session clock out st (b ∷ bs) .done .server) (at session clock out st (b ∷ bs) .lent)
+          → ((taken : ℕ)
+          → Good (feed k (left (at session clock out st (b ∷ bs))) session clock out (drop taken (b ∷ bs)) .state .server)
+          (feed k (left (at session clock out st (b ∷ bs))) session clock out (drop taken (b ∷ bs)) .state .lent))
+          → Good
+          (onward a (left (at session clock out st (b ∷ bs)))
+          (λ taken. feed k (left (at session clock out st (b ∷ bs))) session clock out (drop taken (b ∷ bs))) .state .server)
+          (onward a (left (at session clock out st (b ∷ bs)))
+          (λ taken. feed k (left (at session clock out st (b ∷ bs))) session clock out (drop taken (b ∷ bs))) .state .lent)
+      go (answer.Quiet taken) here ih = ih taken
+      go (answer.Sent taken size) here ih = ih taken
+      go (answer.Closed taken) here ih = here
+      go (answer.Refused n) here ih = here
 
-    pieces : (ps : List (List ℕ)) (st : State) → Good (st .server) (st .lent)
-        → feedPieces st session clock out ps ≡ feedAll st session clock out (flatten ps)
-    unfolding feedPieces flatten
-    pieces [] st good = sym (feed-nil session clock out 0 st)
-    pieces (p ∷ ps) st good =
-        ap (λ (f : Fed). andThen (feedAll st session clock out p .seen) f)
-        (pieces ps (feedAll st session clock out p .state) (fed-good (length p) st p good))
-        ∙ sym (parted (length p) st p (flatten ps) good (omega arith))
+  pieces : (ps : List (List ℕ)) (st : State) → Good (st .server) (st .lent)
+      → feedPieces st session clock out ps ≡ feedAll st session clock out (flatten ps)
+  unfolding feedPieces flatten
+  pieces [] st good = sym (feed-nil session clock out 0 st)
+  pieces (p ∷ ps) st good =
+      ap (λ (f : Fed). andThen (feedAll st session clock out p .seen) f)
+      (pieces ps (feedAll st session clock out p .state) (fed-good (length p) st p good))
+      ∙ sym (parted (length p) st p (flatten ps) good (omega arith))
 
-  -- THEOREM: the same bytes in other pieces give the same state and the same packets
-  pub pieces-elsewhere : (good-after : (s : Start) → legal s ≡ true → (h : History) → Good (after s h .server) (after s h .lent)) → PiecesElsewhere
-  pieces-elsewhere good-after s lawful h session clock out room ps qs e =
-      pieces session clock out room ps (after s h) (good-after s lawful h)
-      ∙ ap (λ (bytes : List ℕ). feedAll (after s h) session clock out bytes) e
-      ∙ sym (pieces session clock out room qs (after s h) (good-after s lawful h))
+-- THEOREM: the same bytes in other pieces give the same state and the same packets
+pub pieces-elsewhere : PiecesElsewhere
+pieces-elsewhere s lawful h session clock out room ps qs e =
+    pieces session clock out room ps (after s h) (good-after s lawful h)
+    ∙ ap (λ (bytes : List ℕ). feedAll (after s h) session clock out bytes) e
+    ∙ sym (pieces session clock out room qs (after s h) (good-after s lawful h))

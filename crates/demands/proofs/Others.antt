@@ -24,9 +24,10 @@ use Rattle.server.specs.Sending.{Due, dueOf}
 use Rattle.server.specs.Calls.{answeredBy, onCheck, receiveOf, onLogin, loginOf, onLose, loseOf, dueAs, onRequest, requestOf}
 use Rattle.history.specs.Calls.{Call, login, receive, request, lose, callOf}
 use Rattle.history.specs.Good.{Good}
+use Rattle.history.proofs.GoodFacts.{good-check}
 use Rattle.links.proofs.Facts.{part-end}
 use Rattle.demands.specs.Parts.{sessionIn, openIn, roomIn, checkIn}
-use Rattle.demands.proofs.Checks.{Through, StateFacts, check-through, state-facts, good-check}
+use Rattle.demands.proofs.Checks.{Through, StateFacts, check-through, state-facts}
 use Rattle.demands.proofs.Hearing.{Hears, unended, ended}
 use Rattle.demands.proofs.Parts.{part-other, with-comm}
 use Rattle.demands.proofs.Held.{hold, keep, withLinks, hold-other, hold-seen, act-same}
