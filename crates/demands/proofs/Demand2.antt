@@ -1,0 +1,67 @@
+-- Demand 2's sentences on packets, closing and cutting, together. Assumes nothing.
+use mathlib.Core.Path.{_≡_, sym, ap, _∙_}
+use mathlib.Core.List.{List}
+use Prim.Native.Nat.{ℕ, _+_}
+use native.Mathlib.Omega.{arith}
+use lib.ListN.{length, take, drop}
+use Rattle.packet.specs.Packet.{leftIn, readAnswer}
+use Rattle.packet.proofs.PacketLaws.{accepted, reads-back, info-back, written-reads-back}
+use Rattle.session.specs.declared.reply.Answer.the-variants as answer
+use Rattle.server.specs.State.{Outcome}
+use Rattle.history.specs.Calls.{callOf}
+use Rattle.demands.specs.Demand1.{Answers, refuses, silent, closes, sends}
+use Rattle.demands.specs.Demand2.{WrittenReadsBack, SentReads, SentReadsBack, Demand2}
+use Rattle.demands.proofs.Answered.{every-call-answers}
+use Rattle.demands.proofs.ClosingIsLosing.{closing-is-losing, every-closing}
+use Rattle.demands.proofs.CutCalls.{cut-elsewhere}
+use Rattle.demands.proofs.Earlier.{lent-earlier}
+use Rattle.demands.proofs.Feeding.{enough-calls, pieces-elsewhere}
+
+-- THEOREM: what the writer leaves reads back
+pub every-written-reads-back : WrittenReadsBack
+every-written-reads-back kind info out k n h =
+    record {
+      accepted = written-reads-back kind info out k n h;
+      information = rw (← accepted kind info out k n h) (unfold leftIn in info-back kind info (drop (2 + length info) out));
+    }
+
+-- THEOREM: what a call sends reads back
+pub every-sent-reads-back : SentReadsBack
+every-sent-reads-back sv l c taken size e = go (every-call-answers sv l c)
+  where
+    go : Answers sv l c (callOf sv l c) → SentReads (callOf sv l c) size
+    go (refuses r) =
+        let q : answer.Refused (r .number) ≡ answer.Sent taken size = sym (ap (λ (o : Outcome). o .done .answer) (r .same)) ∙ e in
+        let z : _≡_ {A = ℕ} 0 1 = cc in absurd (omega arith)
+    go (silent r) =
+        let q : answer.Quiet (r .taken) ≡ answer.Sent taken size = sym (r .answered) ∙ e in
+        let z : _≡_ {A = ℕ} 0 1 = cc in absurd (omega arith)
+    go (closes r) =
+        let q : answer.Closed (r .taken) ≡ answer.Sent taken size = sym (r .answered) ∙ e in
+        let z : _≡_ {A = ℕ} 0 1 = cc in absurd (omega arith)
+    go (sends r) =
+        let q : answer.Sent (r .taken) (2 + length (r .info)) ≡ answer.Sent taken size = sym (r .answered) ∙ e in
+        let z : 2 + length (r .info) ≡ size = cc in
+        record {
+          kind = r .kind;
+          info = r .info;
+          size-is = sym z;
+          reads = record {
+            accepted = ap readAnswer (r .out) ∙ reads-back (r .kind) (r .info) _ (r .listed) (omega (arith, r .most));
+            information = ap (λ (b : List ℕ). take (length (r .info)) (drop 2 b)) (r .out) ∙ info-back (r .kind) (r .info) _;
+          };
+        }
+
+-- THEOREM: demand 2's sentences. What every call keeps is proved in crates/history.
+pub demand-2 : Demand2
+demand-2 =
+    record {
+      written = every-written-reads-back;
+      sent = every-sent-reads-back;
+      closing = every-closing;
+      closing-is-losing = closing-is-losing;
+      cut = cut-elsewhere;
+      earlier = lent-earlier;
+      enough = enough-calls;
+      pieces = pieces-elsewhere;
+    }

@@ -1,0 +1,16 @@
+pub mod Checks
+pub mod Hearing
+pub mod Deciding
+pub mod Carried
+pub mod Receiving
+pub mod Answered
+pub mod ClosingIsLosing
+pub mod Unique
+pub mod Parts
+pub mod Held
+pub mod Joined
+pub mod Others
+pub mod CutCalls
+pub mod Earlier
+pub mod Feeding
+pub mod Demand2

@@ -1,0 +1,50 @@
+-- Demand 2, its sentences on packets and on cutting: "A packet written reads back as itself. Cutting elsewhere the bytes that a link takes, with each
+-- packet and closing byte at the same clock and in the same place among the other calls, changes no packet sent and no state after it." That each
+-- packet, header check, selection, refusal and closing is what the paper defines is the contract of each function. Assumes nothing.
+use mathlib.Core.Path.{_≡_}
+use mathlib.Core.List.{List}
+use Prim.Native.Nat.{ℕ, _≤_, _+_}
+use lib.ListN.{length, take, drop}
+use Rattle.packet.specs.declared.plain.Plain.the-variants as plain
+use Rattle.packet.specs.Packet.{writeAnswer, leftIn, readAnswer}
+use Rattle.session.specs.declared.reply.Answer.the-variants as answer
+use Rattle.server.specs.declared.Server.{Server}
+use Rattle.server.specs.State.{Lent, Outcome}
+use Rattle.history.specs.Calls.{Call, callOf}
+use Rattle.demands.specs.Closing.{ClosingIsLosing, EveryClosing}
+use Rattle.demands.specs.Cut.{CutElsewhere, LentEarlier}
+use Rattle.demands.specs.Feeding.{EnoughCalls, PiecesElsewhere}
+
+-- the reader finds this type and this information in front of the bytes
+pub record Reads (bytes : List ℕ) (kind : ℕ) (info : List ℕ) : Type 0 where
+  pub accepted : readAnswer bytes ≡ plain.Packet kind (length info)
+  pub information : take (length info) (drop 2 bytes) ≡ info
+
+-- "A packet written reads back as itself": what the plain writer leaves in the output, of the types and lengths that it takes
+abbrev pub WrittenReadsBack : Type 0
+WrittenReadsBack =
+    (kind : ℕ) (info out : List ℕ) → kind ≤ 17 → length info ≤ 2047 → 2 + length info ≤ length out
+    → Reads (leftIn (writeAnswer kind info out) kind info out) kind info
+
+-- .. and what a call of the server sends: the output that it leaves reads as one packet, of the length that the call says
+pub record SentReads (o : Outcome) (size : ℕ) : Type 0 where
+  pub kind : ℕ
+  pub info : List ℕ
+  pub size-is : size ≡ 2 + length info
+  pub reads : Reads (o .out) kind info
+
+abbrev pub SentReadsBack : Type 0
+SentReadsBack =
+    (sv : Server) (l : Lent) (c : Call) (taken size : ℕ) → callOf sv l c .done .answer ≡ answer.Sent taken size → SentReads (callOf sv l c) size
+
+pub record Demand2 : Type 0 where
+  pub written : WrittenReadsBack
+  pub sent : SentReadsBack
+  pub closing : EveryClosing
+  pub closing-is-losing : ClosingIsLosing
+  pub cut : CutElsewhere
+  -- a plain form of it
+  pub earlier : LentEarlier
+  -- the same for a driver that lends one link's bytes in pieces
+  pub enough : EnoughCalls
+  pub pieces : PiecesElsewhere
