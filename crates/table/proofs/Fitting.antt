@@ -202,6 +202,15 @@ module _ (f : File) (fs : List File) (p : ℕ) where
   unfolding sharesWith
   shares-end h = rw (drop-of-length-le fs h)
 
+-- a place that shares was found before, or is found now
+pub or-shares : (b x : Bool) → cond b true (cond true true x) ≡ true
+or-shares true x = refl
+or-shares false x = refl
+
+pub or-none : (b : Bool) → cond b true false ≡ b
+or-none true = refl
+or-none false = refl
+
 module _ (fs : List File) (p : ℕ) where
   pub distinct-next : (t : Bool) → p < length fs → sharesWith (fileAt fs p) (drop (p + 1) fs) ≡ t
       → distinctOf (drop p fs) ≡ cond t false (distinctOf (drop (p + 1) fs))

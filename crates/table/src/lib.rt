@@ -9,7 +9,7 @@
 // where two files share a number or a time is defined too (the lowest place), and the laws in proofs/ say what they find where none do.
 ghost use mathlib.Core.Path.{_≡_};
 ghost use mathlib.Core.Bool.{cond};
-ghost use Prim.Native.Nat.{_+_, _<_};
+ghost use Prim.Native.Nat.{_+_, _/_, _<_};
 ghost use lib.ListN.{length, getD, drop};
 ghost use lib.Dec.{ltb};
 ghost use Rattle.table.specs.Table.{files, fileAt, putNumber, putTable, isComplete, isPartial, isKind, uploaded, keyOf, keys, times, countOf, firstWith, findOf, freeOf};
@@ -46,18 +46,26 @@ pub fn places(table: &[u32]) -> usize
     table.len() / 4
 }
 
+// The record at a place that the table has.
+fn record_at(table: &[u32], place: usize) -> File
+    requires { ⌜ place < length (now table) / 4 ⌝ }
+    ensures { λ r. ⌜ r ≡ fileAt (files (now (table .entry))) place ⌝ }
+{
+    let at = 4 * place;
+    File {
+        number: table[at],
+        size: table[at + 1],
+        received: table[at + 2],
+        time: table[at + 3],
+    }
+}
+
 // The record at a place, that of no file past the last place.
 pub fn get(table: &[u32], place: usize) -> File
     ensures { λ r. ⌜ r ≡ fileAt (files (now (table .entry))) place ⌝ }
 {
     if place < table.len() / 4 {
-        let at = 4 * place;
-        return File {
-            number: table[at],
-            size: table[at + 1],
-            received: table[at + 2],
-            time: table[at + 3],
-        };
+        return record_at(table, place);
     }
     File {
         number: 0,
@@ -338,15 +346,19 @@ fn shared_later(table: &[u32], place: usize) -> bool
     ensures { λ r. ⌜ r ≡ sharesWith (fileAt (files (now (table .entry))) place) (drop (place + 1) (files (now (table .entry)))) ⌝ }
 {
     let n = places(table);
-    let file = get(table, place);
+    let file = record_at(table, place);
+    let mut shared = false;
     let mut at = place + 1;
+    // all later places are looked at, with no early end, so that the loop is a plain one for the compiler
     while at < n {
-        if sharing(file, get(table, at)) {
-            return true;
+        if sharing(file, record_at(table, at)) {
+            shared = true;
+            at += 1;
+        } else {
+            at += 1;
         }
-        at += 1;
     }
-    false
+    shared
 }
 
 // Whether no two places have the same file number, and no two complete files the same upload time.
