@@ -68,6 +68,18 @@ pub within-step : (files : ℕ) (owner : List ℕ) (b : ℕ) → b < length owne
 unfolding within
 within-step files owner b h = rw (add-one, drop-cons owner b 0)
 
+pub within-end : (files : ℕ) (owner : List ℕ) (b : ℕ) → length owner ≤ b → within files (drop b owner) ≡ true
+unfolding within
+within-end files owner b h = rw (drop-of-length-le owner h)
+
+pub and-none : (a : Bool) → a && false ≡ false
+and-none true = refl
+and-none false = refl
+
+pub and-all : (a : Bool) → a && true ≡ a
+and-all true = refl
+and-all false = refl
+
 pub map-is-step : (map owner : List ℕ) (i : ℕ) → i < length map
     → mapIs (drop i map) (drop (64 * i) owner) ≡ (eqb (getD map i 0) (wordOf 64 (drop (64 * i) owner)) && mapIs (drop (i + 1) map) (drop (64 * (i + 1)) owner))
 unfolding mapIs

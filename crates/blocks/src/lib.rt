@@ -230,18 +230,21 @@ pub fn make(map: &mut [u64], owner: &mut [u16]) -> u8
 
 // ---- the check
 
-// Whether no owner is above `files`.
+// Whether no owner is above `files`. All are looked at, with no early end: a plain loop is the faster.
 fn owners_within(owner: &[u16], files: u16) -> bool
     ensures { λ r. ⌜ r ≡ within files (now (owner .entry)) ⌝ }
 {
+    let mut good = true;
     let mut k = 0;
     while k < owner.len() {
         if files < owner[k] {
-            return false;
+            good = false;
+            k += 1;
+        } else {
+            k += 1;
         }
-        k += 1;
     }
-    true
+    good
 }
 
 // Whether each word of the map is the word of its 64 blocks.

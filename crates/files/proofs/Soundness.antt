@@ -51,7 +51,7 @@ facts-sound map owner table last latest s =
       eq-eqb (length table % 4) 0 (s .whole),
       facts-check map owner (places table) (s .blocks),
       fitting.sound-fits last latest (countsOf owner) (files table) (s .files),
-      fitting.sound-distinct last latest (countsOf owner) (files table) (s .files),
+      fitting.sound-distinct last latest (countsOf owner) (files table) (omega (arith, s .most, length-files table)) (s .files),
     )
 
 -- the facts of a store with other slices of the same sizes

@@ -5,16 +5,16 @@ use mathlib.Core.List.{List, [], _∷_}
 use Prim.Native.Nat.{ℕ, zero, suc, _+_, _≤_, _<_}
 use native.Mathlib.Omega.{arith}
 use native.Mathlib.Numerals.{add-one}
-use lib.ListN.{length, getD, drop, drop-of-length-le, length-map}
+use lib.ListN.{length, getD, take, drop, drop-of-length-le}
 use lib.Seq.{drop-cons}
 use lib.Dec.{eqb, leb}
-use borrow.Author.Tests.{eqb-true, eqb-false, eq-eqb, ne-eqb, leb-true, le-leb}
+use borrow.Author.Tests.{eqb-true, eqb-false, eq-eqb, ne-eqb, leb-true, le-leb, lt-leb}
 use Rattle.table.specs.declared.File.{File}
 use Rattle.table.specs.declared.Key.{Key}
 use Rattle.table.specs.declared.Key.the-variants.{Number, Time}
 use Rattle.table.specs.Table.{noFile, fileAt, uploaded, keyOf, keys, numbers, times}
 use Rattle.table.specs.Given.{blocksFor}
-use Rattle.table.specs.Fit.{fileFits, recordFits, recordsFitFrom, recordsFit, same, shares, sharesWith, distinctOf, FileFits, Fits, Distinct, Sound}
+use Rattle.table.specs.Fit.{fileFits, recordFits, recordsFitFrom, recordsFit, same, among, apart, distinctOf, FileFits, Fits, Distinct, Sound}
 use Rattle.table.proofs.Records.{key-at}
 use Rattle.table.proofs.Finding.{within}
 
@@ -155,92 +155,108 @@ neither-right : (a b : Bool) → cond a true b ≡ false → b ≡ false
 neither-right true b e = absurd (let z : _≡_ {A = ℕ} 0 1 = cc in omega arith)
 neither-right false b e = e
 
--- two records share neither number nor upload time
-Apart : File → File → Type 0
-Apart f g = (key : Key) → (keyOf key f ≡ 0 → ⊥) → keyOf key f ≡ keyOf key g → ⊥
+among-facts : (v : ℕ) (xs : List ℕ) → among v xs ≡ false → (q : ℕ) → (v ≡ 0 → ⊥) → v ≡ getD xs q 0 → ⊥
+unfolding among
+among-facts v [] e q n s = n s
+among-facts v (x ∷ xs) e zero n s = same-facts v x (neither-left _ (among v xs) e) n s
+among-facts v (x ∷ xs) e (suc q) n s = among-facts v xs (neither-right (same v x) _ e) q n s
 
--- a complete file shares with a file of another number where the upload times are equal
-pub shares-time : (f g : File) → (f .number ≡ 0 → ⊥) → (f .number ≡ g .number → ⊥) → (f .time ≡ 0 → ⊥) → eqb (f .time) (uploaded g) ≡ shares f g
-unfolding shares
-shares-time f g n d t = rw (ne-eqb (f .number) 0 n, ne-eqb (f .number) (g .number) d, ne-eqb (f .time) 0 t)
+among-test : (v : ℕ) (xs : List ℕ) → ((q : ℕ) → (v ≡ 0 → ⊥) → v ≡ getD xs q 0 → ⊥) → among v xs ≡ false
+unfolding among
+among-test v [] h = refl
+among-test v (x ∷ xs) h = neither _ _ (same-test v x (h 0)) (among-test v xs (λ q. h (suc q)))
 
-apart-facts : (f g : File) → shares f g ≡ false → Apart f g
-unfolding shares Apart
-apart-facts f g e Number = same-facts (f .number) (g .number) (neither-left _ (same (uploaded f) (uploaded g)) e)
-apart-facts f g e Time = same-facts (uploaded f) (uploaded g) (neither-right (same (f .number) (g .number)) _ e)
-
-apart-test : (f g : File) → Apart f g → shares f g ≡ false
-unfolding shares Apart
-apart-test f g h =
-    neither _ _ (same-test (f .number) (g .number) (h Number)) (same-test (uploaded f) (uploaded g) (h Time))
-
-others-facts : (f : File) (fs : List File) → sharesWith f fs ≡ false → (p : ℕ) → p < length fs → Apart f (fileAt fs p)
-unfolding sharesWith
-others-facts f [] e p h = absurd (omega arith)
-others-facts f (g ∷ fs) e zero h = apart-facts f g (neither-left _ (sharesWith f fs) e)
-others-facts f (g ∷ fs) e (suc p) h = others-facts f fs (neither-right (shares f g) _ e) p (omega arith)
-
-others-test : (f : File) (fs : List File) → ((p : ℕ) → p < length fs → Apart f (fileAt fs p)) → sharesWith f fs ≡ false
-unfolding sharesWith
-others-test f [] h = refl
-others-test f (g ∷ fs) h = neither _ _ (apart-test f g (h 0 (omega arith))) (others-test f fs (λ p l. h (suc p) (omega arith)))
-
--- one record after the other
-module _ (f : File) (fs : List File) (p : ℕ) where
-  shares-step : p < length fs
-      → sharesWith f (drop p fs) ≡ cond (shares f (fileAt fs p)) true (sharesWith f (drop (p + 1) fs))
-  unfolding sharesWith
-  shares-step h = rw (add-one, drop-cons fs p noFile h, sharesWith)
-
-  pub shares-next : (a g : File) (t : Bool) → p < length fs → a ≡ f → g ≡ fileAt fs p → shares a g ≡ t
-      → sharesWith f (drop p fs) ≡ cond t true (sharesWith f (drop (p + 1) fs))
-  shares-next a g t h i e r =
-      let q : shares f (fileAt fs p) ≡ t = rw (← i, ← e) r in
-      shares-step h ∙ ap (λ (x : Bool). cond x true (sharesWith f (drop (p + 1) fs))) q
-
-  pub shares-end : length fs ≤ p → sharesWith f (drop p fs) ≡ false
-  unfolding sharesWith
-  shares-end h = rw (drop-of-length-le fs h)
-
-module _ (fs : List File) (p : ℕ) where
-  pub distinct-next : (t : Bool) → p < length fs → sharesWith (fileAt fs p) (drop (p + 1) fs) ≡ t
-      → distinctOf (drop p fs) ≡ cond t false (distinctOf (drop (p + 1) fs))
-  unfolding distinctOf
-  distinct-next t h e = rw (← e, add-one, drop-cons fs p noFile h, distinctOf)
-
-  pub distinct-end : length fs ≤ p → distinctOf (drop p fs) ≡ true
-  unfolding distinctOf
-  distinct-end h = rw (drop-of-length-le fs h)
-
--- a record has no number or time of one that stands among the others
-apart-key : (f : File) (fs : List File) → sharesWith f fs ≡ false → (key : Key) (q : ℕ) → (keyOf key f ≡ 0 → ⊥)
-    → keyOf key f ≡ getD (keys key fs) q 0 → ⊥
-unfolding Apart
-apart-key f fs e key q n s =
-    let w = within (keys key fs) q (λ z. n (s ∙ z)) in
-    others-facts f fs e q (omega (arith, length-map fs (keyOf key))) key n (s ∙ key-at key fs q)
+-- 0 is no value
+pub among-zero : (v : ℕ) (xs : List ℕ) → v ≡ 0 → among v xs ≡ false
+among-zero v xs z = among-test v xs (λ q n s. n z)
 
 not-both : (a b : Bool) → cond a false b ≡ true → a ≡ false
 not-both true b e = sym e
 not-both false b e = refl
 
+apart-facts : (xs : List ℕ) → apart xs ≡ true → Distinct xs
+unfolding apart
+apart-facts [] e = λ p q n s. absurd (n refl)
+apart-facts (x ∷ xs) e = go (not-both (among x xs) (apart xs) e) (apart-facts xs)
+  where
+    go : among x xs ≡ false → (apart xs ≡ true → Distinct xs) → Distinct (x ∷ xs)
+    go a ih zero zero n s = refl
+    go a ih zero (suc q) n s = absurd (among-facts x xs a q n s)
+    go a ih (suc p) zero n s = absurd (among-facts x xs a p (λ z. n (s ∙ z)) (sym s))
+    go a ih (suc p) (suc q) n s = ap suc (ih (rw a at e) p q n s)
+
+apart-test : (xs : List ℕ) → Distinct xs → apart xs ≡ true
+unfolding apart
+apart-test [] d = refl
+apart-test (x ∷ xs) d =
+    let a : among x xs ≡ false = among-test x xs (λ q n s. let z = d 0 (suc q) n s in omega arith) in
+    rw a (apart-test xs (λ p q n s. let z = d (suc p) (suc q) n s in omega arith))
+
+-- one value after the other
+module _ (v : ℕ) (xs : List ℕ) (p : ℕ) where
+  pub among-next : (t : Bool) → p < length xs → (v ≡ 0 → ⊥) → eqb v (getD xs p 0) ≡ t
+      → among v (drop p xs) ≡ cond t true (among v (drop (p + 1) xs))
+  unfolding among
+  among-next t h n e = rw (← e, add-one, drop-cons xs p 0 h, among, ne-eqb v 0 n)
+
+  pub among-end : length xs ≤ p → among v (drop p xs) ≡ false
+  unfolding among
+  among-end h = rw (drop-of-length-le xs h)
+
+-- a value was found before, or is found now
+pub or-found : (b x : Bool) → cond b true (cond true true x) ≡ true
+or-found true x = refl
+or-found false x = refl
+
+pub or-none : (b : Bool) → cond b true false ≡ b
+or-none true = refl
+or-none false = refl
+
+module _ (xs : List ℕ) (p : ℕ) where
+  pub apart-next : (t : Bool) → p < length xs → among (getD xs p 0) (drop (p + 1) xs) ≡ t → apart (drop p xs) ≡ cond t false (apart (drop (p + 1) xs))
+  unfolding apart
+  apart-next t h e = rw (← e, add-one, drop-cons xs p 0 h, apart)
+
+  pub apart-end : length xs ≤ p → apart (drop p xs) ≡ true
+  unfolding apart
+  apart-end h = rw (drop-of-length-le xs h)
+
+-- the three tests in a row
+three-first : (a b c : Bool) → cond a (cond b c false) false ≡ true → b ≡ true
+three-first true true c e = refl
+three-first true false c e = e
+three-first false b c e = absurd (let z : _≡_ {A = ℕ} 0 1 = cc in omega arith)
+
+three-second : (a b c : Bool) → cond a (cond b c false) false ≡ true → c ≡ true
+three-second true true c e = e
+three-second true false c e = absurd (let z : _≡_ {A = ℕ} 0 1 = cc in omega arith)
+three-second false b c e = absurd (let z : _≡_ {A = ℕ} 0 1 = cc in omega arith)
+
+-- the test by the keys in a row
+module _ (fs : List File) (n : ℕ) where
+  pub distinct-by : (v w : List ℕ) → n ≡ length fs → n ≤ 256 → take (length fs) v ≡ numbers fs → take (length fs) w ≡ times fs
+      → distinctOf fs ≡ cond (apart (take n v)) (apart (take n w)) false
+  unfolding distinctOf
+  distinct-by v w e m a b = rw (e, a, b, le-leb (length fs) 256 (omega arith))
+
+  pub distinct-not : (v : List ℕ) → n ≡ length fs → n ≤ 256 → take (length fs) v ≡ numbers fs → apart (take n v) ≡ false → false ≡ distinctOf fs
+  unfolding distinctOf
+  distinct-not v e m a f =
+      let g : apart (numbers fs) ≡ false = ap apart (sym a) ∙ ap (λ (k : ℕ). apart (take k v)) (sym e) ∙ f in
+      rw (le-leb (length fs) 256 (omega arith), g)
+
+  pub distinct-past : n ≡ length fs → 256 < n → false ≡ distinctOf fs
+  unfolding distinctOf
+  distinct-past e m = rw (lt-leb (length fs) 256 (omega arith))
+
 pub distinct-facts : (fs : List File) → distinctOf fs ≡ true → (key : Key) → Distinct (keys key fs)
 unfolding distinctOf
-distinct-facts [] e key = λ p q n s. absurd (n refl)
-distinct-facts (f ∷ fs) e key = go (not-both (sharesWith f fs) (distinctOf fs) e) (distinct-facts fs)
-  where
-    go : sharesWith f fs ≡ false → (distinctOf fs ≡ true → (key : Key) → Distinct (keys key fs)) → Distinct (keys key (f ∷ fs))
-    go a ih zero zero n s = refl
-    go a ih zero (suc q) n s = absurd (apart-key f fs a key q n s)
-    go a ih (suc p) zero n s = absurd (apart-key f fs a key p (λ z. n (s ∙ z)) (sym s))
-    go a ih (suc p) (suc q) n s = ap suc (ih (rw a at e) key p q n s)
+distinct-facts fs e Number = apart-facts (numbers fs) (three-first (leb (length fs) 256) (apart (numbers fs)) (apart (times fs)) e)
+distinct-facts fs e Time = apart-facts (times fs) (three-second (leb (length fs) 256) (apart (numbers fs)) (apart (times fs)) e)
 
-pub distinct-test : (fs : List File) → ((key : Key) → Distinct (keys key fs)) → distinctOf fs ≡ true
-unfolding distinctOf Apart
-distinct-test [] d = refl
-distinct-test (f ∷ fs) d =
-    let a : sharesWith f fs ≡ false = others-test f fs (λ p h key n s. let z = d key 0 (suc p) n (s ∙ sym (key-at key fs p)) in omega arith) in
-    rw a (distinct-test fs (λ key p q n s. let z = d key (suc p) (suc q) n s in omega arith))
+pub distinct-test : (fs : List File) → length fs ≤ 256 → ((key : Key) → Distinct (keys key fs)) → distinctOf fs ≡ true
+unfolding distinctOf
+distinct-test fs l d = rw (le-leb (length fs) 256 l, apart-test (numbers fs) (d Number), apart-test (times fs) (d Time))
 
 -- ---- the tests are true exactly where the table is sound
 
@@ -256,8 +272,8 @@ module _ (last latest : ℕ) (counts : List ℕ) (fs : List File) where
   pub sound-fits : Sound last latest counts fs → recordsFit last latest counts fs ≡ true
   sound-fits s = all-test last latest counts 0 fs (λ p h. let e : suc (0 + p) ≡ p + 1 = omega arith in rw e (s .records p h))
 
-  pub sound-distinct : Sound last latest counts fs → distinctOf fs ≡ true
-  sound-distinct s = distinct-test fs keyed
+  pub sound-distinct : length fs ≤ 256 → Sound last latest counts fs → distinctOf fs ≡ true
+  sound-distinct l s = distinct-test fs l keyed
     where
       keyed : (key : Key) → Distinct (keys key fs)
       keyed Number = s .numbers

@@ -1,12 +1,12 @@
 -- The table as a list of records: its length, reading and storing a record, and what storing does to the numbers and the times.
 use mathlib.Core.Path.{_≡_, refl, sym, ap, _∙_}
 use mathlib.Core.Bool.{Bool, true, false, cond, not, _&&_}
-use mathlib.Core.List.{List, [], _∷_}
+use mathlib.Core.List.{List, [], _∷_, _++_}
 use Prim.Native.Nat.{ℕ, zero, suc, _+_, _-_, _*_, _/_, _≤_, _<_}
 use native.Mathlib.Omega.{arith}
 use native.Mathlib.Numerals.{add-one}
-use lib.ListN.{length, replicate, getD, set, drop, List·getD-map, List·getD-eq-default}
-use lib.Seq.{drop-cons, drop-length, sets, length-sets, set-out, getD-set-same, getD-set-other, map-set-same}
+use lib.ListN.{length, replicate, getD, set, take, drop, length-map, List·getD-map, List·getD-eq-default}
+use lib.Seq.{drop-cons, drop-length, take-all, take-suc, take-suc-set, sets, length-sets, set-out, getD-set-same, getD-set-other, map-set-same}
 use lib.Dec.{ltb, eqb}
 use borrow.Author.Tests.{ltb-true, ltb-false, lt-ltb, le-ltb, eqb-false, eq-eqb, ne-eqb}
 use Rattle.table.specs.declared.File.{File}
@@ -114,6 +114,16 @@ keys-set key (g ∷ fs) (suc p) f = ap (λ (ks : List ℕ). keyOf key g ∷ ks) 
 -- storing a record with the same key changes no key
 pub keys-same : (key : Key) (fs : List File) (p : ℕ) (f : File) → keyOf key f ≡ keyOf key (fileAt fs p) → keys key (set fs p f) ≡ keys key fs
 keys-same key fs p f e = map-set-same (keyOf key) fs p f noFile e
+
+-- the keys of the places up to p, in a row of values, with one more
+pub keys-next : (key : Key) (fs : List File) (values : List ℕ) (p : ℕ) (f : File) (v : ℕ) → p < length fs → p < length values → f ≡ fileAt fs p
+    → v ≡ keyOf key f → take p values ≡ take p (keys key fs) → take (p + 1) (set values p v) ≡ take (p + 1) (keys key fs)
+keys-next key fs values p f v h l e w t =
+    rw (add-one, take-suc-set values p v l, t, take-suc (keys key fs) p 0 (omega (arith, length-map fs (keyOf key))))
+    (ap (λ (x : ℕ). take p (keys key fs) ++ (x ∷ [])) (w ∙ ap (keyOf key) e ∙ sym (key-at key fs p)))
+
+pub keys-all : (key : Key) (fs : List File) → take (length fs) (keys key fs) ≡ keys key fs
+keys-all key fs = take-all (length fs) (keys key fs) (omega (arith, length-map fs (keyOf key)))
 
 -- ---- counting
 

@@ -36,19 +36,19 @@ recordsFit lastNumber lastTime counts fs = recordsFitFrom 0 lastNumber lastTime 
 abbrev pub same : ℕ → ℕ → Bool
 same a b = cond (eqb a 0) false (eqb a b)
 
--- two records have the same file number, or are complete files with the same upload time
-unfoldable pub shares : File → File → Bool
-shares f g = cond (same (f .number) (g .number)) true (same (uploaded f) (uploaded g))
+-- a value that is not 0 stands among others
+unfoldable pub among : ℕ → List ℕ → Bool
+among v [] = false
+among v (x ∷ xs) = cond (same v x) true (among v xs)
 
--- a record shares its number or upload time with one of these
-unfoldable pub sharesWith : File → List File → Bool
-sharesWith f [] = false
-sharesWith f (g ∷ gs) = cond (shares f g) true (sharesWith f gs)
+-- no value but 0 stands twice
+unfoldable pub apart : List ℕ → Bool
+apart [] = true
+apart (x ∷ xs) = cond (among x xs) false (apart xs)
 
--- no two places have the same file number, and no two complete files the same upload time
+-- no two places have the same file number, and no two complete files the same upload time; a table has at most 256 places
 unfoldable pub distinctOf : List File → Bool
-distinctOf [] = true
-distinctOf (f ∷ fs) = cond (sharesWith f fs) false (distinctOf fs)
+distinctOf fs = cond (leb (length fs) 256) (cond (apart (numbers fs)) (apart (times fs)) false) false
 
 -- ---- the facts
 

@@ -9,13 +9,13 @@
 // where two files share a number or a time is defined too (the lowest place), and the laws in proofs/ say what they find where none do.
 ghost use mathlib.Core.Path.{_≡_};
 ghost use mathlib.Core.Bool.{cond};
-ghost use Prim.Native.Nat.{_+_, _<_};
-ghost use lib.ListN.{length, getD, drop};
+ghost use Prim.Native.Nat.{_+_, _/_, _≤_, _<_};
+ghost use lib.ListN.{length, getD, take, drop};
 ghost use lib.Dec.{ltb};
 ghost use Rattle.table.specs.Table.{files, fileAt, putNumber, putTable, isComplete, isPartial, isKind, uploaded, keyOf, keys, times, countOf, firstWith, findOf, freeOf};
 ghost use Rattle.table.specs.Given.{nextNumber, uploadTime, blocksFor};
 ghost use Rattle.table.specs.Order.{lesser, leastAbove, nextComplete};
-ghost use Rattle.table.specs.Fit.{fileFits, recordFits, recordsFit, shares, sharesWith, distinctOf};
+ghost use Rattle.table.specs.Fit.{fileFits, recordFits, recordsFit, among, apart, distinctOf};
 
 // The record of a file place.
 pub struct File {
@@ -46,18 +46,26 @@ pub fn places(table: &[u32]) -> usize
     table.len() / 4
 }
 
+// The record at a place that the table has.
+fn record_at(table: &[u32], place: usize) -> File
+    requires { ⌜ place < length (now table) / 4 ⌝ }
+    ensures { λ r. ⌜ r ≡ fileAt (files (now (table .entry))) place ⌝ }
+{
+    let at = 4 * place;
+    File {
+        number: table[at],
+        size: table[at + 1],
+        received: table[at + 2],
+        time: table[at + 3],
+    }
+}
+
 // The record at a place, that of no file past the last place.
 pub fn get(table: &[u32], place: usize) -> File
     ensures { λ r. ⌜ r ≡ fileAt (files (now (table .entry))) place ⌝ }
 {
     if place < table.len() / 4 {
-        let at = 4 * place;
-        return File {
-            number: table[at],
-            size: table[at + 1],
-            received: table[at + 2],
-            time: table[at + 3],
-        };
+        return record_at(table, place);
     }
     File {
         number: 0,
@@ -316,50 +324,69 @@ pub fn records_fit(table: &[u32], last: u32, latest: u32, counts: &[usize]) -> b
     true
 }
 
-// Whether two records have the same file number, or are complete files with the same upload time.
-fn sharing(a: File, b: File) -> bool
-    ensures { λ r. ⌜ r ≡ shares a b ⌝ }
-{
-    if a.number == 0 {
-        return false;
-    }
-    if a.number == b.number {
-        return true;
-    }
-    if a.time == 0 {
-        return false;
-    }
-    a.time == upload_time_of(b)
-}
-
-// Whether a later place shares the number or the upload time of the file at this place.
-fn shared_later(table: &[u32], place: usize) -> bool
-    requires { ⌜ place < length (files (now table)) ⌝ }
-    ensures { λ r. ⌜ r ≡ sharesWith (fileAt (files (now (table .entry))) place) (drop (place + 1) (files (now (table .entry)))) ⌝ }
+// The file number or the upload time at each of up to 256 places, in a row, so that one is quickly compared with all others.
+fn keys_of(table: &[u32], key: Key) -> [u32; 256]
+    requires { ⌜ length (files (now table)) ≤ 256 ⌝ }
+    ensures { λ r. ⌜ (length r ≡ 256) × (take (length (files (now (table .entry)))) r ≡ keys key (files (now (table .entry)))) ⌝ }
 {
     let n = places(table);
-    let file = get(table, place);
-    let mut at = place + 1;
-    while at < n {
-        if sharing(file, get(table, at)) {
-            return true;
-        }
-        at += 1;
-    }
-    false
-}
-
-// Whether no two places have the same file number, and no two complete files the same upload time.
-pub fn distinct(table: &[u32]) -> bool
-    ensures { λ r. ⌜ r ≡ distinctOf (files (now (table .entry))) ⌝ }
-{
-    let n = places(table);
+    let mut values = [0u32; 256];
     let mut at = 0;
     while at < n {
-        if shared_later(table, at) {
+        values[at] = key_of(record_at(table, at), key);
+        at += 1;
+    }
+    values
+}
+
+// Whether the value at a place, if it is not 0, stands again further on. All are looked at, with no early end: a plain loop is the faster.
+fn stands_later(values: &[u32], at: usize) -> bool
+    requires { ⌜ at < length (now values) ⌝ }
+    ensures { λ r. ⌜ r ≡ among (getD (now (values .entry)) at 0) (drop (at + 1) (now (values .entry))) ⌝ }
+{
+    let value = values[at];
+    if value == 0 {
+        return false;
+    }
+    let mut found = false;
+    let mut k = at + 1;
+    while k < values.len() {
+        if value == values[k] {
+            found = true;
+            k += 1;
+        } else {
+            k += 1;
+        }
+    }
+    found
+}
+
+// Whether no value but 0 stands twice.
+fn all_apart(values: &[u32]) -> bool
+    ensures { λ r. ⌜ r ≡ apart (now (values .entry)) ⌝ }
+{
+    let mut at = 0;
+    while at < values.len() {
+        if stands_later(values, at) {
             return false;
         }
         at += 1;
     }
     true
+}
+
+// Whether no two of at most 256 places have the same file number, and no two complete files the same upload time.
+pub fn distinct(table: &[u32]) -> bool
+    ensures { λ r. ⌜ r ≡ distinctOf (files (now (table .entry))) ⌝ }
+{
+    let n = places(table);
+    if 256 < n {
+        return false;
+    }
+    let numbers = keys_of(table, Key::Number);
+    if all_apart(&numbers[..n]) {
+        let times = keys_of(table, Key::Time);
+        return all_apart(&times[..n]);
+    }
+    false
 }

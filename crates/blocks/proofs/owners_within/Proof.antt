@@ -1,19 +1,20 @@
--- `blocks::owners_within` meets its contract. The invariant: the owners passed are within.
+-- `blocks::owners_within` meets its contract. The invariant: an owner passed is above, or what is left to test are the owners from k on.
 use Prim.Native.Nat.{_-_, _≤_}
 use mathlib.Core.Path.{_≡_, refl, sym, ap, _∙_}
+use mathlib.Core.Bool.{Bool, true, false, _&&_}
 use native.Mathlib.Omega.{arith}
 use lib.ListN.{length, drop, drop-of-length-le}
 use borrow.Author.Tests.{le-leb, lt-leb}
 use Rattle.blocks.specs.Check.{within}
-use Rattle.blocks.proofs.Steps.{within-step}
+use Rattle.blocks.proofs.Steps.{within-step, within-end, and-none, and-all}
 use Rattle.blocks.proofs.owners_within.Statement.{statement}
 use Rattle.blocks.proofs.owners_within.Tie as tie
 
 abbrev Inv-loop : tie.InvT-loop
-Inv-loop owner files k₀ k = (k ≤ length owner) × (within files owner ≡ within files (drop k owner))
+Inv-loop owner files good₀ k₀ good k = (k ≤ length owner) × (within files owner ≡ good && within files (drop k owner))
 
 abbrev μ-loop : tie.MeasureT-loop
-μ-loop owner files k₀ k = length owner - k
+μ-loop owner files good₀ k₀ good k = length owner - k
 
 loop-holds : tie.Need-loop-holds Inv-loop μ-loop
 loop-holds c = (omega arith, refl)
@@ -23,12 +24,6 @@ mul-if1 c = omega arith
 
 shared-slice-read-if1 : tie.Need-shared-slice-read-if1 Inv-loop μ-loop
 shared-slice-read-if1 c = omega arith
-
-returns : tie.Need-returns Inv-loop μ-loop
-returns c =
-    let s = c .before .before .before in
-    sym (s .loop .inv .1 ∙ within-step (s .before .args .files) (s .before .args .owner .now) (s .loop .k) (c .before .before .loop-test .taken)
-    ∙ simp (lt-leb _ _ (c .if1 .taken)))
 
 add-k : tie.Need-add-k Inv-loop μ-loop
 add-k c = omega arith
@@ -40,15 +35,32 @@ loop-again : tie.Need-loop-again Inv-loop μ-loop
 loop-again c =
     let s = c .before .before .before in (
       omega arith,
-      s .loop .inv .1 ∙ within-step (s .before .args .files) (s .before .args .owner .now) (s .loop .k) (c .before .before .loop-test .taken)
-          ∙ simp (le-leb _ _ (c .if1 .left)),
+      s .loop .inv .1
+          ∙ ap (λ (t : Bool). s .loop .good && t)
+          (within-step (s .before .args .files) (s .before .args .owner .now) (s .loop .k) (c .before .before .loop-test .taken) ∙ simp (lt-leb _ _ (c .if1 .taken))) ∙ and-none (s .loop .good),
     )
 
-returns-2 : tie.Need-returns-2 Inv-loop μ-loop
-unfolding within
-returns-2 c =
+add-k-2 : tie.Need-add-k-2 Inv-loop μ-loop
+add-k-2 c = omega arith
+
+loop-less-2 : tie.Need-loop-less-2 Inv-loop μ-loop
+loop-less-2 c = omega arith
+
+loop-again-2 : tie.Need-loop-again-2 Inv-loop μ-loop
+loop-again-2 c =
+    let s = c .before .before .before in (
+      omega arith,
+      s .loop .inv .1
+          ∙ ap (λ (t : Bool). s .loop .good && t)
+          (within-step (s .before .args .files) (s .before .args .owner .now) (s .loop .k) (c .before .before .loop-test .taken) ∙ simp (le-leb _ _ (c .if1 .left))),
+    )
+
+returns : tie.Need-returns Inv-loop μ-loop
+returns c =
     let s = c .before in
-    sym (s .loop .inv .1 ∙ ap (within (s .before .args .files)) (drop-of-length-le (s .before .args .owner .now) (c .loop-test .left)))
+    sym (s .loop .inv .1
+    ∙ ap (λ (t : Bool). s .loop .good && t) (within-end (s .before .args .files) (s .before .args .owner .now) (s .loop .k) (c .loop-test .left))
+    ∙ and-all (s .loop .good))
 
 pub owners-within-spec : {M : Type 1} → statement M
 owners-within-spec =
@@ -59,8 +71,10 @@ owners-within-spec =
     loop-holds
     mul-if1
     shared-slice-read-if1
-    returns
     add-k
     loop-less
     loop-again
-    returns-2)
+    add-k-2
+    loop-less-2
+    loop-again-2
+    returns)

@@ -1,67 +1,75 @@
--- `table::distinct` meets its contract. The invariant: no place before `at` shares with a later one, so what is left to test are the places from `at` on.
-use Prim.Native.Nat.{_-_, _≤_}
-use mathlib.Core.Path.{_≡_, refl, sym, _∙_}
-use mathlib.Core.Bool.{true, false}
+-- `table::distinct` meets its contract. The numbers in a row are tested, then the times.
+use mathlib.Core.Path.{_≡_, sym, ap, _∙_}
+use mathlib.Core.Bool.{Bool, cond, false}
 use native.Mathlib.Omega.{arith}
-use lib.ListN.{length, drop}
+use lib.ListN.{length, take}
+use lib.Seq.{length-take-le}
 use Rattle.table.specs.Table.{files}
-use Rattle.table.specs.Fit.{distinctOf}
-use Rattle.table.proofs.Fitting.{distinct-next, distinct-end}
-use Rattle.table.proofs.Records.{length-files}
+use Rattle.table.specs.Fit.{apart}
+use Rattle.table.proofs.Fitting.{distinct-by, distinct-not, distinct-past}
 use borrow.Author.Needs.{needs}
 use Rattle.table.proofs.distinct.Statement.{statement}
 use Rattle.table.proofs.distinct.Tie as tie
 
-abbrev Inv-loop : tie.InvT-loop
-Inv-loop table n at₀ at = (at ≤ n) × (n ≡ length (files table)) × (distinctOf (files table) ≡ distinctOf (drop at (files table)))
-
-abbrev μ-loop : tie.MeasureT-loop
-μ-loop table n at₀ at = n - at
-
-places-requires : tie.Need-places-requires Inv-loop μ-loop
+places-requires : tie.Need-places-requires
 places-requires c κs = search needs
 
-loop-holds : tie.Need-loop-holds Inv-loop μ-loop
-loop-holds c = (omega arith, c .places .ensures, refl)
+returns : tie.Need-returns
+returns c = distinct-past (files (c .before .before .before .args .table .now)) (c .before .places .result) (c .before .places .ensures) (c .if1 .taken)
 
-shared-later-requires : tie.Need-shared-later-requires Inv-loop μ-loop
-shared-later-requires c κs = omega (arith, c .before .loop .inv .1)
+keys-of-requires : tie.Need-keys-of-requires
+keys-of-requires c κs = search needs
 
-returns : tie.Need-returns Inv-loop μ-loop
-returns c =
-    let l = c .before .before .before .loop in
-    sym (l .inv .2 ∙ distinct-next (files (c .before .before .before .before .before .before .args .table .now)) (l .at) true (omega (arith, l .inv .1, c .before .before .loop-test .taken)) (sym (c .before .shared-later .ensures) ∙ c .if1 .taken))
+array-share-prefix-numbers : tie.Need-array-share-prefix-numbers
+array-share-prefix-numbers c = search needs
 
-add-at : tie.Need-add-at Inv-loop μ-loop
-add-at c = let e = length-files (c .before .before .before .before .before .before .args .table .now) in omega arith
+slice-aggregate-all-apart : tie.Need-slice-aggregate-all-apart
+slice-aggregate-all-apart c = sym (length-take-le (c .before .before .before .places .result) (c .before .keys-of .result) (omega (arith, c .before .keys-of .ensures .0, c .before .before .if1 .left)))
 
-loop-less : tie.Need-loop-less Inv-loop μ-loop
-loop-less c = omega arith
+all-apart-requires : tie.Need-all-apart-requires
+all-apart-requires c κs = search needs
 
-loop-again : tie.Need-loop-again Inv-loop μ-loop
-loop-again c =
-    let l = c .before .before .before .loop in (
-      omega arith,
-      l .inv .1,
-      l .inv .2 ∙ distinct-next (files (c .before .before .before .before .before .before .args .table .now)) (l .at) false (omega (arith, l .inv .1, c .before .before .loop-test .taken)) (sym (c .before .shared-later .ensures) ∙ c .if1 .left),
-    )
+keys-of-requires-2 : tie.Need-keys-of-requires-2
+keys-of-requires-2 c κs = search needs
 
-returns-2 : tie.Need-returns-2 Inv-loop μ-loop
+array-share-prefix-times : tie.Need-array-share-prefix-times
+array-share-prefix-times c = search needs
+
+slice-aggregate-all-apart-2 : tie.Need-slice-aggregate-all-apart-2
+slice-aggregate-all-apart-2 c = sym (length-take-le (c .before .before .before .before .before .before .before .places .result) (c .before .keys-of2 .result) (omega (arith, c .before .keys-of2 .ensures .0, c .before .before .before .before .before .before .if1 .left)))
+
+all-apart-requires-2 : tie.Need-all-apart-requires-2
+all-apart-requires-2 c κs = search needs
+
+returns-2 : tie.Need-returns-2
 returns-2 c =
-    let l = c .before .loop in
-    sym (l .inv .2 ∙ distinct-end (files (c .before .before .before .before .args .table .now)) (l .at) (omega (arith, l .inv .1, c .loop-test .left)))
+    let fs = files (c .before .before .before .before .before .before .before .before .before .before .args .table .now) in
+    let n = c .before .before .before .before .before .before .before .before .places .result in
+    let v = c .before .before .before .before .before .before .keys-of in
+    let w = c .before .before .keys-of2 in
+    c .all-apart2 .ensures
+    ∙ sym (distinct-by fs n (v .result) (w .result) (c .before .before .before .before .before .before .before .before .places .ensures) (c .before .before .before .before .before .before .before .if1 .left) (v .ensures .1) (w .ensures .1)
+    ∙ ap (λ (t : Bool). cond t (apart (take n (w .result))) false) (sym (c .before .before .before .before .all-apart .ensures) ∙ c .before .before .before .if2 .taken))
+
+returns-3 : tie.Need-returns-3
+returns-3 c =
+    let v = c .before .before .before .keys-of in
+    distinct-not (files (c .before .before .before .before .before .before .before .args .table .now)) (c .before .before .before .before .before .places .result) (v .result) (c .before .before .before .before .before .places .ensures) (c .before .before .before .before .if1 .left) (v .ensures .1)
+    (sym (c .before .all-apart .ensures) ∙ c .if2 .left)
 
 pub distinct-spec : {M : Type 1} → statement M
 distinct-spec =
     tie.close
     (tie.spec
-    Inv-loop
-    μ-loop
     places-requires
-    loop-holds
-    shared-later-requires
     returns
-    add-at
-    loop-less
-    loop-again
-    returns-2)
+    keys-of-requires
+    array-share-prefix-numbers
+    slice-aggregate-all-apart
+    all-apart-requires
+    keys-of-requires-2
+    array-share-prefix-times
+    slice-aggregate-all-apart-2
+    all-apart-requires-2
+    returns-2
+    returns-3)
