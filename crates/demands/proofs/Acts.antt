@@ -1,0 +1,255 @@
+-- What each act does to the files, told by its reply and the packet heard.
+use mathlib.Core.Path.{_≡_, refl, sym, ap, _∙_, subst}
+use mathlib.Core.Bool.{Bool, true, false, cond}
+use mathlib.Core.List.{List, [], _++_}
+use Prim.Native.Nat.{ℕ, _+_, _≤_, _<_}
+use native.Mathlib.Omega.{arith}
+use lib.Dec.{eqb, ltb}
+use lib.ListN.{length, take}
+use lib.Seq.{length-take-le}
+use borrow.Author.Tests.{lt-ltb, le-ltb, eq-eqb, ne-eqb, ltb-true, ltb-false, eqb-true, eqb-false}
+use Rattle.packet.specs.declared.frame.Frame.{Frame}
+use Rattle.packet.specs.declared.frame.Frame.the-variants.{Open, TooLong, Whole, Refused}
+use Rattle.header.specs.Header.{verdict}
+use Rattle.header.specs.Fields.{fieldsSet}
+use Rattle.session.specs.declared.state.Session.{Session}
+use Rattle.session.specs.declared.state.Uplink.{Uplink}
+use Rattle.session.specs.declared.state.Uplink.the-variants as up
+use Rattle.session.specs.declared.state.Downlink.{Downlink}
+use Rattle.session.specs.declared.state.Downlink.the-variants as down
+use Rattle.session.specs.declared.reply.Reply.{Reply}
+use Rattle.session.specs.declared.reply.Reply.the-variants as reply
+use Rattle.table.specs.declared.File.{File}
+use Rattle.table.specs.declared.Found.{Found}
+use Rattle.table.specs.declared.Found.the-variants as found
+use Rattle.table.specs.declared.Given.{Given}
+use Rattle.table.specs.declared.Given.the-variants.{UsedUp, Next}
+use Rattle.table.specs.Table.{noFile, files, fileAt}
+use Rattle.table.specs.Given.{nextNumber, uploadTime, mostGiven}
+use Rattle.table.proofs.Giving.{number-given, time-given}
+use Rattle.files.specs.declared.Begun.{Begun}
+use Rattle.files.specs.declared.Begun.the-variants as begun
+use Rattle.files.specs.Uploads as uploads
+use Rattle.files.specs.Completion.{checkOf, completed, completeOf, destinationsAt}
+use Rattle.files.specs.Selection.{Selects, selectOf}
+use Rattle.files.specs.View.{View, recordAt, bytesAt, viewAt}
+use Rattle.files.specs.Sound.{Sound, Sizes}
+use Rattle.files.proofs.Beginning.{BeginLeaves, begin-leaves, begin-kept}
+use Rattle.files.proofs.Received.{append-done, append-leaves}
+use Rattle.files.proofs.Completed.{check-is, complete-done, complete-leaves}
+use Rattle.files.proofs.Discarded.{discard-done, discard-leaves}
+use Rattle.links.proofs.Facts.{PartialAt}
+use Rattle.decide.specs.declared.act.Act.{Act}
+use Rattle.decide.specs.declared.act.Act.the-variants as act
+use Rattle.decide.specs.Words.{wordAt}
+use Rattle.carry.specs.declared.turn.Last.{Last}
+use Rattle.carry.specs.declared.turn.Turn.{Turn}
+use Rattle.carry.specs.Turn.{lastOf, turnOf, Mem, mem, Turned, turned, Frees, frees, Writes, writes, Moves, moves, Chooses}
+use Rattle.carry.specs.Upload as upload
+use Rattle.carry.specs.Download as download
+use Rattle.carry.specs.Download.{selectTurn, selectedAs, confirmTurn}
+use Rattle.carry.specs.Carry.{onFrees, onWrites, onMoves, onChooses, carryOut}
+use Rattle.history.specs.Change.{Files, view, Partial, Same, Begins, Receives, Completes, Discards}
+use Rattle.history.proofs.Interface.{filesIn, Stored}
+use Rattle.demands.specs.Events.{Event, nothing, given, added, finished, dropped, numberIn, onQuiet, onGo}
+use Rattle.demands.specs.Effect.{Effect, Gives, Adds, Finishes, Drops, timeAt}
+
+-- ---- the event by the reply
+
+unfoldable pub onReply : Reply → ℕ → Frame → List ℕ → ℕ → Event
+onReply reply.Nothing n frame info clock = onQuiet n frame info
+onReply reply.Closing n frame info clock = nothing
+onReply reply.DataEnd n frame info clock = nothing
+onReply (reply.Login c) n frame info clock = nothing
+onReply (reply.Go number offset) n frame info clock = onGo number info
+onReply (reply.UploadError e) n frame info clock = nothing
+onReply reply.Ack n frame info clock = finished n clock
+onReply (reply.Nak e) n frame info clock = dropped n
+onReply (reply.DownloadError e) n frame info clock = nothing
+onReply reply.Aborted n frame info clock = nothing
+onReply reply.Completed n frame info clock = nothing
+onReply (reply.Selected c) n frame info clock = nothing
+
+-- a reply that tells no change of the files but for an accepted DATA
+abbrev pub Plain : Reply → Type 0
+Plain reply.Nothing = Unit {0}
+Plain reply.Closing = Unit {0}
+Plain reply.DataEnd = Unit {0}
+Plain (reply.Login c) = Unit {0}
+Plain (reply.Go number offset) = ⊥
+Plain (reply.UploadError e) = Unit {0}
+Plain reply.Ack = ⊥
+Plain (reply.Nak e) = ⊥
+Plain (reply.DownloadError e) = Unit {0}
+Plain reply.Aborted = Unit {0}
+Plain reply.Completed = Unit {0}
+Plain (reply.Selected c) = Unit {0}
+
+plain-nothing : (r : Reply) (n : ℕ) (frame : Frame) (info : List ℕ) (clock : ℕ) → Plain r → onQuiet n frame info ≡ nothing
+    → onReply r n frame info clock ≡ nothing
+unfolding onReply
+plain-nothing reply.Nothing n frame info clock p q = q
+plain-nothing reply.Closing n frame info clock p q = refl
+plain-nothing reply.DataEnd n frame info clock p q = refl
+plain-nothing (reply.Login c) n frame info clock p q = refl
+plain-nothing (reply.Go number offset) n frame info clock p q = absurd p
+plain-nothing (reply.UploadError e) n frame info clock p q = refl
+plain-nothing reply.Ack n frame info clock p q = absurd p
+plain-nothing (reply.Nak e) n frame info clock p q = absurd p
+plain-nothing (reply.DownloadError e) n frame info clock p q = refl
+plain-nothing reply.Aborted n frame info clock p q = refl
+plain-nothing reply.Completed n frame info clock p q = refl
+plain-nothing (reply.Selected c) n frame info clock p q = refl
+
+-- the number of UL_GO_RESP for a new file has 32 bits
+abbrev pub Small : Reply → List ℕ → Type 0
+Small reply.Nothing info = Unit {0}
+Small reply.Closing info = Unit {0}
+Small reply.DataEnd info = Unit {0}
+Small (reply.Login c) info = Unit {0}
+Small (reply.Go number offset) info = wordAt info 0 ≡ 0 → number < 4294967296
+Small (reply.UploadError e) info = Unit {0}
+Small reply.Ack info = Unit {0}
+Small (reply.Nak e) info = Unit {0}
+Small (reply.DownloadError e) info = Unit {0}
+Small reply.Aborted info = Unit {0}
+Small reply.Completed info = Unit {0}
+Small (reply.Selected c) info = Unit {0}
+
+plain-small : (r : Reply) (info : List ℕ) → Plain r → Small r info
+plain-small reply.Nothing info p = p
+plain-small reply.Closing info p = p
+plain-small reply.DataEnd info p = p
+plain-small (reply.Login c) info p = p
+plain-small (reply.Go number offset) info p = absurd p
+plain-small (reply.UploadError e) info p = p
+plain-small reply.Ack info p = absurd p
+plain-small (reply.Nak e) info p = absurd p
+plain-small (reply.DownloadError e) info p = p
+plain-small reply.Aborted info p = p
+plain-small reply.Completed info p = p
+plain-small (reply.Selected c) info p = p
+
+-- ---- a turn
+
+-- what a turn leaves, with the event that its reply tells
+pub record Turns (n : ℕ) (frame : Frame) (info : List ℕ) (clock : ℕ) (m : Mem) (last : Last) (t : Turned) : Type 0 where
+  pub effect : Effect (onReply (t .turn .reply) n frame info clock) last (filesIn m) (t .turn .last) (filesIn (t .mem))
+  pub small : Small (t .turn .reply) info
+  pub owners : length (t .mem .owner) ≡ length (m .owner)
+  pub records : length (t .mem .table) ≡ length (m .table)
+
+-- a turn that leaves the store as it was
+pub record Leaves (m : Mem) (last : Last) (t : Turned) : Type 0 where
+  pub disk : t .mem .disk ≡ m .disk
+  pub owner : t .mem .owner ≡ m .owner
+  pub table : t .mem .table ≡ m .table
+  pub given : t .turn .last ≡ last
+
+module _ (n : ℕ) (frame : Frame) (info : List ℕ) (clock : ℕ) (m : Mem) (last : Last) where
+  same-files : (t : Turned) → Leaves m last t → Same last (filesIn m) (t .turn .last) (filesIn (t .mem))
+  same-files t l = record { files = λ q. rw (l .disk, l .owner, l .table); given = l .given }
+
+  pub left-turns : (t : Turned) → Leaves m last t → onReply (t .turn .reply) n frame info clock ≡ nothing → Small (t .turn .reply) info
+      → Turns n frame info clock m last t
+  left-turns t l e k =
+      record {
+        effect = subst (λ (x : Event). Effect x last (filesIn m) (t .turn .last) (filesIn (t .mem))) (sym e) (same-files t l);
+        small = k;
+        owners = ap length (l .owner);
+        records = ap length (l .table);
+      }
+
+  pub plain-turns : (t : Turned) → Leaves m last t → Plain (t .turn .reply) → onQuiet n frame info ≡ nothing → Turns n frame info clock m last t
+  plain-turns t l p q = left-turns t l (plain-nothing (t .turn .reply) n frame info clock p q) (plain-small (t .turn .reply) info p)
+
+-- ---- the acts that leave the store as it was
+
+abbrev pub Quiet : Act → Type 0
+Quiet act.Close = Unit {0}
+Quiet act.Ignore = Unit {0}
+Quiet (act.Tell r) = Plain r
+Quiet (act.Begin size) = ⊥
+Quiet (act.Resume place number received) = ⊥
+Quiet (act.Store place offset received) = ⊥
+Quiet (act.Overrun place) = ⊥
+Quiet act.Stop = Unit {0}
+Quiet (act.Finish place) = ⊥
+Quiet act.Select = Unit {0}
+Quiet (act.Send place offset lock passed) = Unit {0}
+Quiet (act.Confirm place destination) = Unit {0}
+Quiet (act.End r) = Plain r
+Quiet (act.Abort place) = Unit {0}
+
+-- a turn that gives no number and no time, with a plain reply
+abbrev Told : Last → Turn → Type 0
+Told last t = (t .last ≡ last) × Plain (t .reply)
+
+either : (last : Last) (b : Bool) (x y : Turn) → Told last x → Told last y → Told last (cond b x y)
+either last true x y j k = j
+either last false x y j k = k
+
+either-chosen : (last : Last) (b : Bool) (x y : Chooses) → Told last (x .turn) → Told last (y .turn) → Told last (cond b x y .turn)
+either-chosen last true x y j k = j
+either-chosen last false x y j k = k
+
+selected-told : (s : Session) (last : Last) (r : Selects) → Told last (selectedAs s last r .turn)
+unfolding selectedAs
+selected-told s last r = either-chosen last (eqb (r .answer .refused) 0) _ _ (refl, tt) (refl, tt)
+
+select-told : (s : Session) (last : Last) (most size : ℕ) (info disk owner table selected : List ℕ)
+    → Told last (selectTurn s last most size info disk owner table selected .turn)
+unfolding selectTurn
+select-told s last most size info disk owner table selected =
+    either-chosen last (ltb (length info) size) _ _ (refl, tt) (selected-told s last (selectOf (take size info) disk owner table selected most))
+
+send-told : (s : Session) (last : Last) (place offset lock passed : ℕ) (disk owner table : List ℕ)
+    → Told last (download.beginTurn s last place offset lock passed disk owner table)
+unfolding download.beginTurn
+send-told s last place offset lock passed disk owner table = either last (ltb (destinationsAt disk owner table place) lock) _ _ (refl, tt) (refl, tt)
+
+confirm-told : (s : Session) (last : Last) (place destination : ℕ) (disk owner table : List ℕ)
+    → Told last (confirmTurn s last place destination disk owner table)
+unfolding confirmTurn
+confirm-told s last place destination disk owner table = either last (ltb (destinationsAt disk owner table place) destination) _ _ (refl, tt) (refl, tt)
+
+module _ (n : ℕ) (frame : Frame) (info : List ℕ) (clock : ℕ) (m : Mem) (last : Last) (s : Session) (most size : ℕ) where
+  abbrev Done : Act → Type 0
+  Done a = Turns n frame info clock m last (carryOut a s last clock most size info m)
+
+  kept : (t : Turned) → t .mem .disk ≡ m .disk → t .mem .owner ≡ m .owner → t .mem .table ≡ m .table → t .turn .last ≡ last → Leaves m last t
+  kept t d o b g = record { disk = d; owner = o; table = b; given = g }
+
+  chosen-turns : onQuiet n frame info ≡ nothing → (r : Chooses) → Told last (r .turn) → Turns n frame info clock m last (onChooses m r)
+  unfolding onChooses
+  chosen-turns q r k = plain-turns n frame info clock m last _ (kept _ refl refl refl (k .0)) (k .1) q
+
+  told-turns : onQuiet n frame info ≡ nothing → (t : Turn) → Told last t → Turns n frame info clock m last (turned t m)
+  told-turns q t k = plain-turns n frame info clock m last _ (kept _ refl refl refl (k .0)) (k .1) q
+
+  pub close-turns : Done act.Close
+  unfolding carryOut onChooses download.closeTurn onReply
+  close-turns = left-turns n frame info clock m last _ (kept _ refl refl refl refl) refl tt
+
+  pub quiet-turns : onQuiet n frame info ≡ nothing → (a : Act) → Quiet a → Done a
+  unfolding carryOut
+  quiet-turns q act.Close k = close-turns
+  quiet-turns q act.Ignore k = plain-turns n frame info clock m last _ (kept _ refl refl refl refl) tt q
+  quiet-turns q (act.Tell r) k = plain-turns n frame info clock m last _ (kept _ refl refl refl refl) k q
+  quiet-turns q (act.Begin size) k = absurd k
+  quiet-turns q (act.Resume place number received) k = absurd k
+  quiet-turns q (act.Store place offset received) k = absurd k
+  quiet-turns q (act.Overrun place) k = absurd k
+  quiet-turns q act.Stop k = plain-turns n frame info clock m last _ (kept _ refl refl refl refl) tt q
+  quiet-turns q (act.Finish place) k = absurd k
+  quiet-turns q act.Select k = chosen-turns q _ (select-told s last most size info (m .disk) (m .owner) (m .table) (m .selected))
+  quiet-turns q (act.Send place offset lock passed) k = told-turns q _ (send-told s last place offset lock passed (m .disk) (m .owner) (m .table))
+  quiet-turns q (act.Confirm place destination) k = told-turns q _ (confirm-told s last place destination (m .disk) (m .owner) (m .table))
+  quiet-turns q (act.End r) k = plain-turns n frame info clock m last _ (kept _ refl refl refl refl) k q
+  quiet-turns q (act.Abort place) k = plain-turns n frame info clock m last _ (kept _ refl refl refl refl) tt q
+
+  -- an upload that goes on: UPLOAD_CMD names a file, so UL_GO_RESP gives no new number
+  pub resume-turns : (wordAt info 0 ≡ 0 → ⊥) → (place number received : ℕ) → Done (act.Resume place number received)
+  unfolding carryOut onReply onGo
+  resume-turns z place number received =
+      left-turns n frame info clock m last _ (kept _ refl refl refl refl) (rw (ne-eqb (wordAt info 0) 0 z)) (λ e. absurd (z e))
