@@ -10,6 +10,7 @@ use lib.Seq.{length-take-le}
 use borrow.Author.Tests.{lt-ltb, le-ltb, eq-eqb, ne-eqb, ltb-true, ltb-false, eqb-true, eqb-false}
 use Rattle.packet.specs.declared.frame.Frame.{Frame}
 use Rattle.packet.specs.declared.frame.Frame.the-variants.{Open, TooLong, Whole, Refused}
+use Rattle.blocks.specs.Contents.{held}
 use Rattle.header.specs.Header.{verdict}
 use Rattle.header.specs.Fields.{fieldsSet}
 use Rattle.session.specs.declared.state.Session.{Session}
@@ -37,6 +38,7 @@ use Rattle.files.specs.Sound.{Sound, Sizes}
 use Rattle.files.proofs.Beginning.{BeginLeaves, begin-leaves, begin-kept}
 use Rattle.files.proofs.Received.{append-done, append-leaves}
 use Rattle.files.proofs.Completed.{check-is, complete-done, complete-leaves}
+use Rattle.files.proofs.Calls.{by-number}
 use Rattle.files.proofs.Discarded.{discard-done, discard-leaves}
 use Rattle.links.proofs.Facts.{PartialAt}
 use Rattle.decide.specs.declared.act.Act.{Act}
@@ -136,6 +138,7 @@ plain-small (reply.Selected c) info p = p
 pub record Turns (n : ℕ) (frame : Frame) (info : List ℕ) (clock : ℕ) (m : Mem) (last : Last) (t : Turned) : Type 0 where
   pub effect : Effect (onReply (t .turn .reply) n frame info clock) last (filesIn m) (t .turn .last) (filesIn (t .mem))
   pub small : Small (t .turn .reply) info
+  pub bound : t .turn .last .number ≤ mostGiven
   pub owners : length (t .mem .owner) ≡ length (m .owner)
   pub records : length (t .mem .table) ≡ length (m .table)
 
@@ -146,7 +149,7 @@ pub record Leaves (m : Mem) (last : Last) (t : Turned) : Type 0 where
   pub table : t .mem .table ≡ m .table
   pub given : t .turn .last ≡ last
 
-module _ (n : ℕ) (frame : Frame) (info : List ℕ) (clock : ℕ) (m : Mem) (last : Last) where
+module _ (n : ℕ) (frame : Frame) (info : List ℕ) (clock : ℕ) (m : Mem) (last : Last) (bound : last .number ≤ mostGiven) where
   same-files : (t : Turned) → Leaves m last t → Same last (filesIn m) (t .turn .last) (filesIn (t .mem))
   same-files t l = record { files = λ q. rw (l .disk, l .owner, l .table); given = l .given }
 
@@ -156,6 +159,7 @@ module _ (n : ℕ) (frame : Frame) (info : List ℕ) (clock : ℕ) (m : Mem) (la
       record {
         effect = subst (λ (x : Event). Effect x last (filesIn m) (t .turn .last) (filesIn (t .mem))) (sym e) (same-files t l);
         small = k;
+        bound = rw (l .given) bound;
         owners = ap length (l .owner);
         records = ap length (l .table);
       }
@@ -213,7 +217,7 @@ confirm-told : (s : Session) (last : Last) (place destination : ℕ) (disk owner
 unfolding confirmTurn
 confirm-told s last place destination disk owner table = either last (ltb (destinationsAt disk owner table place) destination) _ _ (refl, tt) (refl, tt)
 
-module _ (n : ℕ) (frame : Frame) (info : List ℕ) (clock : ℕ) (m : Mem) (last : Last) (s : Session) (most size : ℕ) where
+module _ (n : ℕ) (frame : Frame) (info : List ℕ) (clock : ℕ) (m : Mem) (last : Last) (bound : last .number ≤ mostGiven) (s : Session) (most size : ℕ) where
   abbrev Done : Act → Type 0
   Done a = Turns n frame info clock m last (carryOut a s last clock most size info m)
 
@@ -222,34 +226,243 @@ module _ (n : ℕ) (frame : Frame) (info : List ℕ) (clock : ℕ) (m : Mem) (la
 
   chosen-turns : onQuiet n frame info ≡ nothing → (r : Chooses) → Told last (r .turn) → Turns n frame info clock m last (onChooses m r)
   unfolding onChooses
-  chosen-turns q r k = plain-turns n frame info clock m last _ (kept _ refl refl refl (k .0)) (k .1) q
+  chosen-turns q r k = plain-turns n frame info clock m last bound _ (kept _ refl refl refl (k .0)) (k .1) q
 
   told-turns : onQuiet n frame info ≡ nothing → (t : Turn) → Told last t → Turns n frame info clock m last (turned t m)
-  told-turns q t k = plain-turns n frame info clock m last _ (kept _ refl refl refl (k .0)) (k .1) q
+  told-turns q t k = plain-turns n frame info clock m last bound _ (kept _ refl refl refl (k .0)) (k .1) q
 
   pub close-turns : Done act.Close
   unfolding carryOut onChooses download.closeTurn onReply
-  close-turns = left-turns n frame info clock m last _ (kept _ refl refl refl refl) refl tt
+  close-turns = left-turns n frame info clock m last bound _ (kept _ refl refl refl refl) refl tt
 
   pub quiet-turns : onQuiet n frame info ≡ nothing → (a : Act) → Quiet a → Done a
   unfolding carryOut
   quiet-turns q act.Close k = close-turns
-  quiet-turns q act.Ignore k = plain-turns n frame info clock m last _ (kept _ refl refl refl refl) tt q
-  quiet-turns q (act.Tell r) k = plain-turns n frame info clock m last _ (kept _ refl refl refl refl) k q
+  quiet-turns q act.Ignore k = plain-turns n frame info clock m last bound _ (kept _ refl refl refl refl) tt q
+  quiet-turns q (act.Tell r) k = plain-turns n frame info clock m last bound _ (kept _ refl refl refl refl) k q
   quiet-turns q (act.Begin size) k = absurd k
   quiet-turns q (act.Resume place number received) k = absurd k
   quiet-turns q (act.Store place offset received) k = absurd k
   quiet-turns q (act.Overrun place) k = absurd k
-  quiet-turns q act.Stop k = plain-turns n frame info clock m last _ (kept _ refl refl refl refl) tt q
+  quiet-turns q act.Stop k = plain-turns n frame info clock m last bound _ (kept _ refl refl refl refl) tt q
   quiet-turns q (act.Finish place) k = absurd k
   quiet-turns q act.Select k = chosen-turns q _ (select-told s last most size info (m .disk) (m .owner) (m .table) (m .selected))
   quiet-turns q (act.Send place offset lock passed) k = told-turns q _ (send-told s last place offset lock passed (m .disk) (m .owner) (m .table))
   quiet-turns q (act.Confirm place destination) k = told-turns q _ (confirm-told s last place destination (m .disk) (m .owner) (m .table))
-  quiet-turns q (act.End r) k = plain-turns n frame info clock m last _ (kept _ refl refl refl refl) k q
-  quiet-turns q (act.Abort place) k = plain-turns n frame info clock m last _ (kept _ refl refl refl refl) tt q
+  quiet-turns q (act.End r) k = plain-turns n frame info clock m last bound _ (kept _ refl refl refl refl) k q
+  quiet-turns q (act.Abort place) k = plain-turns n frame info clock m last bound _ (kept _ refl refl refl refl) tt q
 
   -- an upload that goes on: UPLOAD_CMD names a file, so UL_GO_RESP gives no new number
   pub resume-turns : (wordAt info 0 ≡ 0 → ⊥) → (place number received : ℕ) → Done (act.Resume place number received)
   unfolding carryOut onReply onGo
   resume-turns z place number received =
-      left-turns n frame info clock m last _ (kept _ refl refl refl refl) (rw (ne-eqb (wordAt info 0) 0 z)) (λ e. absurd (z e))
+      left-turns n frame info clock m last bound _ (kept _ refl refl refl refl) (rw (ne-eqb (wordAt info 0) 0 z)) (λ e. absurd (z e))
+
+-- ---- a new file
+
+view-is : (v : View) (f : File) (bytes : List ℕ) → v .file ≡ f → v .bytes ≡ bytes → v ≡ view f bytes
+view-is v f bytes e d = rw (← e, ← d)
+
+module _ (n : ℕ) (frame : Frame) (info : List ℕ) (clock : ℕ) (m : Mem) (last : Last) (bound : last .number ≤ mostGiven) (st : Stored m last)
+    (s : Session) (most : ℕ) where
+  -- UPLOAD_CMD asks for a new file
+  module _ (new : wordAt info 0 ≡ 0) where
+    abbrev asked : uploads.Begins
+    asked = uploads.beginOf (m .map) (m .owner) (m .table) (last .number) (wordAt info 4)
+
+    started-turns : (number place : ℕ) → number ≡ last .number + 1 → number ≤ mostGiven
+        → BeginLeaves (m .map) (m .owner) (m .table) (last .number) (last .time) (wordAt info 4) place asked
+        → Turns n frame info clock m last
+        (onFrees m (frees (turnOf (record { linked = s .linked; up = up.Receiving place 0 0; down = s .down; held = s .held; count = s .count; next = s .next })
+        (lastOf number (last .time)) (reply.Go number 0)) (asked .map) (asked .owner) (asked .table)))
+    unfolding onReply onGo onFrees
+    started-turns number place e l b =
+        record {
+          effect = rw (eq-eqb (wordAt info 0) 0 new) (record {
+            change = record {
+              place = place;
+              size = wordAt info 4;
+              free = b .free;
+              here = view-is (viewAt (m .disk) (asked .owner) (asked .table) place) _ [] (b .file) (b .bytes (m .disk));
+              others = λ q z. b .others (m .disk) q z;
+              given = ap (λ (k : ℕ). lastOf k (last .time)) e;
+            };
+            number = e;
+            announced = refl;
+          });
+          small = λ z. omega arith;
+          bound = l;
+          owners = b .blocks-size;
+          records = b .table-size;
+        }
+
+    begun-turns : (number : ℕ) → number ≡ last .number + 1 → number ≤ mostGiven → (a : Begun) → asked .answer ≡ a
+        → Turns n frame info clock m last (onFrees m (frees (upload.begunTurn a s last number) (asked .map) (asked .owner) (asked .table)))
+    unfolding upload.begunTurn onReply onFrees
+    begun-turns number e l (begun.Refused r) q =
+        let k = begin-kept (m .map) (m .owner) (m .table) (last .number) (wordAt info 4) r q in
+        left-turns n frame info clock m last bound _ (record {
+          disk = refl;
+          owner = ap (λ (b : uploads.Begins). b .owner) k;
+          table = ap (λ (b : uploads.Begins). b .table) k;
+          given = refl;
+        }) refl tt
+    begun-turns number e l (begun.Started place) q =
+        started-turns number place e l
+        (begin-leaves (m .map) (m .owner) (m .table) (last .number) (last .time) (st .sound) (wordAt info 4) place q)
+
+    pub begin-turns : (size : ℕ) → Turns n frame info clock m last (carryOut (act.Begin (wordAt info 4)) s last clock most size info m)
+    unfolding carryOut upload.beginWith upload.begunAs onReply onFrees
+    begin-turns size = go (nextNumber (last .number)) refl
+      where
+        go : (g : Given) → nextNumber (last .number) ≡ g
+            → Turns n frame info clock m last (onFrees m (upload.beginWith g s last (wordAt info 4) (m .map) (m .owner) (m .table)))
+        go UsedUp e = left-turns n frame info clock m last bound _ (record { disk = refl; owner = refl; table = refl; given = refl }) refl tt
+        go (Next number) e =
+            let g = number-given (last .number) number e in
+            begun-turns number (g .next) (g .fits bound) (asked .answer) refl
+
+-- ---- a file that a session uploads
+
+-- the upload time is the one of the paper
+time-is : (clock last t : ℕ) → uploadTime clock last ≡ Next t → t ≡ timeAt clock last
+time-is clock last t e = go (eqb last mostGiven) e
+  where
+    go : (x : Bool) → cond x UsedUp (Next (timeAt clock last)) ≡ Next t → t ≡ timeAt clock last
+    go true e = let z : _≡_ {A = ℕ} 0 1 = cc in absurd (omega arith)
+    go false e = let s : timeAt clock last ≡ t = cc in sym s
+
+module _ (frame : Frame) (info : List ℕ) (clock : ℕ) (m : Mem) (last : Last) (bound : last .number ≤ mostGiven) (st : Stored m last)
+    (s : Session) (most place : ℕ) (number : recordAt (m .table) place .number ≡ 0 → ⊥) (time : recordAt (m .table) place .time ≡ 0) where
+  abbrev own : File
+  own = recordAt (m .table) place
+
+  abbrev ownPartial : Partial own
+  ownPartial = record { number = number; time = time }
+
+  -- UL_NAK_RESP, with the uplink's state afterwards
+  pub discard-turns : (u : Uplink) (r : ℕ)
+      → Turns (own .number) frame info clock m last (onFrees m (upload.discardTurn s last place u r (m .map) (m .owner) (m .table)))
+  unfolding onFrees upload.discardTurn onReply
+  discard-turns u r =
+      let d = discard-leaves (m .map) (m .owner) (m .table) (last .number) (last .time) (st .sound) place
+      (discard-done (m .map) (m .owner) (m .table) (last .number) (last .time) (st .sound) (st .sizes .some) (st .sizes .most) place number) in
+      let w = uploads.discardOf (m .map) (m .owner) (m .table) place in
+      record {
+        effect = record {
+          change = record {
+            place = place;
+            partial = ownPartial;
+            here = view-is (viewAt (m .disk) (w .owner) (w .table) place) noFile [] (d .file) (ap (λ (f : File). take (f .received) (held (place + 1) (w .owner) (m .disk))) (d .file));
+            others = λ q z. d .others (m .disk) q z;
+            given = refl;
+          };
+          number = refl;
+        };
+        small = tt;
+        bound = bound;
+        owners = d .blocks-size;
+        records = d .table-size;
+      }
+
+  -- DATA_END: refused by the checks
+  finish-refused : (size : ℕ) → (checkOf (m .disk) (m .owner) (m .table) place ≡ 0 → ⊥)
+      → carryOut (act.Finish place) s last clock most size info m
+      ≡ onFrees m (upload.discardTurn s last place up.Idle (checkOf (m .disk) (m .owner) (m .table) place) (m .map) (m .owner) (m .table))
+  unfolding carryOut onMoves onFrees upload.judgedAt upload.finishAs upload.withDisk
+  finish-refused size z = rw (ne-eqb (checkOf (m .disk) (m .owner) (m .table) place) 0 z)
+
+  -- the upload times are used up
+  finish-late : (size : ℕ) → checkOf (m .disk) (m .owner) (m .table) place ≡ 0 → uploadTime clock (last .time) ≡ UsedUp
+      → carryOut (act.Finish place) s last clock most size info m
+      ≡ onFrees m (upload.discardTurn s last place up.Idle 3 (m .map) (m .owner) (m .table))
+  unfolding carryOut onMoves onFrees upload.judgedAt upload.finishAs upload.withDisk upload.timed
+  finish-late size z e = rw (eq-eqb (checkOf (m .disk) (m .owner) (m .table) place) 0 z, e)
+
+  -- accepted
+  finish-accepted : (size t : ℕ) → checkOf (m .disk) (m .owner) (m .table) place ≡ 0 → uploadTime clock (last .time) ≡ Next t
+      → carryOut (act.Finish place) s last clock most size info m ≡ onWrites m (upload.acceptTurn s last place t (m .disk) (m .owner) (m .table))
+  unfolding carryOut onMoves onWrites upload.judgedAt upload.finishAs upload.withBlocks upload.timed
+  finish-accepted size t z e = rw (eq-eqb (checkOf (m .disk) (m .owner) (m .table) place) 0 z, e)
+
+  -- UL_ACK_RESP
+  accept-turns : (t : ℕ) → t ≡ timeAt clock (last .time) → last .time < t → checkOf (m .disk) (m .owner) (m .table) place ≡ 0
+      → Turns (own .number) frame info clock m last (onWrites m (upload.acceptTurn s last place t (m .disk) (m .owner) (m .table)))
+  unfolding onWrites upload.acceptTurn upload.acceptedAs onReply
+  accept-turns t e h z =
+      let done = complete-done (m .map) (m .disk) (m .owner) (m .table) (last .number) (last .time) (st .sound) (st .sizes) place number z t in
+      let c = complete-leaves (m .map) (m .disk) (m .owner) (m .table) (last .number) (last .time) (st .sound) place t done in
+      let w = completeOf (m .disk) (m .owner) (m .table) place t in
+      rw (eq-eqb (w .answer) 0 done) (record {
+        effect = record {
+          change = record {
+            place = place;
+            time = t;
+            partial = ownPartial;
+            whole = sym (check-is (m .map) (m .disk) (m .owner) (m .table) (last .number) (last .time) (st .sound) (st .sizes) place number) ∙ z;
+            above = h;
+            here = view-is (viewAt (w .disk) (m .owner) (w .table) place) _ _ (c .file) (c .bytes);
+            others = λ q z. c .others q z;
+            given = refl;
+          };
+          number = refl;
+          time-is = e;
+        };
+        small = tt;
+        bound = bound;
+        owners = refl;
+        records = c .table-size;
+      })
+
+  pub finish-turns : (size : ℕ) → Turns (own .number) frame info clock m last (carryOut (act.Finish place) s last clock most size info m)
+  finish-turns size = by-number (checkOf (m .disk) (m .owner) (m .table) place) (λ z. timely z (uploadTime clock (last .time)) refl)
+      (λ z. rw (finish-refused size z) (discard-turns up.Idle (checkOf (m .disk) (m .owner) (m .table) place)))
+    where
+      timely : checkOf (m .disk) (m .owner) (m .table) place ≡ 0 → (g : Given) → uploadTime clock (last .time) ≡ g
+          → Turns (own .number) frame info clock m last (carryOut (act.Finish place) s last clock most size info m)
+      timely z UsedUp e = rw (finish-late size z e) (discard-turns up.Idle 3)
+      timely z (Next t) e =
+          rw (finish-accepted size t z e) (accept-turns t (time-is clock (last .time) t e) (time-given clock (last .time) t e .later) z)
+
+  -- DATA that would pass the announced length
+  pub overrun-turns : (size : ℕ) → Turns (own .number) frame info clock m last (carryOut (act.Overrun place) s last clock most size info m)
+  unfolding carryOut
+  overrun-turns size = discard-turns up.Ignoring 16
+
+-- DATA within it
+module _ (info : List ℕ) (clock : ℕ) (m : Mem) (last : Last) (bound : last .number ≤ mostGiven) (st : Stored m last)
+    (s : Session) (most place : ℕ) (number : recordAt (m .table) place .number ≡ 0 → ⊥) (time : recordAt (m .table) place .time ≡ 0)
+    (whole : length info ≡ 256) (size : ℕ) (small : size ≤ 256) (room : recordAt (m .table) place .received + size ≤ recordAt (m .table) place .size) where
+  abbrev written : uploads.Writes
+  written = uploads.appendOf (m .disk) (m .owner) (m .table) place (take size info)
+
+  taken : length (take size info) ≡ size
+  taken = length-take-le size info (omega arith)
+
+  pub store-turns : (offset received : ℕ)
+      → Turns (recordAt (m .table) place .number) (Whole 0 size) info clock m last (carryOut (act.Store place offset received) s last clock most size info m)
+  unfolding carryOut onWrites upload.storeTurn upload.appendedAs upload.storedAs onReply onQuiet
+  store-turns offset received =
+      let l = taken in
+      let fits : recordAt (m .table) place .received + length (take size info) ≤ recordAt (m .table) place .size = omega arith in
+      let done = append-done (m .map) (m .disk) (m .owner) (m .table) (last .number) (last .time) (st .sound) (st .sizes) place number (take size info) fits in
+      let a = append-leaves (m .map) (m .disk) (m .owner) (m .table) (last .number) (last .time) (st .sound) place (take size info) done in
+      rw (le-ltb (length info) size (omega arith), eq-eqb (written .answer) 0 done) (record {
+        effect = rw (ne-eqb (recordAt (m .table) place .number) 0 number) (record {
+          change = record {
+            place = place;
+            more = take size info;
+            partial = record { number = number; time = time };
+            room = fits;
+            here = view-is (viewAt (written .disk) (m .owner) (written .table) place) _ _ (a .file) (a .bytes);
+            others = λ q z. a .others q z;
+            given = refl;
+          };
+          number = refl;
+          bytes-are = refl;
+        });
+        small = tt;
+        bound = bound;
+        owners = refl;
+        records = a .table-size;
+      })
