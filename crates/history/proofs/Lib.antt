@@ -1,1 +1,11 @@
 pub mod Interface
+pub mod Parts
+pub mod GoodFacts
+pub mod Hearing
+pub mod Counts
+pub mod Made
+pub mod Leaves
+pub mod Asked
+pub mod Effects
+pub mod Uploading
+pub mod Acts
