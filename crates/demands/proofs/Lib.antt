@@ -1,3 +1,4 @@
 pub mod Acts
 pub mod Decided
 pub mod Heard
+pub mod Calls

@@ -15,17 +15,11 @@ use Rattle.session.specs.declared.reply.Answer.{Answer}
 use Rattle.session.specs.declared.reply.Answer.the-variants as answer
 use Rattle.table.specs.declared.File.{File}
 use Rattle.table.specs.Table.{files, fileAt}
-use Rattle.files.specs.View.{viewAt}
 use Rattle.decide.specs.Words.{wordAt}
 use Rattle.server.specs.declared.Server.{Server}
-use Rattle.server.specs.State.{Lent, Outcome, linkOf, ownerPart, tablePart}
+use Rattle.server.specs.State.{Lent, Outcome, linkOf, tablePart}
 use Rattle.server.specs.Turns.{hearOf}
 use Rattle.history.specs.Calls.{Call, login, receive, request, lose, callOf}
-use Rattle.history.specs.Change.{Files}
-
--- the files of a state by place
-abbrev pub filesOf : Server → Lent → Files
-filesOf sv l place = viewAt (l .disk) (ownerPart sv l) (tablePart sv l) place
 
 -- ---- events
 
