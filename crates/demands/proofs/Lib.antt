@@ -2,3 +2,5 @@ pub mod Acts
 pub mod Decided
 pub mod Heard
 pub mod Calls
+pub mod Orderly
+pub mod Steps

@@ -1,0 +1,100 @@
+-- What a history of calls says of the files, by its packets: the bytes accepted under each number, the blocks reserved for it, the numbers
+-- given and the files completed. Nothing here looks at a stored byte. Assumes nothing.
+use mathlib.Core.Bool.{cond}
+use mathlib.Core.List.{List, [], _∷_, _++_, map}
+use Prim.Native.Nat.{ℕ, zero, suc, _+_}
+use lib.Dec.{eqb}
+use Rattle.table.specs.Given.{blocksFor}
+use Rattle.history.specs.Calls.{Call, Start, History, start, _▸_, after}
+use Rattle.demands.specs.Events.{Event, nothing, given, added, finished, dropped, eventOf}
+use Rattle.demands.specs.Effect.{timeAt}
+
+-- the event of a call that follows a history
+abbrev pub eventAt : Start → History → Call → Event
+eventAt s h c = eventOf (after s h .server) (after s h .lent) c
+
+-- ---- "the bytes accepted under its number, in order"
+
+-- what an event adds to file n: the information of a DATA packet accepted for it
+unfoldable pub addedBy : Event → ℕ → List ℕ
+addedBy nothing n = []
+addedBy (given k size) n = []
+addedBy (added k bytes) n = cond (eqb k n) bytes []
+addedBy (finished k clock) n = []
+addedBy (dropped k) n = []
+
+unfoldable pub accepted : Start → History → ℕ → List ℕ
+accepted s start n = []
+accepted s (h ▸ c) n = accepted s h n ++ addedBy (eventAt s h c) n
+
+-- ---- "their reserved blocks by history"
+
+-- "A new file reserves its length divided by 256, rounded up, in blocks"; "A NAK discards the partial; its blocks are free for the next upload"
+unfoldable pub reservedBy : Event → ℕ → ℕ → ℕ
+reservedBy nothing n was = was
+reservedBy (given k size) n was = cond (eqb k n) (blocksFor size) was
+reservedBy (added k bytes) n was = was
+reservedBy (finished k clock) n was = was
+reservedBy (dropped k) n was = cond (eqb k n) 0 was
+
+unfoldable pub reserved : Start → History → ℕ → ℕ
+reserved s start n = 0
+reserved s (h ▸ c) n = reservedBy (eventAt s h c) n (reserved s h n)
+
+-- f 1 + f 2 + .. + f n
+unfoldable pub total : ℕ → (ℕ → ℕ) → ℕ
+total zero f = 0
+total (suc n) f = total n f + f (suc n)
+
+-- ---- the numbers given
+
+unfoldable pub givenBy : Event → List ℕ
+givenBy nothing = []
+givenBy (given k size) = k ∷ []
+givenBy (added k bytes) = []
+givenBy (finished k clock) = []
+givenBy (dropped k) = []
+
+-- in the order in which UL_GO_RESP gave them
+unfoldable pub numbersGiven : Start → History → List ℕ
+numbersGiven s start = []
+numbersGiven s (h ▸ c) = numbersGiven s h ++ givenBy (eventAt s h c)
+
+-- 1, 2, .., n
+unfoldable pub fromOne : ℕ → List ℕ
+fromOne zero = []
+fromOne (suc n) = fromOne n ++ suc n ∷ []
+
+-- ---- the files completed
+
+pub record Completion : Type 0 where
+  pub number : ℕ
+  pub time : ℕ
+
+abbrev pub completion : ℕ → ℕ → Completion
+completion n t = record { number = n; time = t }
+
+-- the upload time of the last one, t where there is none
+unfoldable pub lastFrom : ℕ → List Completion → ℕ
+lastFrom t [] = t
+lastFrom t (c ∷ cs) = lastFrom (c .time) cs
+
+-- "the last one starts at 0"
+abbrev pub lastTime : List Completion → ℕ
+lastTime cs = lastFrom 0 cs
+
+-- "Upload time is the clock, or the last one given plus 1 if that is larger"
+unfoldable pub completedBy : Event → ℕ → List Completion
+completedBy nothing last = []
+completedBy (given k size) last = []
+completedBy (added k bytes) last = []
+completedBy (finished k clock) last = completion k (timeAt clock last) ∷ []
+completedBy (dropped k) last = []
+
+-- in the order in which UL_ACK_RESP went out
+unfoldable pub completions : Start → History → List Completion
+completions s start = []
+completions s (h ▸ c) = completions s h ++ completedBy (eventAt s h c) (lastTime (completions s h))
+
+abbrev pub times : List Completion → List ℕ
+times cs = map (λ c. c .time) cs
