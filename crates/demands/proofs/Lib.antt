@@ -4,3 +4,5 @@ pub mod Heard
 pub mod Calls
 pub mod Orderly
 pub mod Steps
+pub mod Lists
+pub mod Numbers

@@ -128,6 +128,8 @@ pub record Listed (c : Completion) (cs : List Completion) : Type 0 where
 -- a complete file with a number and a time stands at a place
 pub record Stands (F : Files) (c : Completion) : Type 0 where
   pub place : ℕ
+  pub live : Live (F place)
+  pub complete : F place .file .time ≡ 0 → ⊥
   pub number : F place .file .number ≡ c .number
   pub time : F place .file .time ≡ c .time
 
