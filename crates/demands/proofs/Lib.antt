@@ -6,3 +6,5 @@ pub mod Orderly
 pub mod Steps
 pub mod Lists
 pub mod Numbers
+pub mod Reserved
+pub mod Owning
