@@ -8,3 +8,5 @@ pub mod Lists
 pub mod Numbers
 pub mod Reserved
 pub mod Owning
+pub mod Story
+pub mod Theorems

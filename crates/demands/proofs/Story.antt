@@ -1,0 +1,119 @@
+-- What a history says of the files holds of them after every history: by one step for each call.
+use mathlib.Core.Path.{_≡_, refl, sym, ap, _∙_, subst}
+use mathlib.Core.Bool.{Bool, true, false, cond}
+use mathlib.Core.List.{List, [], _∷_, _++_}
+use Prim.Native.Nat.{ℕ, zero, suc, _+_, _≤_, _<_}
+use native.Mathlib.Omega.{arith}
+use lib.ListN.{length}
+use Rattle.blocks.proofs.Bits.{sumTo}
+use Rattle.table.specs.Given.{mostGiven}
+use Rattle.carry.specs.declared.turn.Last.{Last}
+use Rattle.carry.specs.Turn.{lastOf}
+use Rattle.server.specs.declared.Server.{Server}
+use Rattle.server.specs.State.{Lent}
+use Rattle.server.specs.Making.{newServer, makeOf}
+use Rattle.history.specs.Calls.{Call, callOf, Start, legal, making, made, History, start, _▸_, after, next}
+use Rattle.history.specs.Change.{Files}
+use Rattle.history.specs.Good.{Good}
+use Rattle.history.specs.Stored.{filesOf}
+use Rattle.history.proofs.Made.{made-good}
+use Rattle.demands.specs.Events.{Event, eventOf}
+use Rattle.demands.specs.Effect.{Effect}
+use Rattle.demands.specs.Accepted.{eventAt, accepted, reserved, total, numbersGiven, fromOne, Completion, completions, lastFrom, times}
+use Rattle.demands.specs.Demand3.{serverAt, lentAt, filesAt, Live, Contents, Rising, Listed}
+use Rattle.demands.proofs.Orderly.{Orderly, good-orderly}
+use Rattle.demands.proofs.Calls.{After, call-after}
+use Rattle.demands.proofs.Steps.{contents-step}
+use Rattle.demands.proofs.Lists.{sum-zero}
+use Rattle.demands.proofs.Numbers.{Timed, Own, Kept, fresh-step, numbers-step, times-step, own-step, kept-step}
+use Rattle.demands.proofs.Reserved.{weight, weights, no-weight, Reserves, reserves-step}
+
+pub record Story (s : Start) (h : History) : Type 0 where
+  pub bound : serverAt s h .last .number ≤ mostGiven
+  pub size : serverAt s h .blocks ≡ s .blocks
+  pub fresh : (n : ℕ) → serverAt s h .last .number < n → accepted s h n ≡ []
+  pub contents : Contents s h
+  pub numbers : numbersGiven s h ≡ fromOne (serverAt s h .last .number)
+  pub timed : Timed (completions s h) (serverAt s h .last .time)
+  pub own : Own (filesAt s h) (completions s h)
+  pub kept : Kept (filesAt s h) (completions s h)
+  pub reserves : Reserves (filesAt s h) (serverAt s h .last) (reserved s h)
+
+-- ---- the empty store
+
+made-server : (s : Start) → legal s ≡ true → made s .server ≡ newServer (s .blocks) (s .files) (s .sessions) (s .most)
+unfolding made makeOf
+made-server s e = rw e
+
+module _ (s : Start) (ok : legal s ≡ true) where
+  -- no number is given, so there is no file
+  none-live : (q : ℕ) → filesOf (made s .server) (made s .lent) q .file .number ≡ 0
+  none-live q =
+      let e : made s .server .last .number ≡ 0 = ap (λ (sv : Server). sv .last .number) (made-server s ok) in
+      omega (arith, good-orderly (made s .server) (made s .lent) (made-good s ok) .known q)
+
+  none-listed : (c : Completion) → Listed c [] → ⊥
+  none-listed c l = omega (arith, l .below)
+
+  story-start : Story s start
+  unfolding after accepted reserved numbersGiven completions fromOne total lastFrom
+  story-start =
+      let n : made s .server .last .number ≡ 0 = ap (λ (sv : Server). sv .last .number) (made-server s ok) in
+      let t : made s .server .last .time ≡ 0 = ap (λ (sv : Server). sv .last .time) (made-server s ok) in
+      record {
+        bound = omega arith;
+        size = ap (λ (sv : Server). sv .blocks) (made-server s ok);
+        fresh = λ k h. refl;
+        contents = λ q live. absurd (live (none-live q));
+        numbers = rw n;
+        timed = rw t (record { last-is = refl; rising = λ i j l h. absurd (omega arith); bounded = first });
+        own = λ q live late. absurd (live (none-live q));
+        kept = λ c l. absurd (none-listed c l);
+        reserves = record {
+          each = λ q live. absurd (live (none-live q));
+          none = λ k h. refl;
+          sum = rw n (sym (sum-zero 256 (λ q. weight (filesOf (made s .server) (made s .lent) q))
+              (λ q. no-weight (filesOf (made s .server) (made s .lent) q) (none-live q))));
+        };
+      }
+    where
+      first : (i : ℕ) → i < 1 → _≤_ (lib.ListN.getD (0 ∷ []) i 0) 0
+      first zero h = omega arith
+      first (suc i) h = absurd (omega arith)
+
+-- ---- one call more
+
+module _ (good-after : (s : Start) → legal s ≡ true → (h : History) → Good (after s h .server) (after s h .lent)) (s : Start) (ok : legal s ≡ true) where
+  step : (h : History) → Story s h → (c : Call) → After (eventAt s h c) (serverAt s h) (lentAt s h) (serverAt s (h ▸ c)) (lentAt s (h ▸ c))
+  unfolding after
+  step h y c = call-after (serverAt s h) (lentAt s h) (good-after s ok h) (y .bound) c
+
+  orderly : (h : History) → Orderly (filesAt s h) (serverAt s h .last)
+  orderly h = good-orderly (serverAt s h) (lentAt s h) (good-after s ok h)
+
+  story-step : (h : History) → Story s h → (c : Call) → Story s (h ▸ c)
+  unfolding accepted reserved numbersGiven completions
+  story-step h y c =
+      let e = eventAt s h c in
+      let a = step h y c in
+      let x = a .effect in
+      let F = filesAt s h in
+      let F′ = filesAt s (h ▸ c) in
+      let l = serverAt s h .last in
+      let l′ = serverAt s (h ▸ c) .last in
+      let o = orderly h in
+      record {
+        bound = a .bound;
+        size = a .size ∙ y .size;
+        fresh = fresh-step F F′ l l′ o (accepted s h) (y .fresh) e x;
+        contents = contents-step F F′ l l′ o (accepted s h) (y .fresh) (y .contents) e x;
+        numbers = numbers-step F F′ l l′ o (numbersGiven s h) (y .numbers) e x;
+        timed = times-step F F′ l l′ o (completions s h) (y .timed) e x;
+        own = own-step F F′ l l′ o (completions s h) (y .own) (y .kept) (y .timed .last-is) e x;
+        kept = kept-step F F′ l l′ o (completions s h) (y .own) (y .kept) (y .timed .last-is) e x;
+        reserves = reserves-step F F′ l l′ o (orderly (h ▸ c)) (reserved s h) (y .reserves) e x;
+      }
+
+  pub story : (h : History) → Story s h
+  story start = story-start s ok
+  story (h ▸ c) = story-step h (story h) c
