@@ -84,7 +84,7 @@ module _ (s : Start) (ok : legal s ≡ true) where
 -- ---- one call more
 
 module _ (good-after : (s : Start) → legal s ≡ true → (h : History) → Good (after s h .server) (after s h .lent)) (s : Start) (ok : legal s ≡ true) where
-  step : (h : History) → Story s h → (c : Call) → After (eventAt s h c) (serverAt s h) (lentAt s h) (serverAt s (h ▸ c)) (lentAt s (h ▸ c))
+  pub step : (h : History) → Story s h → (c : Call) → After (eventAt s h c) (serverAt s h) (lentAt s h) (serverAt s (h ▸ c)) (lentAt s (h ▸ c))
   unfolding after
   step h y c = call-after (serverAt s h) (lentAt s h) (good-after s ok h) (y .bound) c
 
