@@ -1,24 +1,22 @@
 -- A good state as facts: the sizes and the room, the store's soundness and the sessions', and back.
-use mathlib.Core.Path.{_≡_, refl, sym, ap, _∙_}
+use mathlib.Core.Path.{_≡_, refl}
 use mathlib.Core.Bool.{Bool, true, false, cond}
-use mathlib.Core.List.{List}
-use Prim.Native.Nat.{ℕ, _+_, _-_, _*_, _≤_, _<_}
+use Prim.Native.Nat.{ℕ, _-_, _≤_, _<_}
 use native.Mathlib.Omega.{arith}
 use borrow.Author.Tests.{leb-true, ltb-false, eqb-false, not-true}
 use lib.Dec.{leb, ltb, eqb}
-use lib.ListN.{length, take, getD}
+use lib.ListN.{length}
 use lib.Seq.{length-take-le}
-use Rattle.session.specs.declared.state.Session.{Session}
 use Rattle.table.specs.Table.{files}
 use Rattle.files.specs.Sound.{Sound, Sizes, soundTest}
 use Rattle.files.proofs.Soundness as store
-use Rattle.links.specs.Sound.{linksSound, link}
-use Rattle.links.proofs.Facts.{LinksFacts, LinkFacts}
+use Rattle.links.specs.Sound.{linksSound}
+use Rattle.links.proofs.Facts.{LinksFacts}
 use Rattle.links.proofs.Facts as links
 use Rattle.server.specs.declared.Server.{Server}
 use Rattle.server.specs.declared.check.Check.{Check}
 use Rattle.server.specs.declared.check.Check.the-variants.{Go, Refuse}
-use Rattle.server.specs.State.{Lent, linkOf, words, mapPart, ownerPart, tablePart}
+use Rattle.server.specs.State.{Lent, linkOf, mapPart, ownerPart, tablePart}
 use Rattle.server.specs.Check.{sizesFit, roomFits, fits, soundParts, inState, sessionCheck, checkParts, checkOf}
 use Rattle.server.proofs.CheckLaws.{sizes-true, Room, room-true, both-true}
 use Rattle.server.proofs.CheckLaws as check
@@ -67,7 +65,9 @@ module _ (sv : Server) (l : Lent) where
       go t =
           let some : 1 ≤ sv .blocks = least-blocks (sv .blocks) (sv .files) (sv .sessions) (sv .most) (t .sizes) in
           let s = sizes-true (sv .blocks) (sv .files) (sv .sessions) (sv .most) (t .sizes) in
-          let r = room-true (sv .blocks) (sv .files) (sv .sessions) (sv .most) (length (l .disk)) (length (l .map)) (length (l .owner)) (length (l .table)) (length (l .selected)) (length (l .held)) (t .room) in
+          let r =
+          room-true (sv .blocks) (sv .files) (sv .sessions) (sv .most) (length (l .disk)) (length (l .map)) (length (l .owner)) (length (l .table))
+          (length (l .selected)) (length (l .held)) (t .room) in
           let n : length (ownerPart sv l) ≡ sv .blocks = length-take-le (sv .blocks) (l .owner) (r .owner) in
           record {
             some = some;
@@ -109,7 +109,9 @@ module _ (sv : Server) (l : Lent) where
       rw (good-check g session wanted out)
       (go (eqb session 0) refl (ltb (sv .sessions) session) refl (inState wanted (linkOf sv (session - 1) .linked)) refl (ltb out 258) refl)
     where
-      go : (t : Bool) → eqb session 0 ≡ t → (u : Bool) → ltb (sv .sessions) session ≡ u → (v : Bool) → inState wanted (linkOf sv (session - 1) .linked) ≡ v
+      go : (t : Bool) → eqb session 0 ≡ t → (u : Bool) → ltb (sv .sessions) session ≡ u
+          → (v : Bool)
+          → inState wanted (linkOf sv (session - 1) .linked) ≡ v
           → (w : Bool)
           → ltb out 258 ≡ w
           → P (cond t (Refuse 34) (cond u (Refuse 34) (cond v (cond w (Refuse 32) (Go (session - 1))) (Refuse 34))))

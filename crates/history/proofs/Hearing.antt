@@ -1,6 +1,6 @@
 -- What hearing leaves of the unfinished packets: those of the other sessions as they were, and in the session's own part fewer bytes than its
 -- head announces. A call that ended in a packet, or in a closing, leaves no byte.
-use mathlib.Core.Path.{_≡_, refl, sym, ap, _∙_, subst}
+use mathlib.Core.Path.{_≡_, refl, sym, _∙_, subst}
 use mathlib.Core.Bool.{Bool, true, false, cond}
 use mathlib.Core.List.{List, [], _∷_}
 use mathlib.Core.Option.{Option, none, some}
@@ -8,15 +8,17 @@ use Prim.Native.Nat.{ℕ, _+_, _*_, _≤_, _<_}
 use native.Mathlib.Omega.{arith}
 use borrow.Author.Tests.{ltb-true, ltb-false, eq-eqb, lt-ltb}
 use lib.Dec.{ltb}
-use lib.ListN.{length, set, replicate, length-set, length-replicate}
-use Rattle.packet.specs.Machine.{Step, more, ends, Call, call, called}
+use lib.ListN.{length, set, length-set, length-replicate}
+use Rattle.packet.specs.Machine.{more, ends, Call, call, called}
 use Rattle.packet.specs.declared.frame.Frame.{Frame}
-use Rattle.packet.specs.declared.frame.Frame.the-variants.{Open, TooLong, Whole, Refused}
-use Rattle.packet.specs.Frame.{Held, Event, Heard, packet, too-long, none-held, announcedIn, packetIn, judged, byte, answerBy, answerOf, withoutPacket, receiveOf}
-use Rattle.links.proofs.Facts.{Unfinished, packetOf}
+use Rattle.packet.specs.declared.frame.Frame.the-variants.{Open, Refused}
+use Rattle.packet.specs.Frame.{Held, Event, Heard, packet, too-long, none-held, announcedIn, packetIn}
+use Rattle.packet.specs.Frame.{judged, byte, answerBy, answerOf, withoutPacket, receiveOf}
+use Rattle.links.proofs.Facts.{Unfinished, packetOf, part-end}
 use Rattle.server.specs.State.{part, withPart}
 use Rattle.server.specs.Turns.{HeardIn, heardIn, hearOf}
-use Rattle.history.proofs.Parts.{part-length, with-length, part-back, part-other}
+use Rattle.history.proofs.Parts.{part-size}
+use Rattle.history.proofs.Sessions.{part-length, packet-own, packet-stays}
 
 -- ---- one link
 
@@ -45,7 +47,8 @@ no-event : (e : Event) → none ≡ some e → ⊥
 no-event e q = let z : _≡_ {A = ℕ} 0 1 = cc in omega arith
 
 -- the step of n bytes in p: it goes on with an unfinished packet, or ends with none
-settled-step : (n : ℕ) (p : List ℕ) (k : Held → Call Held Event) → length p ≡ 258 → ((h : Held) → Unended h → Settled (k h)) → Settled (called (judged n p) k)
+settled-step : (n : ℕ) (p : List ℕ) (k : Held → Call Held Event) → length p ≡ 258 → ((h : Held) → Unended h → Settled (k h))
+    → Settled (called (judged n p) k)
 unfolding judged called
 settled-step n p k size ih = go (ltb n 2) refl (ltb 256 (announcedIn p)) refl (ltb n (2 + announcedIn p)) refl
   where
@@ -58,7 +61,8 @@ settled-step n p k size ih = go (ltb n 2) refl (ltb 256 (announcedIn p)) refl (l
     go : (a : Bool) → ltb n 2 ≡ a → (b : Bool) → ltb 256 (announcedIn p) ≡ b → (c : Bool) → ltb n (2 + announcedIn p) ≡ c
         → Settled
         (called
-        (cond a (more (record { count = n; part = p })) (cond b (ends none-held too-long) (cond c (more (record { count = n; part = p })) (ends none-held (packetIn p)))))
+        (cond a (more (record { count = n; part = p })) (cond b (ends none-held too-long)
+        (cond c (more (record { count = n; part = p })) (ends none-held (packetIn p)))))
         k)
     go true d b e c f = on (λ h. absurd (omega (arith, ltb-true n 2 d)))
     go false d true e c f = stop too-long
@@ -86,7 +90,8 @@ answer-well : (c : Call Held Event) → Settled c → HeardWell (answerOf c .ans
 unfolding answerOf answerBy withoutPacket
 answer-well c s = go (c .event) refl
   where
-    go : (e : Option Event) → c .event ≡ e → HeardWell (answerBy (c .taken) (c .state) e .frame) (answerBy (c .taken) (c .state) e .held) (c .state .part)
+    go : (e : Option Event) → c .event ≡ e
+        → HeardWell (answerBy (c .taken) (c .state) e .frame) (answerBy (c .taken) (c .state) e .held) (c .state .part)
     go none q =
         record {
           size = s .state .size;
@@ -125,21 +130,23 @@ pub record HeardOf (held : List ℕ) (i : ℕ) (h : HeardIn) : Type 0 where
   pub others : (j : ℕ) → (j ≡ i → ⊥) → packetOf (h .held) j ≡ packetOf held j
   pub own : HeardWell (h .framed .frame) (h .framed .held) (packetOf (h .held) i)
 
--- what a call on session i's part came to is put back
-heard-in : (held : List ℕ) (i : ℕ) (r : Heard) → i * 258 + 258 ≤ length held → HeardWell (r .answer .frame) (r .answer .held) (r .part)
-    → HeardOf held i (heardIn (r .answer) (withPart (i * 258) 258 (r .part) held))
-heard-in held i r room w =
-    record {
-      lengths = with-length (i * 258) 258 (r .part) held room (w .size);
-      others = λ j ne. part-other 258 i j (r .part) held room (w .size) ne;
-      own =
-          subst (λ (p : List ℕ). HeardWell (r .answer .frame) (r .answer .held) p)
-          (sym (part-back (i * 258) 258 (r .part) held room (w .size))) w;
-    }
+-- session i of so many, whose packets are all lent
+module _ (sessions i : ℕ) (held : List ℕ) (inside : i < sessions) (lent : sessions * 258 ≤ length held) where
+  room : i * 258 + 258 ≤ length held
+  room = omega (arith, part-end i sessions 258 inside)
 
-pub hear-well : (held : List ℕ) (i count : ℕ) (input : List ℕ) → i * 258 + 258 ≤ length held → (2 ≤ count → Unfinished count (packetOf held i))
-    → HeardOf held i (hearOf held i count input)
-unfolding hearOf
-hear-well held i count input room fewer =
-    heard-in held i (receiveOf (packetOf held i) count input) room
-    (receive-well (packetOf held i) count input (part-length (i * 258) 258 held room) fewer)
+  -- what a call on its part came to is put back
+  heard-in : (r : Heard) → HeardWell (r .answer .frame) (r .answer .held) (r .part)
+      → HeardOf held i (heardIn (r .answer) (withPart (i * 258) 258 (r .part) held))
+  heard-in r w =
+      record {
+        lengths = part-length (i * 258) 258 (r .part) held (w .size) room;
+        others = packet-stays sessions i (r .part) held inside lent (w .size);
+        own = subst (λ (p : List ℕ). HeardWell (r .answer .frame) (r .answer .held) p)
+            (sym (packet-own sessions i (r .part) held inside lent (w .size))) w;
+      }
+
+  pub hear-well : (count : ℕ) (input : List ℕ) → (2 ≤ count → Unfinished count (packetOf held i)) → HeardOf held i (hearOf held i count input)
+  unfolding hearOf
+  hear-well count input fewer =
+      heard-in (receiveOf (packetOf held i) count input) (receive-well (packetOf held i) count input (part-size (i * 258) 258 held room) fewer)

@@ -1,25 +1,23 @@
 -- A turn's parts put back into what is lent: the state stays good, its files changed as the turn's did, and the sizes are as they were.
-use mathlib.Core.Path.{_≡_, refl, sym, ap, _∙_, subst}
+use mathlib.Core.Path.{_≡_, refl, sym, _∙_, subst}
 use mathlib.Core.List.{List, _++_}
 use Prim.Native.Nat.{ℕ, _+_, _*_, _≤_, _<_}
 use native.Mathlib.Omega.{arith}
-use lib.ListN.{length, take, drop, set, length-set}
-use lib.Seq.{length-take-le}
+use lib.ListN.{length, drop, set, length-set}
 use Rattle.session.specs.declared.state.Session.{Session}
 use Rattle.table.specs.Table.{files}
 use Rattle.files.specs.View.{viewAt}
-use Rattle.files.specs.Sound.{Sound}
 use Rattle.links.proofs.Facts.{LinksFacts, part-end}
-use Rattle.carry.specs.declared.turn.Last.{Last}
 use Rattle.carry.specs.Turn.{Mem, mem, Turned}
 use Rattle.server.specs.declared.Server.{Server}
-use Rattle.server.specs.State.{Lent, lent, words, part, withPart, withLink, withTurn, mapPart, ownerPart, tablePart}
+use Rattle.server.specs.State.{Lent, lent, words, withPart, withLink, withTurn, mapPart, ownerPart, tablePart}
 use Rattle.server.specs.Turns.{partsOf}
-use Rattle.history.specs.Change.{Files, Change, same}
+use Rattle.history.specs.Change.{Change, same}
 use Rattle.history.specs.Good.{Good}
 use Rattle.history.specs.Stored.{filesOf}
-use Rattle.history.proofs.Interface.{filesIn, Stored, SameLengths, Kept}
-use Rattle.history.proofs.Parts.{front-back, front-length, part-length, with-length}
+use Rattle.history.proofs.Interface.{Stored, Kept}
+use Rattle.history.proofs.Parts.{front-back, front-length, part-size}
+use Rattle.history.proofs.Sessions.{part-length}
 use Rattle.history.proofs.GoodFacts.{Facts, good-facts, facts-good}
 
 pub record SameSizes (sv sv′ : Server) : Type 0 where
@@ -41,8 +39,8 @@ memOf l = mem (l .disk) (l .map) (l .owner) (l .table) (l .selected)
 -- the parts of a turn put back, and all unfinished packets
 abbrev pub backIn : Server → ℕ → Lent → Mem → List ℕ → Lent
 backIn sv i l m held =
-    lent (m .disk) (m .map ++ drop (words (sv .blocks)) (l .map)) (m .owner ++ drop (sv .blocks) (l .owner)) (m .table ++ drop (4 * sv .files) (l .table))
-    (withPart (i * sv .most) (sv .most) (m .selected) (l .selected)) held
+    lent (m .disk) (m .map ++ drop (words (sv .blocks)) (l .map)) (m .owner ++ drop (sv .blocks) (l .owner))
+    (m .table ++ drop (4 * sv .files) (l .table)) (withPart (i * sv .most) (sv .most) (m .selected) (l .selected)) held
 
 module _ (sv : Server) (l : Lent) (g : Good sv l) where
   -- a call that refuses
@@ -99,7 +97,8 @@ module _ (sv : Server) (l : Lent) (g : Good sv l) where
           (set (sv .links) i (t .turn .session))
           → Leaves sv l server left
       leaves-turn h k =
-          let mine : length (t .mem .selected) ≡ sv .most = kept .lengths .selected ∙ part-length (i * sv .most) (sv .most) (l .selected) selected-room in
+          let mine : length (t .mem .selected) ≡ sv .most =
+          kept .lengths .selected ∙ part-size (i * sv .most) (sv .most) (l .selected) selected-room in
           record {
             good = facts-good server left
                 (rw (
@@ -107,15 +106,17 @@ module _ (sv : Server) (l : Lent) (g : Good sv l) where
                   front-length (words (sv .blocks)) (t .mem .map) (l .map) (facts .room .map) (kept .lengths .map),
                   front-length (sv .blocks) (t .mem .owner) (l .owner) (facts .room .owner) (kept .lengths .owner),
                   front-length (4 * sv .files) (t .mem .table) (l .table) (facts .room .table) (kept .lengths .table),
-                  with-length (i * sv .most) (sv .most) (t .mem .selected) (l .selected) selected-room mine,
+                  part-length (i * sv .most) (sv .most) (t .mem .selected) (l .selected) mine selected-room,
                   h,
                 ) (g .fits))
                 (rw (map-back, owner-back, table-back) (kept .stored .sound))
                 (rw table-back k)
                 (length-set (sv .links) i (t .turn .session) ∙ g .links);
             change =
-                subst (λ (o : List ℕ). Change (sv .last) (filesOf sv l) (t .turn .last) (λ q. viewAt (t .mem .disk) o (tablePart server left) q)) (sym owner-back)
-                (subst (λ (r : List ℕ). Change (sv .last) (filesOf sv l) (t .turn .last) (λ q. viewAt (t .mem .disk) (t .mem .owner) r q)) (sym table-back)
+                subst (λ (o : List ℕ). Change (sv .last) (filesOf sv l) (t .turn .last) (λ q. viewAt (t .mem .disk) o (tablePart server left) q))
+                (sym owner-back)
+                (subst (λ (r : List ℕ). Change (sv .last) (filesOf sv l) (t .turn .last) (λ q. viewAt (t .mem .disk) (t .mem .owner) r q))
+                (sym table-back)
                 (kept .change));
             sizes = record { blocks = refl; files = refl; sessions = refl; most = refl };
           }

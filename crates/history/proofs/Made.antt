@@ -1,11 +1,10 @@
 -- A server just made is good: the empty store is sound, and no session is open.
-use mathlib.Core.Path.{_≡_, refl, sym, ap, _∙_, subst}
-use mathlib.Core.Bool.{Bool, true, false, cond, _&&_}
-use mathlib.Core.List.{List, _∷_, [], _++_}
-use Prim.Native.Nat.{ℕ, _+_, _*_, _/_, _≤_}
+use mathlib.Core.Path.{_≡_, refl, sym, _∙_, subst}
+use mathlib.Core.Bool.{true}
+use mathlib.Core.List.{List, _++_}
+use Prim.Native.Nat.{ℕ, _*_, _≤_}
 use native.Mathlib.Omega.{arith}
 use borrow.Author.Tests.{le-leb, eq-eqb}
-use lib.Dec.{leb, eqb}
 use lib.ListN.{length, take, drop, replicate, length-replicate}
 use lib.Seq.{length-take-le}
 use Rattle.blocks.specs.Owners.{mapOf}
@@ -13,13 +12,12 @@ use Rattle.blocks.specs.Check.{wordsFor}
 use Rattle.blocks.specs.Answers.{makeMap, makeOwner}
 use Rattle.blocks.proofs.Agreement.{length-map}
 use Rattle.table.specs.Table.{files}
-use Rattle.files.specs.Sound.{Sound}
 use Rattle.files.proofs.Empty.{empty-sound}
-use Rattle.links.proofs.Facts.{LinksFacts, closed-sound}
+use Rattle.links.proofs.Facts.{closed-sound}
 use Rattle.links.proofs.Facts as links
 use Rattle.server.specs.declared.Server.{Server}
-use Rattle.server.specs.State.{Lent, lent, words, mapPart, ownerPart, tablePart}
-use Rattle.server.specs.Check.{sizesFit, fits}
+use Rattle.server.specs.State.{Lent, lent, words, tablePart}
+use Rattle.server.specs.Check.{sizesFit}
 use Rattle.server.specs.Making.{newServer, emptyOf, makeOf, zeroed}
 use Rattle.server.proofs.CheckLaws.{sizes-true, Room, room-true, both-true}
 use Rattle.server.proofs.CheckLaws as check
@@ -35,7 +33,8 @@ module _ (s : Start) where
   -- what making leaves of what is lent
   abbrev left : Lent
   left =
-      lent (s .lent .disk) (mapOf (words (s .blocks)) (replicate (s .blocks) 0) ++ drop (words (s .blocks)) (s .lent .map)) (zeroed (s .blocks) (s .lent .owner))
+      lent (s .lent .disk)
+      (mapOf (words (s .blocks)) (replicate (s .blocks) 0) ++ drop (words (s .blocks)) (s .lent .map)) (zeroed (s .blocks) (s .lent .owner))
       (zeroed (4 * s .files) (s .lent .table)) (zeroed (s .sessions * s .most) (s .lent .selected)) (zeroed (s .sessions * 258) (s .lent .held))
 
   record Sized : Type 0 where
@@ -50,7 +49,9 @@ module _ (s : Start) where
       record {
         some = least-blocks (s .blocks) (s .files) (s .sessions) (s .most) (t .0);
         sizes = sizes-true (s .blocks) (s .files) (s .sessions) (s .most) (t .0);
-        room = room-true (s .blocks) (s .files) (s .sessions) (s .most) (length (s .lent .disk)) (length (s .lent .map)) (length (s .lent .owner)) (length (s .lent .table)) (length (s .lent .selected)) (length (s .lent .held)) (t .1);
+        room =
+            room-true (s .blocks) (s .files) (s .sessions) (s .most) (length (s .lent .disk)) (length (s .lent .map)) (length (s .lent .owner))
+            (length (s .lent .table)) (length (s .lent .selected)) (length (s .lent .held)) (t .1);
       }
 
   made-is : legal s ≡ true → Sized → made s ≡ state server left

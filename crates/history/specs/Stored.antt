@@ -1,5 +1,4 @@
 -- The files of a state, as a call finds and leaves them. Assumes nothing.
-use Prim.Native.Nat.{ℕ}
 use Rattle.files.specs.View.{viewAt}
 use Rattle.server.specs.declared.Server.{Server}
 use Rattle.server.specs.State.{Lent, ownerPart, tablePart}
