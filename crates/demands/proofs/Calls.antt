@@ -102,18 +102,17 @@ by-check sv l g session out P a b =
 
 -- ---- the effect of a call
 
--- the effect of an outcome; the last number given still has 32 bits, and the number of blocks is as it was
+-- the effect of an outcome, and that the last number given still has 32 bits
 pub record After (e : Event) (sv : Server) (l : Lent) (sv′ : Server) (l′ : Lent) : Type 0 where
   pub effect : Effect e (sv .last) (filesOf sv l) (sv′ .last) (filesOf sv′ l′)
   pub bound : sv′ .last .number ≤ mostGiven
-  pub size : sv′ .blocks ≡ sv .blocks
 
 module _ (sv : Server) (l : Lent) (g : Good sv l) (bound : sv .last .number ≤ mostGiven) where
   facts : Facts sv l
   facts = good-facts sv l g
 
   left-all : After nothing sv l sv l
-  left-all = record { effect = record { files = λ q. refl; given = refl }; bound = bound; size = refl }
+  left-all = record { effect = record { files = λ q. refl; given = refl }; bound = bound }
 
   -- a turn's parts are put back, and its reply goes out
   turned-after : (n : ℕ) (frame : Frame) (info : List ℕ) (clock i : ℕ) (t : Turned)
@@ -133,7 +132,6 @@ module _ (sv : Server) (l : Lent) (g : Good sv l) (bound : sv .last .number ≤ 
             (subst (λ (x : List ℕ). Effect (onReply (t .turn .reply) n frame info clock) (sv .last) (filesOf sv l) (t .turn .last)
             (λ q. viewAt (t .mem .disk) (t .mem .owner) x q)) (sym r) (d .effect)));
         bound = d .bound;
-        size = refl;
       }
 
   -- bytes of an open session's link
@@ -164,19 +162,19 @@ module _ (sv : Server) (l : Lent) (g : Good sv l) (bound : sv .last .number ≤ 
   login-after : (session clock : ℕ) (out : List ℕ) (c : Check) → After nothing sv l (onLogin c sv out clock .done .server) l
   unfolding onLogin
   login-after session clock out (Refuse r) = left-all
-  login-after session clock out (Go i) = record { effect = record { files = λ q. refl; given = refl }; bound = bound; size = refl }
+  login-after session clock out (Go i) = record { effect = record { files = λ q. refl; given = refl }; bound = bound }
 
   request-after : (out : List ℕ) (c : Check) → After nothing sv l (onRequest c sv l out .done .server) l
   unfolding onRequest dueAs
   request-after out (Refuse r) = left-all
-  request-after out (Go i) = record { effect = record { files = λ q. refl; given = refl }; bound = bound; size = refl }
+  request-after out (Go i) = record { effect = record { files = λ q. refl; given = refl }; bound = bound }
 
   lose-after : (c : Check)
       → After nothing sv l (onLose c sv (l .selected) (l .held) .done .server)
       (lent (l .disk) (l .map) (l .owner) (l .table) (onLose c sv (l .selected) (l .held) .selected) (onLose c sv (l .selected) (l .held) .held))
   unfolding onLose
   lose-after (Refuse r) = left-all
-  lose-after (Go i) = record { effect = record { files = λ q. refl; given = refl }; bound = bound; size = refl }
+  lose-after (Go i) = record { effect = record { files = λ q. refl; given = refl }; bound = bound }
 
   -- THE LAW of a call
   pub call-after : (c : Call) → After (eventOf sv l c) sv l (callOf sv l c .done .server) (callOf sv l c .lent)

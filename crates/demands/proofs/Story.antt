@@ -17,6 +17,7 @@ use Rattle.history.specs.Change.{Files}
 use Rattle.history.specs.Good.{Good}
 use Rattle.history.specs.Stored.{filesOf}
 use Rattle.history.proofs.Made.{made-good}
+use Rattle.history.proofs.Histories.{good-after}
 use Rattle.demands.specs.Events.{Event, eventOf}
 use Rattle.demands.specs.Effect.{Effect}
 use Rattle.demands.specs.Accepted.{eventAt, accepted, reserved, total, numbersGiven, fromOne, Completion, completions, lastFrom, times}
@@ -30,7 +31,6 @@ use Rattle.demands.proofs.Reserved.{weight, weights, no-weight, Reserve
 
 pub record Story (s : Start) (h : History) : Type 0 where
   pub bound : serverAt s h .last .number ≤ mostGiven
-  pub size : serverAt s h .blocks ≡ s .blocks
   pub fresh : (n : ℕ) → serverAt s h .last .number < n → accepted s h n ≡ []
   pub contents : Contents s h
   pub numbers : numbersGiven s h ≡ fromOne (serverAt s h .last .number)
@@ -41,7 +41,7 @@ pub record Story (s : Start) (h : History) : Type 0 where
 
 -- ---- the empty store
 
-made-server : (s : Start) → legal s ≡ true → made s .server ≡ newServer (s .blocks) (s .files) (s .sessions) (s .most)
+pub made-server : (s : Start) → legal s ≡ true → made s .server ≡ newServer (s .blocks) (s .files) (s .sessions) (s .most)
 unfolding made makeOf
 made-server s e = rw e
 
@@ -62,7 +62,6 @@ module _ (s : Start) (ok : legal s ≡ true) where
       let t : made s .server .last .time ≡ 0 = ap (λ (sv : Server). sv .last .time) (made-server s ok) in
       record {
         bound = omega arith;
-        size = ap (λ (sv : Server). sv .blocks) (made-server s ok);
         fresh = λ k h. refl;
         contents = λ q live. absurd (live (none-live q));
         numbers = rw n;
@@ -83,7 +82,7 @@ module _ (s : Start) (ok : legal s ≡ true) where
 
 -- ---- one call more
 
-module _ (good-after : (s : Start) → legal s ≡ true → (h : History) → Good (after s h .server) (after s h .lent)) (s : Start) (ok : legal s ≡ true) where
+module _ (s : Start) (ok : legal s ≡ true) where
   pub step : (h : History) → Story s h → (c : Call) → After (eventAt s h c) (serverAt s h) (lentAt s h) (serverAt s (h ▸ c)) (lentAt s (h ▸ c))
   unfolding after
   step h y c = call-after (serverAt s h) (lentAt s h) (good-after s ok h) (y .bound) c
@@ -104,7 +103,6 @@ module _ (good-after : (s : Start) → legal s ≡ true → (h : History) → Go
       let o = orderly h in
       record {
         bound = a .bound;
-        size = a .size ∙ y .size;
         fresh = fresh-step F F′ l l′ o (accepted s h) (y .fresh) e x;
         contents = contents-step F F′ l l′ o (accepted s h) (y .fresh) (y .contents) e x;
         numbers = numbers-step F F′ l l′ o (numbersGiven s h) (y .numbers) e x;

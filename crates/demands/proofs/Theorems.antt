@@ -23,6 +23,7 @@ use Rattle.history.specs.Calls.{Call, Start, legal, History, after, _▸_}
 use Rattle.history.specs.Good.{Good}
 use Rattle.history.specs.Stored.{filesOf}
 use Rattle.history.proofs.GoodFacts.{Facts, good-facts}
+use Rattle.history.proofs.Histories.{good-after, sizes-after}
 use Rattle.demands.specs.Events.{uploading}
 use Rattle.demands.specs.Accepted.{eventAt, reserved, total, numbersGiven, fromOne}
 use Rattle.demands.specs.Demand3.{serverAt, lentAt, filesAt, Live, Free, Owned, EachBlock, BlocksHeld, Rising, NumbersOnce, Contents, sessionOf, OwnFile, Told, TimesRise}
@@ -30,7 +31,7 @@ use Rattle.demands.proofs.Orderly.{Orderly, good-orderly}
 use Rattle.demands.proofs.Lists.{from-one-length, from-one-rising, sum-same}
 use Rattle.demands.proofs.Owning.{event-own, others-stay}
 use Rattle.demands.proofs.Reserved.{weight, weights, live-weight, no-weight}
-use Rattle.demands.proofs.Story.{Story, story, step}
+use Rattle.demands.proofs.Story.{Story, story, step, made-server}
 
 -- ---- of one good state
 
@@ -78,16 +79,19 @@ module _ (sv : Server) (l : Lent) (g : Good sv l) where
 
 -- ---- after any history
 
-module _ (good-after : (s : Start) → legal s ≡ true → (h : History) → Good (after s h .server) (after s h .lent)) (s : Start) (ok : legal s ≡ true) where
+module _ (s : Start) (ok : legal s ≡ true) where
   abbrev told : (h : History) → Story s h
-  told h = story good-after s ok h
+  told h = story s ok h
+
+  blocks-made : (h : History) → serverAt s h .blocks ≡ s .blocks
+  blocks-made h = sizes-after s ok h .blocks ∙ ap (λ (sv : Server). sv .blocks) (made-server s ok)
 
   count-given : (h : History) → length (numbersGiven s h) ≡ serverAt s h .last .number
   count-given h = ap length (told h .numbers) ∙ from-one-length (serverAt s h .last .number)
 
   -- "each storage block is free or belongs to one file"
   pub each-block : (h : History) → EachBlock s h
-  each-block h b k = block-owner (serverAt s h) (lentAt s h) (good-after s ok h) b (omega (arith, told h .size))
+  each-block h b k = block-owner (serverAt s h) (lentAt s h) (good-after s ok h) b (omega (arith, blocks-made h))
 
   -- "blocks held equal the sum over live files of their reserved blocks by history"
   pub blocks-held : (h : History) → BlocksHeld s h
@@ -98,7 +102,7 @@ module _ (good-after : (s : Start) → legal s ≡ true → (h : History) → Go
       record {
         held = held-weights sv l g ∙ sym (told h .reserves .sum) ∙ ap (λ (n : ℕ). total n (reserved s h)) (sym (count-given h));
         each = λ place live. place-weight sv l g place ∙ live-weight (filesAt s h place) live ∙ sym (told h .reserves .each place live);
-        all = free-and-held (mapPart sv l) (ownerPart sv l) (places (tablePart sv l)) (facts sv l g .store .blocks) ∙ owners sv l g ∙ told h .size;
+        all = free-and-held (mapPart sv l) (ownerPart sv l) (places (tablePart sv l)) (facts sv l g .store .blocks) ∙ owners sv l g ∙ blocks-made h;
       }
 
   -- "no file number is given twice"
@@ -118,7 +122,7 @@ module _ (good-after : (s : Start) → legal s ≡ true → (h : History) → Go
 
   -- "a call changes no file but its own"
   pub as-told : (h : History) (c : Call) → Told s h c
-  as-told h c = step good-after s ok h (told h) c .effect
+  as-told h c = step s ok h (told h) c .effect
 
   pub own-file : (h : History) (c : Call) → OwnFile s h c
   own-file h c =
