@@ -10,3 +10,5 @@ pub mod Reserved
 pub mod Owning
 pub mod Story
 pub mod Theorems
+pub mod Bytes
+pub mod Fields

@@ -16,7 +16,7 @@ use Rattle.files.specs.View.{View}
 use Rattle.server.specs.declared.Server.{Server}
 use Rattle.server.specs.State.{Lent, mapPart, ownerPart}
 use Rattle.history.specs.Change.{Files}
-use Rattle.history.specs.Calls.{Call, login, receive, request, lose, Start, History, after, _▸_}
+use Rattle.history.specs.Calls.{Call, login, receive, request, lose, Start, History, start, _▸_, after}
 use Rattle.history.specs.Stored.{filesOf}
 use Rattle.demands.specs.Events.{uploading}
 use Rattle.demands.specs.Effect.{Effect}
@@ -97,6 +97,28 @@ pub record OnlyFour (file now : List ℕ) : Type 0 where
   pub size : length now ≡ length file
   pub rest : (k : ℕ) → Outside k (placeOf 1 file) → Outside k (placeOf 6 file) → Outside k (placeOf 10 file) → Outside k (placeOf 18 file)
       → getD now k 0 ≡ getD file k 0
+
+-- all are bytes
+abbrev pub AreBytes : List ℕ → Type 0
+AreBytes [] = Unit {0}
+AreBytes (b ∷ bs) = (b < 256) × AreBytes bs
+
+-- what a link brings are bytes, as the type of the code says
+abbrev pub BringsBytes : Call → Type 0
+BringsBytes (login session clock out) = Unit {0}
+BringsBytes (receive session clock input out) = AreBytes input
+BringsBytes (request session out) = Unit {0}
+BringsBytes (lose session) = Unit {0}
+
+-- and so is what was lent for unfinished packets
+abbrev pub OfBytes : Start → History → Type 0
+OfBytes s start = AreBytes (s .lent .held)
+OfBytes s (h ▸ c) = OfBytes s h × BringsBytes c
+
+abbrev pub FourFields : Start → History → Type 0
+FourFields s h =
+    OfBytes s h → (place : ℕ) → Live (filesAt s h place) → (filesAt s h place .file .time ≡ 0 → ⊥)
+    → OnlyFour (accepted s h (filesAt s h place .file .number)) (filesAt s h place .bytes)
 
 -- ---- "a call changes no file but its own"
 
