@@ -12,3 +12,4 @@ pub mod Story
 pub mod Theorems
 pub mod Bytes
 pub mod Fields
+pub mod Example
