@@ -1,60 +1,52 @@
 -- What each act does to the files, told by its reply and the packet heard.
 use mathlib.Core.Path.{_≡_, refl, sym, ap, _∙_, subst}
 use mathlib.Core.Bool.{Bool, true, false, cond}
-use mathlib.Core.List.{List, [], _++_}
+use mathlib.Core.List.{List, []}
 use Prim.Native.Nat.{ℕ, _+_, _≤_, _<_}
 use native.Mathlib.Omega.{arith}
 use lib.Dec.{eqb, ltb}
 use lib.ListN.{length, take}
 use lib.Seq.{length-take-le}
-use borrow.Author.Tests.{lt-ltb, le-ltb, eq-eqb, ne-eqb, ltb-true, ltb-false, eqb-true, eqb-false}
+use borrow.Author.Tests.{le-ltb, eq-eqb, ne-eqb}
 use Rattle.packet.specs.declared.frame.Frame.{Frame}
-use Rattle.packet.specs.declared.frame.Frame.the-variants.{Open, TooLong, Whole, Refused}
+use Rattle.packet.specs.declared.frame.Frame.the-variants.{Whole, Refused}
 use Rattle.blocks.specs.Contents.{held}
-use Rattle.header.specs.Header.{verdict}
-use Rattle.header.specs.Fields.{fieldsSet}
 use Rattle.session.specs.declared.state.Session.{Session}
 use Rattle.session.specs.declared.state.Uplink.{Uplink}
 use Rattle.session.specs.declared.state.Uplink.the-variants as up
-use Rattle.session.specs.declared.state.Downlink.{Downlink}
-use Rattle.session.specs.declared.state.Downlink.the-variants as down
 use Rattle.session.specs.declared.reply.Reply.{Reply}
 use Rattle.session.specs.declared.reply.Reply.the-variants as reply
 use Rattle.table.specs.declared.File.{File}
-use Rattle.table.specs.declared.Found.{Found}
-use Rattle.table.specs.declared.Found.the-variants as found
 use Rattle.table.specs.declared.Given.{Given}
 use Rattle.table.specs.declared.Given.the-variants.{UsedUp, Next}
-use Rattle.table.specs.Table.{noFile, files, fileAt}
+use Rattle.table.specs.Table.{noFile, files}
 use Rattle.table.specs.Given.{nextNumber, uploadTime, mostGiven}
 use Rattle.table.proofs.Giving.{number-given, time-given}
 use Rattle.files.specs.declared.Begun.{Begun}
 use Rattle.files.specs.declared.Begun.the-variants as begun
 use Rattle.files.specs.Uploads as uploads
-use Rattle.files.specs.Completion.{checkOf, completed, completeOf, destinationsAt}
+use Rattle.files.specs.Completion.{checkOf, completeOf, destinationsAt}
 use Rattle.files.specs.Selection.{Selects, selectOf}
-use Rattle.files.specs.View.{View, recordAt, bytesAt, viewAt}
-use Rattle.files.specs.Sound.{Sound, Sizes}
+use Rattle.files.specs.View.{View, recordAt, viewAt}
 use Rattle.files.proofs.Beginning.{BeginLeaves, begin-leaves, begin-kept}
 use Rattle.files.proofs.Received.{append-done, append-leaves}
 use Rattle.files.proofs.Completed.{check-is, complete-done, complete-leaves}
 use Rattle.files.proofs.Calls.{by-number}
 use Rattle.files.proofs.Discarded.{discard-done, discard-leaves}
-use Rattle.links.proofs.Facts.{PartialAt}
 use Rattle.decide.specs.declared.act.Act.{Act}
 use Rattle.decide.specs.declared.act.Act.the-variants as act
 use Rattle.decide.specs.Words.{wordAt}
 use Rattle.carry.specs.declared.turn.Last.{Last}
 use Rattle.carry.specs.declared.turn.Turn.{Turn}
-use Rattle.carry.specs.Turn.{lastOf, turnOf, Mem, mem, Turned, turned, Frees, frees, Writes, writes, Moves, moves, Chooses}
+use Rattle.carry.specs.Turn.{lastOf, turnOf, Mem, mem, Turned, turned, frees, Writes, Chooses}
 use Rattle.carry.specs.Upload as upload
 use Rattle.carry.specs.Download as download
 use Rattle.carry.specs.Download.{selectTurn, selectedAs, confirmTurn}
 use Rattle.carry.specs.Carry.{onFrees, onWrites, onMoves, onChooses, carryOut}
-use Rattle.history.specs.Change.{Files, view, Partial, Same, Begins, Receives, Completes, Discards}
+use Rattle.history.specs.Change.{view, Partial, Same, Begins}
 use Rattle.history.proofs.Interface.{filesIn, Stored}
-use Rattle.demands.specs.Events.{Event, nothing, given, added, finished, dropped, numberIn, onQuiet, onGo}
-use Rattle.demands.specs.Effect.{Effect, Gives, Adds, Finishes, Drops, timeAt}
+use Rattle.demands.specs.Events.{Event, nothing, given, finished, dropped, onQuiet, onGo}
+use Rattle.demands.specs.Effect.{Effect, timeAt}
 
 -- ---- the event by the reply
 

@@ -1,16 +1,16 @@
 -- Where links bring bytes, the bytes accepted are bytes.
-use mathlib.Core.Path.{_≡_, refl, sym, ap, _∙_, subst}
+use mathlib.Core.Path.{_≡_}
 use mathlib.Core.Bool.{Bool, true, false, cond}
 use mathlib.Core.List.{List, [], _∷_, _++_}
 use mathlib.Core.Option.{Option, none, some}
-use Prim.Native.Nat.{ℕ, zero, suc, _+_, _-_, _*_, _<_}
+use Prim.Native.Nat.{ℕ, zero, suc, _+_, _-_, _*_}
 use native.Mathlib.Omega.{arith}
 use lib.Dec.{eqb, ltb}
 use lib.ListN.{length, take, drop, set, replicate}
 use Rattle.packet.specs.declared.frame.Frame.{Frame}
 use Rattle.packet.specs.declared.frame.Frame.the-variants.{Open, TooLong, Whole, Refused}
 use Rattle.packet.specs.Machine.{Step, more, ends, Call, called, call}
-use Rattle.packet.specs.Frame.{Held, Event, packet, too-long, none-held, announcedIn, packetIn, judged, byte, padded, Heard, heard, withoutPacket, answerBy, answerOf, refusedPart, receiveOf}
+use Rattle.packet.specs.Frame.{Held, Event, packet, too-long, none-held, announcedIn, packetIn, judged, byte, padded, Heard, withoutPacket, answerBy, answerOf, refusedPart, receiveOf}
 use Rattle.header.proofs.Written.{Bytes, bytes-drop, bytes-take, bytes-join}
 use Rattle.header.proofs.Set.{bytes-sets}
 use Rattle.session.specs.declared.reply.Answer.{Answer}

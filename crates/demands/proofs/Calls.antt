@@ -1,17 +1,16 @@
 -- A call on a good state does to the files what its event says: call-effect.
-use mathlib.Core.Path.{_≡_, refl, sym, ap, _∙_, subst}
+use mathlib.Core.Path.{_≡_, refl, sym, subst}
 use mathlib.Core.Bool.{Bool, true, false, cond}
-use mathlib.Core.List.{List, [], _∷_, _++_}
+use mathlib.Core.List.{List, _++_}
 use Prim.Native.Nat.{ℕ, _+_, _-_, _*_, _≤_, _<_}
 use native.Mathlib.Omega.{arith}
 use lib.Dec.{eqb, ltb}
 use lib.ListN.{length, take, drop}
-use borrow.Author.Tests.{le-ltb, eq-eqb, ne-eqb, ltb-false, eqb-false}
+use borrow.Author.Tests.{le-ltb, ne-eqb, ltb-false, eqb-false}
 use Rattle.packet.specs.declared.frame.Frame.{Frame}
 use Rattle.packet.specs.Numbers.{number, four}
 use Rattle.packet.specs.Packet.{packetOf}
 use Rattle.packet.proofs.NumberLaws.{number-four}
-use Rattle.session.specs.declared.state.Session.{Session}
 use Rattle.session.specs.declared.reply.Reply.{Reply}
 use Rattle.session.specs.declared.reply.Reply.the-variants as reply
 use Rattle.session.specs.State.{withHeld}
@@ -22,25 +21,22 @@ use Rattle.files.specs.View.{viewAt}
 use Rattle.files.proofs.Calls.{by-number}
 use Rattle.decide.specs.Words.{wordAt}
 use Rattle.decide.specs.Decide.{decideOf}
-use Rattle.carry.specs.declared.turn.Last.{Last}
-use Rattle.carry.specs.Turn.{Mem, mem, Turned}
+use Rattle.carry.specs.Turn.{mem, Turned}
 use Rattle.carry.specs.Carry.{carryOut}
 use Rattle.server.specs.declared.Server.{Server}
 use Rattle.server.specs.declared.check.Check.{Check}
 use Rattle.server.specs.declared.check.Check.the-variants.{Go, Refuse}
-use Rattle.server.specs.State.{Lent, lent, Outcome, linkOf, withTurn, part, withPart, words, ownerPart, tablePart}
+use Rattle.server.specs.State.{Lent, lent, linkOf, withTurn}
 use Rattle.server.specs.Check.{inState, sessionCheck, checkOf}
-use Rattle.server.specs.Turns.{HeardIn, hearOf, sizeIn, partsOf, putBack, actOf}
+use Rattle.server.specs.Turns.{hearOf, sizeIn, partsOf, putBack, actOf}
 use Rattle.server.specs.Calls.{answeredBy, heardBy, stepOf, onCheck, receiveOf, onLogin, loginOf, onLose, loseOf, onRequest, requestOf, dueAs}
 use Rattle.history.specs.Calls.{Call, login, receive, request, lose, callOf}
-use Rattle.history.specs.Change.{Files, Same}
 use Rattle.history.specs.Good.{Good}
 use Rattle.history.specs.Stored.{filesOf}
 use Rattle.history.proofs.GoodFacts.{Facts, good-facts, good-check}
-use Rattle.history.proofs.Interface.{filesIn, Stored}
 use Rattle.history.proofs.Parts.{front-back}
 use Rattle.history.proofs.Leaves.{memOf, backIn, stored-parts}
-use Rattle.demands.specs.Events.{Event, nothing, numberIn, uploading, heardOf, onQuiet, onGo, onSent, onAnswer, receiveEvent, eventOf}
+use Rattle.demands.specs.Events.{Event, nothing, uploading, onGo, onSent, onAnswer, receiveEvent, eventOf}
 use Rattle.demands.specs.Effect.{Effect}
 use Rattle.demands.proofs.Acts.{onReply, Small, Turns}
 use Rattle.demands.proofs.Heard.{heard-fits}

@@ -1,12 +1,12 @@
 -- What was heard on a link does to the files what its event says: each packet leads to one act of Acts.antt.
-use mathlib.Core.Path.{_≡_, refl, sym, ap, _∙_, subst}
+use mathlib.Core.Path.{_≡_, refl, sym, subst}
 use mathlib.Core.Bool.{Bool, true, false, cond}
-use mathlib.Core.List.{List, []}
-use Prim.Native.Nat.{ℕ, _+_, _≤_, _<_}
+use mathlib.Core.List.{List}
+use Prim.Native.Nat.{ℕ, _+_, _≤_}
 use native.Mathlib.Omega.{arith}
 use lib.Dec.{eqb, ltb}
 use lib.ListN.{length, getD}
-use borrow.Author.Tests.{eq-eqb, ne-eqb, ltb-true, ltb-false, eqb-true, eqb-false}
+use borrow.Author.Tests.{eq-eqb, ne-eqb, ltb-false, eqb-true, eqb-false}
 use Rattle.packet.specs.declared.frame.Frame.{Frame}
 use Rattle.packet.specs.declared.frame.Frame.the-variants.{Open, TooLong, Whole, Refused}
 use Rattle.session.specs.declared.state.Session.{Session}
@@ -33,7 +33,7 @@ use Rattle.carry.specs.Turn.{Mem}
 use Rattle.carry.specs.Carry.{carryOut}
 use Rattle.server.specs.Turns.{sizeIn}
 use Rattle.history.proofs.Interface.{Stored}
-use Rattle.demands.specs.Events.{Event, nothing, numberIn, onQuiet}
+use Rattle.demands.specs.Events.{nothing, numberIn, onQuiet}
 use Rattle.demands.proofs.Acts.{Quiet, Turns, close-turns, quiet-turns, resume-turns, begin-turns, finish-turns, overrun-turns, store-turns}
 
 -- ---- the downlink's acts leave the store

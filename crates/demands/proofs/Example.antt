@@ -2,7 +2,7 @@
 -- file place, and the file is document 01's smallest one of 80 bytes.
 use mathlib.Core.Path.{_≡_, refl}
 use mathlib.Core.Bool.{true}
-use mathlib.Core.List.{List, [], _∷_, _++_}
+use mathlib.Core.List.{List, [], _∷_}
 use Prim.Native.Nat.{ℕ}
 use lib.Count.{ones, trailingZeros}
 use lib.ListN.{replicate, take, drop}

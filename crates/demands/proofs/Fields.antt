@@ -1,19 +1,18 @@
 -- DEMAND 3: ".. with only the four server-set fields replaced": a complete file has the length of what was accepted, and each of its bytes but
 -- those of the four fields.
-use mathlib.Core.Path.{_≡_, refl, sym, ap, _∙_, subst}
+use mathlib.Core.Path.{_≡_, sym, subst}
 use mathlib.Core.Bool.{true}
 use mathlib.Core.List.{List}
-use mathlib.Core.Logic.{_⊎_, inl, inr}
+use mathlib.Core.Logic.{_⊎_}
 use Prim.Native.Nat.{ℕ, _+_, _≤_, _<_}
-use lib.ListN.{length, getD}
-use Rattle.header.specs.declared.scan.Place.{Place}
+use lib.ListN.{length}
 use Rattle.header.specs.Header.{checkItems, placeOf}
 use Rattle.header.specs.Fields.{fieldsSet}
 use Rattle.header.proofs.Written.{Bytes}
-use Rattle.header.proofs.Set.{verdict-parts, set-length, set-kept, placeAt, place-number, place-modified, place-sum, place-upload}
+use Rattle.header.proofs.Set.{verdict-parts, set-length, set-kept, place-number, place-modified, place-sum, place-upload}
 use Rattle.history.specs.Calls.{Start, legal, History}
 use Rattle.demands.specs.Accepted.{accepted}
-use Rattle.demands.specs.Demand3.{filesAt, Live, Outside, OnlyFour, FourFields}
+use Rattle.demands.specs.Demand3.{filesAt, Outside, OnlyFour, FourFields}
 use Rattle.demands.proofs.Bytes.{accepted-bytes}
 use Rattle.demands.proofs.Theorems.{contents}
 

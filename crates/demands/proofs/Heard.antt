@@ -1,15 +1,15 @@
 -- What is heard is at most 256 bytes of information, in 256 bytes.
-use mathlib.Core.Path.{_≡_, refl, sym, ap, _∙_, subst}
+use mathlib.Core.Path.{_≡_, refl}
 use mathlib.Core.Bool.{Bool, true, false, cond}
-use mathlib.Core.List.{List, [], _∷_, _++_}
+use mathlib.Core.List.{List, [], _∷_}
 use mathlib.Core.Option.{Option, none, some}
-use Prim.Native.Nat.{ℕ, _+_, _-_, _*_, _≤_, _<_}
+use Prim.Native.Nat.{ℕ, _+_, _-_, _*_, _≤_}
 use native.Mathlib.Omega.{arith}
 use lib.Dec.{eqb, ltb}
-use lib.ListN.{length, take, drop, set, replicate, length-append, length-replicate, length-take}
+use lib.ListN.{length, take, drop, set, replicate, length-append, length-replicate}
 use borrow.Author.Tests.{ltb-false}
 use Rattle.packet.specs.declared.frame.Frame.{Frame}
-use Rattle.packet.specs.declared.frame.Frame.the-variants.{Open, TooLong, Whole, Refused}
+use Rattle.packet.specs.declared.frame.Frame.the-variants.{Open, TooLong, Refused}
 use Rattle.packet.specs.declared.frame.Framed.{Framed}
 use Rattle.packet.specs.Machine.{Step, more, ends, Call, called, call}
 use Rattle.packet.specs.Frame.{Held, Event, packet, too-long, none-held, announcedIn, packetIn, judged, byte, padded, withoutPacket, answerBy, answerOf, refusedPart, receiveOf}

@@ -1,28 +1,21 @@
 -- How one event moves the numbers given, the files completed and the blocks reserved, and the files with them.
-use mathlib.Core.Path.{_≡_, refl, sym, ap, _∙_, subst}
-use mathlib.Core.Bool.{Bool, true, false, cond}
+use mathlib.Core.Path.{_≡_, sym, ap, _∙_, subst}
 use mathlib.Core.List.{List, [], _∷_, _++_, append-nil}
-use mathlib.Core.Logic.{_⊎_, inl, inr, ⊎-elim}
-use Prim.Native.Nat.{ℕ, zero, suc, _+_, _≤_, _<_}
+use mathlib.Core.Logic.{_⊎_, ⊎-elim}
+use Prim.Native.Nat.{ℕ, suc, _+_, _≤_, _<_}
 use native.Mathlib.Omega.{arith}
-use native.Mathlib.Numerals.{add-one}
-use lib.Dec.{eqb}
-use lib.ListN.{length}
-use borrow.Author.Tests.{eq-eqb, ne-eqb}
-use Rattle.blocks.proofs.Bits.{by-eq, sumTo}
-use Rattle.table.specs.declared.File.{File}
-use Rattle.table.specs.Given.{blocksFor}
+use borrow.Author.Tests.{ne-eqb}
+use Rattle.blocks.proofs.Bits.{by-eq}
 use Rattle.files.specs.View.{View}
-use Rattle.files.specs.Uploads.{newFile, grown}
 use Rattle.files.specs.Completion.{completed}
 use Rattle.carry.specs.declared.turn.Last.{Last}
 use Rattle.history.specs.Change.{Files, view}
 use Rattle.demands.specs.Events.{Event, nothing, given, added, finished, dropped}
-use Rattle.demands.specs.Effect.{Effect, Gives, Adds, Finishes, Drops, timeAt}
-use Rattle.demands.specs.Accepted.{addedBy, reservedBy, total, givenBy, fromOne, Completion, completion, completedBy, lastFrom, lastTime, times}
+use Rattle.demands.specs.Effect.{Effect, Finishes, timeAt}
+use Rattle.demands.specs.Accepted.{addedBy, givenBy, fromOne, Completion, completion, completedBy, lastTime, times}
 use Rattle.demands.specs.Demand3.{Live, Rising, Listed, Stands}
 use Rattle.demands.proofs.Orderly.{Orderly}
-use Rattle.demands.proofs.Lists.{Bounded, rising-snoc, bounded-snoc, times-snoc, last-snoc, listed-old, listed-new, listed-split, sum-moves, sum-same, total-same, total-moves}
+use Rattle.demands.proofs.Lists.{Bounded, rising-snoc, bounded-snoc, times-snoc, last-snoc, listed-old, listed-new, listed-split}
 
 -- the times so far: the last of them is the last one given, and they rise to it
 pub record Timed (cs : List Completion) (t : ℕ) : Type 0 where

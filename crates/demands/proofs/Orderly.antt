@@ -1,18 +1,15 @@
 -- What a good state says of its files: numbers apart and given, no more bytes than announced, places below 256.
-use mathlib.Core.Path.{_≡_, refl, sym, ap, _∙_, subst}
-use mathlib.Core.List.{List}
+use mathlib.Core.Path.{_≡_, sym, _∙_}
 use Prim.Native.Nat.{ℕ, _+_, _≤_, _<_}
 use native.Mathlib.Omega.{arith}
-use lib.ListN.{length, getD, take, List·getD-map}
+use lib.ListN.{length, getD, List·getD-map}
 use Rattle.blocks.specs.Contents.{held}
-use Rattle.blocks.specs.Owners.{blocks, countsOf}
+use Rattle.blocks.specs.Owners.{countsOf}
 use Rattle.table.specs.declared.File.{File}
-use Rattle.table.specs.Table.{noFile, files, fileAt, numbers}
-use Rattle.table.specs.Given.{blocksFor}
+use Rattle.table.specs.Table.{noFile, files, numbers}
 use Rattle.table.proofs.Keeping.{number-le}
-use Rattle.files.specs.View.{recordAt}
 use Rattle.files.proofs.Choice.{take-le}
-use Rattle.files.proofs.Soundness.{place-most, file-fits, file-blocks, free-blocks}
+use Rattle.files.proofs.Soundness.{place-most, file-fits}
 use Rattle.carry.specs.declared.turn.Last.{Last}
 use Rattle.server.specs.declared.Server.{Server}
 use Rattle.server.specs.State.{Lent, mapPart, ownerPart, tablePart}

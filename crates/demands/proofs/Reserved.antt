@@ -1,23 +1,20 @@
 -- How one event moves the blocks reserved by history, and the blocks of the files with them.
 use mathlib.Core.Path.{_≡_, refl, sym, ap, _∙_, subst}
-use mathlib.Core.Bool.{Bool, true, false, cond}
-use mathlib.Core.List.{List}
+use mathlib.Core.Bool.{cond}
 use Prim.Native.Nat.{ℕ, zero, suc, _+_, _≤_, _<_}
 use native.Mathlib.Omega.{arith}
 use lib.Dec.{eqb}
 use borrow.Author.Tests.{eq-eqb, ne-eqb}
 use Rattle.blocks.proofs.Bits.{by-eq, sumTo}
-use Rattle.table.specs.declared.File.{File}
 use Rattle.table.specs.Given.{blocksFor}
 use Rattle.files.specs.View.{View}
 use Rattle.carry.specs.declared.turn.Last.{Last}
 use Rattle.history.specs.Change.{Files}
 use Rattle.demands.specs.Events.{Event, nothing, given, added, finished, dropped}
-use Rattle.demands.specs.Effect.{Effect, Gives, Adds, Finishes, Drops}
+use Rattle.demands.specs.Effect.{Effect, Gives, Drops}
 use Rattle.demands.specs.Accepted.{reservedBy, total}
 use Rattle.demands.specs.Demand3.{Live}
 use Rattle.demands.proofs.Orderly.{Orderly}
-use Rattle.demands.proofs.Numbers.{last-rises}
 use Rattle.demands.proofs.Lists.{sum-moves, sum-same, total-same, total-moves}
 
 -- the blocks of a file's announced length, none where there is no file

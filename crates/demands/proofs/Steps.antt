@@ -1,8 +1,8 @@
 -- How one event moves what a history says of the files, and the files with it.
 use mathlib.Core.Path.{_≡_, refl, sym, ap, _∙_, subst}
-use mathlib.Core.Bool.{Bool, true, false, cond}
-use mathlib.Core.List.{List, [], _∷_, _++_, append-nil}
-use Prim.Native.Nat.{ℕ, zero, suc, _+_, _≤_, _<_}
+use mathlib.Core.Bool.{cond}
+use mathlib.Core.List.{List, [], _++_, append-nil}
+use Prim.Native.Nat.{ℕ, _+_, _≤_, _<_}
 use native.Mathlib.Omega.{arith}
 use lib.Dec.{eqb}
 use lib.ListN.{length}
@@ -11,12 +11,11 @@ use Rattle.header.specs.Header.{verdict}
 use Rattle.header.specs.Fields.{fieldsSet}
 use Rattle.header.proofs.Set.{verdict-parts}
 use Rattle.blocks.proofs.Bits.{by-eq}
-use Rattle.table.specs.declared.File.{File}
 use Rattle.files.specs.View.{View}
 use Rattle.files.specs.Uploads.{newFile, grown}
 use Rattle.files.specs.Completion.{completed}
 use Rattle.carry.specs.declared.turn.Last.{Last}
-use Rattle.history.specs.Change.{Files, view, Same, Begins, Receives, Completes, Discards}
+use Rattle.history.specs.Change.{Files, view}
 use Rattle.demands.specs.Events.{Event, nothing, given, added, finished, dropped}
 use Rattle.demands.specs.Effect.{Effect, Gives, Adds, Finishes, Drops}
 use Rattle.demands.specs.Accepted.{addedBy}

@@ -1,33 +1,24 @@
 -- What a history says of the files holds of them after every history: by one step for each call.
-use mathlib.Core.Path.{_≡_, refl, sym, ap, _∙_, subst}
-use mathlib.Core.Bool.{Bool, true, false, cond}
-use mathlib.Core.List.{List, [], _∷_, _++_}
-use Prim.Native.Nat.{ℕ, zero, suc, _+_, _≤_, _<_}
+use mathlib.Core.Path.{_≡_, refl, sym, ap}
+use mathlib.Core.Bool.{true}
+use mathlib.Core.List.{[], _∷_}
+use Prim.Native.Nat.{ℕ, zero, suc, _≤_, _<_}
 use native.Mathlib.Omega.{arith}
-use lib.ListN.{length}
-use Rattle.blocks.proofs.Bits.{sumTo}
 use Rattle.table.specs.Given.{mostGiven}
-use Rattle.carry.specs.declared.turn.Last.{Last}
-use Rattle.carry.specs.Turn.{lastOf}
 use Rattle.server.specs.declared.Server.{Server}
-use Rattle.server.specs.State.{Lent}
 use Rattle.server.specs.Making.{newServer, makeOf}
-use Rattle.history.specs.Calls.{Call, callOf, Start, legal, making, made, History, start, _▸_, after, next}
-use Rattle.history.specs.Change.{Files}
-use Rattle.history.specs.Good.{Good}
+use Rattle.history.specs.Calls.{Call, Start, legal, made, History, start, _▸_, after}
 use Rattle.history.specs.Stored.{filesOf}
 use Rattle.history.proofs.Made.{made-good}
 use Rattle.history.proofs.Histories.{good-after}
-use Rattle.demands.specs.Events.{Event, eventOf}
-use Rattle.demands.specs.Effect.{Effect}
-use Rattle.demands.specs.Accepted.{eventAt, accepted, reserved, total, numbersGiven, fromOne, Completion, completions, lastFrom, times}
-use Rattle.demands.specs.Demand3.{serverAt, lentAt, filesAt, Live, Contents, Rising, Listed}
+use Rattle.demands.specs.Accepted.{eventAt, accepted, reserved, total, numbersGiven, fromOne, Completion, completions, lastFrom}
+use Rattle.demands.specs.Demand3.{serverAt, lentAt, filesAt, Contents, Listed}
 use Rattle.demands.proofs.Orderly.{Orderly, good-orderly}
 use Rattle.demands.proofs.Calls.{After, call-after}
 use Rattle.demands.proofs.Steps.{contents-step}
 use Rattle.demands.proofs.Lists.{sum-zero}
 use Rattle.demands.proofs.Numbers.{Timed, Own, Kept, fresh-step, numbers-step, times-step, own-step, kept-step}
-use Rattle.demands.proofs.Reserved.{weight, weights, no-weight, Reserves, reserves-step}
+use Rattle.demands.proofs.Reserved.{weight, no-weight, Reserves, reserves-step}
 
 pub record Story (s : Start) (h : History) : Type 0 where
   pub bound : serverAt s h .last .number ≤ mostGiven

@@ -1,33 +1,31 @@
 -- DEMAND 3, as theorems: the statements of specs/Demand3.antt, for every legal start and every history.
-use mathlib.Core.Path.{_≡_, refl, sym, ap, _∙_, subst}
-use mathlib.Core.Bool.{Bool, true, false, cond}
-use mathlib.Core.List.{List, [], _∷_, _++_}
+use mathlib.Core.Path.{_≡_, sym, ap, _∙_}
+use mathlib.Core.Bool.{true}
+use mathlib.Core.List.{List, [], _∷_}
 use mathlib.Core.Logic.{_⊎_, inl, inr, ⊎-elim}
-use Prim.Native.Nat.{ℕ, zero, suc, _+_, _≤_, _<_}
+use Prim.Native.Nat.{ℕ, zero, suc, _+_, _<_}
 use native.Mathlib.Omega.{arith}
 use native.Mathlib.Numerals.{add-one}
 use borrow.Author.Tests.{eq-eqb}
 use lib.ListN.{length, getD}
 use lib.Seq.{length-take-le}
-use Rattle.blocks.specs.FreeMap.{freeCount, bitAt}
 use Rattle.blocks.specs.Owners.{blocks, heldCount}
-use Rattle.blocks.proofs.Bits.{by-eq, sumTo, count-ext}
-use Rattle.blocks.proofs.Owners.{held-sum, blocks-none}
+use Rattle.blocks.proofs.Bits.{by-eq}
+use Rattle.blocks.proofs.Owners.{held-sum}
 use Rattle.blocks.proofs.Agreement.{free-and-held, free-or-one}
-use Rattle.table.specs.Given.{blocksFor}
 use Rattle.files.specs.Sound.{places}
 use Rattle.files.proofs.Soundness.{file-blocks, free-blocks}
 use Rattle.server.specs.declared.Server.{Server}
 use Rattle.server.specs.State.{Lent, mapPart, ownerPart, tablePart}
-use Rattle.history.specs.Calls.{Call, Start, legal, History, after, _▸_}
+use Rattle.history.specs.Calls.{Call, Start, legal, History, _▸_}
 use Rattle.history.specs.Good.{Good}
 use Rattle.history.specs.Stored.{filesOf}
 use Rattle.history.proofs.GoodFacts.{Facts, good-facts}
 use Rattle.history.proofs.Histories.{good-after, sizes-after}
 use Rattle.demands.specs.Events.{uploading}
 use Rattle.demands.specs.Accepted.{eventAt, reserved, total, numbersGiven, fromOne}
-use Rattle.demands.specs.Demand3.{serverAt, lentAt, filesAt, Live, Free, Owned, EachBlock, BlocksHeld, Rising, NumbersOnce, Contents, sessionOf, OwnFile, Told, TimesRise}
-use Rattle.demands.proofs.Orderly.{Orderly, good-orderly}
+use Rattle.demands.specs.Demand3.{serverAt, lentAt, filesAt, Live, Free, Owned, EachBlock, BlocksHeld, NumbersOnce, Contents, sessionOf, OwnFile, Told, TimesRise}
+use Rattle.demands.proofs.Orderly.{good-orderly}
 use Rattle.demands.proofs.Lists.{from-one-length, from-one-rising, sum-same}
 use Rattle.demands.proofs.Owning.{event-own, others-stay}
 use Rattle.demands.proofs.Reserved.{weight, weights, live-weight, no-weight}

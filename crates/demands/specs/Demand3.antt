@@ -3,7 +3,7 @@
 -- legal start and every history is proved in proofs/Theorems.antt. Assumes nothing.
 use mathlib.Core.Path.{_≡_}
 use mathlib.Core.Logic.{_⊎_}
-use mathlib.Core.List.{List, [], _∷_, map}
+use mathlib.Core.List.{List, [], _∷_}
 use Prim.Native.Nat.{ℕ, _+_, _-_, _<_, _≤_}
 use lib.ListN.{length, getD}
 use Rattle.header.specs.declared.scan.Place.{Place}
@@ -11,7 +11,6 @@ use Rattle.header.specs.Header.{verdict, placeOf}
 use Rattle.header.specs.Fields.{fieldsSet}
 use Rattle.blocks.specs.FreeMap.{freeCount, bitAt}
 use Rattle.blocks.specs.Owners.{heldCount, blocks}
-use Rattle.table.specs.declared.File.{File}
 use Rattle.files.specs.View.{View}
 use Rattle.server.specs.declared.Server.{Server}
 use Rattle.server.specs.State.{Lent, mapPart, ownerPart}

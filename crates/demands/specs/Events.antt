@@ -1,10 +1,9 @@
 -- What a call did to the files, told by the packet that was heard and the packet that was sent, and not by what is stored. Assumes nothing.
-use mathlib.Core.Path.{_≡_}
-use mathlib.Core.Bool.{Bool, true, false, cond}
-use mathlib.Core.List.{List, [], _∷_, _++_}
-use Prim.Native.Nat.{ℕ, _+_, _-_}
-use lib.Dec.{eqb, ltb}
-use lib.ListN.{length, getD, take, drop}
+use mathlib.Core.Bool.{cond}
+use mathlib.Core.List.{List}
+use Prim.Native.Nat.{ℕ, _-_}
+use lib.Dec.{eqb}
+use lib.ListN.{getD, take}
 use Rattle.packet.specs.Packet.{kindIn}
 use Rattle.packet.specs.declared.frame.Frame.{Frame}
 use Rattle.packet.specs.declared.frame.Frame.the-variants.{Open, TooLong, Whole, Refused}
