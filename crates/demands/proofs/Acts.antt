@@ -43,7 +43,7 @@ use Rattle.carry.specs.Upload as upload
 use Rattle.carry.specs.Download as download
 use Rattle.carry.specs.Download.{selectTurn, selectedAs, confirmTurn}
 use Rattle.carry.specs.Carry.{onFrees, onWrites, onMoves, onChooses, carryOut}
-use Rattle.history.specs.Change.{view, Partial, Same, Begins}
+use Rattle.history.specs.Change.{Files, view, Partial, Same, Begins}
 use Rattle.history.proofs.Interface.{filesIn, Stored}
 use Rattle.demands.specs.Events.{Event, nothing, given, finished, dropped, onQuiet, onGo}
 use Rattle.demands.specs.Effect.{Effect, timeAt}
@@ -124,12 +124,49 @@ plain-small reply.Aborted info p = p
 plain-small reply.Completed info p = p
 plain-small (reply.Selected c) info p = p
 
+-- UL_GO_RESP for a file that UPLOAD_CMD named: the number is its number, and the offset the bytes that it has
+pub record Offered (F : Files) (named number offset : ℕ) : Type 0 where
+  pub place : ℕ
+  pub is : F place .file .number ≡ named
+  pub partial : F place .file .time ≡ 0
+  pub same : number ≡ named
+  pub has : offset ≡ F place .file .received
+
+abbrev pub Offer : Reply → List ℕ → Files → Type 0
+Offer reply.Nothing info F = Unit {0}
+Offer reply.Closing info F = Unit {0}
+Offer reply.DataEnd info F = Unit {0}
+Offer (reply.Login c) info F = Unit {0}
+Offer (reply.Go number offset) info F = (wordAt info 0 ≡ 0 → ⊥) → Offered F (wordAt info 0) number offset
+Offer (reply.UploadError e) info F = Unit {0}
+Offer reply.Ack info F = Unit {0}
+Offer (reply.Nak e) info F = Unit {0}
+Offer (reply.DownloadError e) info F = Unit {0}
+Offer reply.Aborted info F = Unit {0}
+Offer reply.Completed info F = Unit {0}
+Offer (reply.Selected c) info F = Unit {0}
+
+plain-offer : (r : Reply) (info : List ℕ) (F : Files) → Plain r → Offer r info F
+plain-offer reply.Nothing info F p = p
+plain-offer reply.Closing info F p = p
+plain-offer reply.DataEnd info F p = p
+plain-offer (reply.Login c) info F p = p
+plain-offer (reply.Go number offset) info F p = absurd p
+plain-offer (reply.UploadError e) info F p = p
+plain-offer reply.Ack info F p = absurd p
+plain-offer (reply.Nak e) info F p = absurd p
+plain-offer (reply.DownloadError e) info F p = p
+plain-offer reply.Aborted info F p = p
+plain-offer reply.Completed info F p = p
+plain-offer (reply.Selected c) info F p = p
+
 -- ---- a turn
 
 -- what a turn leaves, with the event that its reply tells
 pub record Turns (n : ℕ) (frame : Frame) (info : List ℕ) (clock : ℕ) (m : Mem) (last : Last) (t : Turned) : Type 0 where
   pub effect : Effect (onReply (t .turn .reply) n frame info clock) last (filesIn m) (t .turn .last) (filesIn (t .mem))
   pub small : Small (t .turn .reply) info
+  pub offer : Offer (t .turn .reply) info (filesIn m)
   pub bound : t .turn .last .number ≤ mostGiven
   pub owners : length (t .mem .owner) ≡ length (m .owner)
   pub records : length (t .mem .table) ≡ length (m .table)
@@ -145,19 +182,22 @@ module _ (n : ℕ) (frame : Frame) (info : List ℕ) (clock : ℕ) (m : Mem) (la
   same-files : (t : Turned) → Leaves m last t → Same last (filesIn m) (t .turn .last) (filesIn (t .mem))
   same-files t l = record { files = λ q. rw (l .disk, l .owner, l .table); given = l .given }
 
-  pub left-turns : (t : Turned) → Leaves m last t → onReply (t .turn .reply) n frame info clock ≡ nothing → Small (t .turn .reply) info
+  pub left-turns : (t : Turned) → Leaves m last t → onReply (t .turn .reply) n frame info clock ≡ nothing → Small (t .turn .reply) info → Offer (t .turn .reply) info (filesIn m)
       → Turns n frame info clock m last t
-  left-turns t l e k =
+  left-turns t l e k f =
       record {
         effect = subst (λ (x : Event). Effect x last (filesIn m) (t .turn .last) (filesIn (t .mem))) (sym e) (same-files t l);
         small = k;
+        offer = f;
         bound = rw (l .given) bound;
         owners = ap length (l .owner);
         records = ap length (l .table);
       }
 
   pub plain-turns : (t : Turned) → Leaves m last t → Plain (t .turn .reply) → onQuiet n frame info ≡ nothing → Turns n frame info clock m last t
-  plain-turns t l p q = left-turns t l (plain-nothing (t .turn .reply) n frame info clock p q) (plain-small (t .turn .reply) info p)
+  plain-turns t l p q =
+      left-turns t l (plain-nothing (t .turn .reply) n frame info clock p q) (plain-small (t .turn .reply) info p)
+      (plain-offer (t .turn .reply) info (filesIn m) p)
 
 -- ---- the acts that leave the store as it was
 
@@ -225,7 +265,7 @@ module _ (n : ℕ) (frame : Frame) (info : List ℕ) (clock : ℕ) (m : Mem) (la
 
   pub close-turns : Done act.Close
   unfolding carryOut onChooses download.closeTurn onReply
-  close-turns = left-turns n frame info clock m last bound _ (kept _ refl refl refl refl) refl tt
+  close-turns = left-turns n frame info clock m last bound _ (kept _ refl refl refl refl) refl tt tt
 
   pub quiet-turns : onQuiet n frame info ≡ nothing → (a : Act) → Quiet a → Done a
   unfolding carryOut
@@ -245,10 +285,12 @@ module _ (n : ℕ) (frame : Frame) (info : List ℕ) (clock : ℕ) (m : Mem) (la
   quiet-turns q (act.Abort place) k = plain-turns n frame info clock m last bound _ (kept _ refl refl refl refl) tt q
 
   -- an upload that goes on: UPLOAD_CMD names a file, so UL_GO_RESP gives no new number
-  pub resume-turns : (wordAt info 0 ≡ 0 → ⊥) → (place number received : ℕ) → Done (act.Resume place number received)
+  pub resume-turns : (wordAt info 0 ≡ 0 → ⊥) → (place : ℕ) → recordAt (m .table) place .number ≡ wordAt info 0 → recordAt (m .table) place .time ≡ 0
+      → Done (act.Resume place (wordAt info 0) (recordAt (m .table) place .received))
   unfolding carryOut onReply onGo
-  resume-turns z place number received =
+  resume-turns z place e time =
       left-turns n frame info clock m last bound _ (kept _ refl refl refl refl) (rw (ne-eqb (wordAt info 0) 0 z)) (λ e. absurd (z e))
+      (λ y. record { place = place; is = e; partial = time; same = refl; has = refl })
 
 -- ---- a new file
 
@@ -283,6 +325,7 @@ module _ (n : ℕ) (frame : Frame) (info : List ℕ) (clock : ℕ) (m : Mem) (la
             announced = refl;
           });
           small = λ z. omega arith;
+          offer = λ z. absurd (z new);
           bound = l;
           owners = b .blocks-size;
           records = b .table-size;
@@ -298,7 +341,7 @@ module _ (n : ℕ) (frame : Frame) (info : List ℕ) (clock : ℕ) (m : Mem) (la
           owner = ap (λ (b : uploads.Begins). b .owner) k;
           table = ap (λ (b : uploads.Begins). b .table) k;
           given = refl;
-        }) refl tt
+        }) refl tt tt
     begun-turns number e l (begun.Started place) q =
         started-turns number place e l
         (begin-leaves (m .map) (m .owner) (m .table) (last .number) (last .time) (st .sound) (wordAt info 4) place q)
@@ -309,7 +352,7 @@ module _ (n : ℕ) (frame : Frame) (info : List ℕ) (clock : ℕ) (m : Mem) (la
       where
         go : (g : Given) → nextNumber (last .number) ≡ g
             → Turns n frame info clock m last (onFrees m (upload.beginWith g s last (wordAt info 4) (m .map) (m .owner) (m .table)))
-        go UsedUp e = left-turns n frame info clock m last bound _ (record { disk = refl; owner = refl; table = refl; given = refl }) refl tt
+        go UsedUp e = left-turns n frame info clock m last bound _ (record { disk = refl; owner = refl; table = refl; given = refl }) refl tt tt
         go (Next number) e =
             let g = number-given (last .number) number e in
             begun-turns number (g .next) (g .fits bound) (asked .answer) refl
@@ -352,6 +395,7 @@ module _ (frame : Frame) (info : List ℕ) (clock : ℕ) (m : Mem) (last : Last)
           number = refl;
         };
         small = tt;
+        offer = tt;
         bound = bound;
         owners = d .blocks-size;
         records = d .table-size;
@@ -401,6 +445,7 @@ module _ (frame : Frame) (info : List ℕ) (clock : ℕ) (m : Mem) (last : Last)
           time-is = e;
         };
         small = tt;
+        offer = tt;
         bound = bound;
         owners = refl;
         records = c .table-size;
@@ -454,6 +499,7 @@ module _ (info : List ℕ) (clock : ℕ) (m : Mem) (last : Last) (bound : last .
           bytes-are = refl;
         });
         small = tt;
+        offer = tt;
         bound = bound;
         owners = refl;
         records = a .table-size;

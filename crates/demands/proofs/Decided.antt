@@ -21,6 +21,7 @@ use Rattle.table.specs.declared.Found.{Found}
 use Rattle.table.specs.declared.Found.the-variants as found
 use Rattle.table.specs.Table.{files, fileAt, findOf}
 use Rattle.table.specs.Given.{mostGiven}
+use Rattle.table.proofs.Finding.{find-number}
 use Rattle.links.proofs.Facts.{PartialAt}
 use Rattle.decide.specs.declared.act.Act.{Act}
 use Rattle.decide.specs.declared.act.Act.the-variants as act
@@ -133,24 +134,25 @@ module _ (s : Session) (links : List Session) (m : Mem) (last : Last) (bound : l
   end-does size up.Ignoring r = quietly 0 (Whole 1 size) refl act.Stop tt
 
   -- UPLOAD_CMD
-  continued-does : (n kind size : ℕ) → (kind ≡ 0 → ⊥) → (wordAt info 0 ≡ 0 → ⊥) → (f : Found)
+  continued-does : (n kind size : ℕ) → (kind ≡ 0 → ⊥) → (wordAt info 0 ≡ 0 → ⊥) → (f : Found) → findOf stored (wordAt info 0) ≡ f
       → Does n (Whole kind size) (onContinued f (wordAt info 0) (wordAt info 4) links stored)
   unfolding onContinued
-  continued-does n kind size k z found.Nothing = quietly n (Whole kind size) (not-data n kind size info k) _ tt
-  continued-does n kind size k z (found.At place) =
-      go (eqb (fileAt stored place .time) 0) (eqb (fileAt stored place .size) (wordAt info 4)) (uploading links place)
+  continued-does n kind size k z found.Nothing e = quietly n (Whole kind size) (not-data n kind size info k) _ tt
+  continued-does n kind size k z (found.At place) e =
+      go (eqb (fileAt stored place .time) 0) refl (eqb (fileAt stored place .size) (wordAt info 4)) (uploading links place)
     where
       refuses : (e : ℕ) → Does n (Whole kind size) (act.Tell (reply.UploadError e))
       refuses e = quietly n (Whole kind size) (not-data n kind size info k) (act.Tell (reply.UploadError e)) tt
 
-      go : (a b d : Bool)
+      go : (a : Bool) → eqb (fileAt stored place .time) 0 ≡ a → (b d : Bool)
           → Does n (Whole kind size) (cond a (cond b (cond d (act.Tell (reply.UploadError 2))
           (act.Resume place (wordAt info 0) (fileAt stored place .received))) (act.Tell (reply.UploadError 2))) (act.Tell (reply.UploadError 12)))
-      go true true true = refuses 2
-      go true true false =
-          resume-turns n (Whole kind size) info clock m last bound s most (sizeIn (Whole kind size)) z place (wordAt info 0) (fileAt stored place .received)
-      go true false d = refuses 2
-      go false b d = refuses 12
+      go true t true true = refuses 2
+      go true t true false =
+          resume-turns n (Whole kind size) info clock m last bound s most (sizeIn (Whole kind size)) z place (find-number stored (wordAt info 0) place e)
+          (eqb-true (fileAt stored place .time) 0 t)
+      go true t false d = refuses 2
+      go false t b d = refuses 12
 
   upload-does : (n kind size : ℕ) → (kind ≡ 0 → ⊥) → Does n (Whole kind size) (onUpload links size info stored)
   unfolding onUpload
@@ -160,7 +162,7 @@ module _ (s : Session) (links : List Session) (m : Mem) (last : Last) (bound : l
           → Does n (Whole kind size) (cond a (cond b (act.Begin (wordAt info 4))
           (onContinued (findOf stored (wordAt info 0)) (wordAt info 0) (wordAt info 4) links stored)) (act.Tell (reply.UploadError 1)))
       go true true e = begin-turns n (Whole kind size) info clock m last bound st s most (eqb-true (wordAt info 0) 0 e) (sizeIn (Whole kind size))
-      go true false e = continued-does n kind size k (eqb-false (wordAt info 0) 0 e) (findOf stored (wordAt info 0))
+      go true false e = continued-does n kind size k (eqb-false (wordAt info 0) 0 e) (findOf stored (wordAt info 0)) refl
       go false b e = quietly n (Whole kind size) (not-data n kind size info k) (act.Tell (reply.UploadError 1)) tt
 
   uplink-does : (kind size : ℕ) → size ≤ 256 → (u : Uplink) → Receives u → Does (numberIn u stored) (Whole kind size) (onUplink u links kind size info stored)
