@@ -36,7 +36,7 @@ use Rattle.history.specs.Stored.{filesOf}
 use Rattle.history.proofs.GoodFacts.{Facts, good-facts, good-check}
 use Rattle.history.proofs.Parts.{front-back}
 use Rattle.history.proofs.Leaves.{memOf, backIn, stored-parts}
-use Rattle.demands.specs.Events.{Event, nothing, uploading, onGo, onSent, onAnswer, receiveEvent, eventOf}
+use Rattle.demands.specs.Events.{Event, nothing, uploading, heardOf, onGo, onSent, onAnswer, receiveEvent, eventOf}
 use Rattle.demands.specs.Effect.{Effect}
 use Rattle.demands.proofs.Acts.{onReply, Small, Turns}
 use Rattle.demands.proofs.Heard.{heard-fits}
@@ -78,7 +78,7 @@ linked-as : (k : Bool) → inState true k ≡ true → k ≡ true
 unfolding inState
 linked-as k e = e
 
-by-check : (sv : Server) (l : Lent) → Good sv l → (session out : ℕ) (P : Check → Type 0) → ((r : ℕ) → P (Refuse r))
+pub by-check : (sv : Server) (l : Lent) → Good sv l → (session out : ℕ) (P : Check → Type 0) → ((r : ℕ) → P (Refuse r))
     → (session - 1 < sv .sessions → linkOf sv (session - 1) .linked ≡ true → 258 ≤ out → P (Go (session - 1)))
     → P (checkOf sv l session true out)
 unfolding sessionCheck
@@ -130,21 +130,32 @@ module _ (sv : Server) (l : Lent) (g : Good sv l) (bound : sv .last .number ≤ 
         bound = d .bound;
       }
 
+  -- what is acted on where the bytes of session i's link are heard
+  abbrev pub turnAt : ℕ → ℕ → List ℕ → Turned
+  turnAt i clock input =
+      carryOut
+      (decideOf (withHeld (linkOf sv i) (heardOf sv l i input .held)) (sv .links) (heardOf sv l i input .frame) (heardOf sv l i input .info)
+      (files (partsOf sv i (memOf l) .table)) (partsOf sv i (memOf l) .selected))
+      (withHeld (linkOf sv i) (heardOf sv l i input .held)) (sv .last) clock (sv .most) (sizeIn (heardOf sv l i input .frame)) (heardOf sv l i input .info)
+      (partsOf sv i (memOf l))
+
+  pub step-turns : (i clock : ℕ) (input : List ℕ) → i < sv .sessions → linkOf sv i .linked ≡ true
+      → Turns (uploading sv l i) (heardOf sv l i input .frame) (heardOf sv l i input .info) clock (partsOf sv i (memOf l)) (sv .last) (turnAt i clock input)
+  step-turns i clock input inside linked =
+      let f = heardOf sv l i input in
+      let fit = heard-fits (l .held) i (linkOf sv i .held) input in
+      let m = partsOf sv i (memOf l) in
+      decided-does (withHeld (linkOf sv i) (f .held)) (sv .links) m (sv .last) bound (stored-parts sv l g i) clock (sv .most) (f .info) (fit .whole)
+      (m .selected) (f .frame) (fit .small) (facts .sessions .each i inside linked .receiving)
+
   -- bytes of an open session's link
   step-after : (i clock : ℕ) (input out : List ℕ) → i < sv .sessions → linkOf sv i .linked ≡ true → 258 ≤ length out
       → After (receiveEvent sv l i clock input (stepOf sv i clock input l out)) sv l
       (stepOf sv i clock input l out .done .server) (stepOf sv i clock input l out .lent)
   unfolding stepOf heardBy answeredBy actOf putBack
   step-after i clock input out inside linked h =
-      let f = hearOf (l .held) i (linkOf sv i .held) input .framed in
-      let fit = heard-fits (l .held) i (linkOf sv i .held) input in
-      let s = withHeld (linkOf sv i) (f .held) in
-      let m = partsOf sv i (memOf l) in
-      turned-after (uploading sv l i) (f .frame) (f .info) clock i
-      (carryOut (decideOf s (sv .links) (f .frame) (f .info) (files (m .table)) (m .selected)) s (sv .last) clock (sv .most) (sizeIn (f .frame)) (f .info) m)
-      (decided-does s (sv .links) m (sv .last) bound (stored-parts sv l g i) clock (sv .most) (f .info) (fit .whole) (m .selected) (f .frame) (fit .small)
-      (facts .sessions .each i inside linked .receiving))
-      (hearOf (l .held) i (linkOf sv i .held) input .held) (f .taken) out h
+      turned-after (uploading sv l i) (heardOf sv l i input .frame) (heardOf sv l i input .info) clock i (turnAt i clock input)
+      (step-turns i clock input inside linked) (hearOf (l .held) i (linkOf sv i .held) input .held) (heardOf sv l i input .taken) out h
 
   receive-after : (session clock : ℕ) (input out : List ℕ)
       → After (eventOf sv l (receive session clock input out)) sv l (receiveOf sv l out session clock input .done .server) (receiveOf sv l out session clock input .lent)

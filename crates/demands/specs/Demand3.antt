@@ -12,12 +12,13 @@ use Rattle.header.specs.Fields.{fieldsSet}
 use Rattle.blocks.specs.FreeMap.{freeCount, bitAt}
 use Rattle.blocks.specs.Owners.{heldCount, blocks}
 use Rattle.files.specs.View.{View}
+use Rattle.decide.specs.Words.{wordAt}
 use Rattle.server.specs.declared.Server.{Server}
 use Rattle.server.specs.State.{Lent, mapPart, ownerPart}
 use Rattle.history.specs.Change.{Files}
-use Rattle.history.specs.Calls.{Call, login, receive, request, lose, Start, History, start, _▸_, after}
+use Rattle.history.specs.Calls.{Call, login, receive, request, lose, callOf, Start, History, start, _▸_, after}
 use Rattle.history.specs.Stored.{filesOf}
-use Rattle.demands.specs.Events.{uploading}
+use Rattle.demands.specs.Events.{uploading, heardOf, sentBy, typeOf}
 use Rattle.demands.specs.Effect.{Effect}
 use Rattle.demands.specs.Accepted.{eventAt, accepted, reserved, total, numbersGiven, fromOne, Completion, completion, completions, times}
 
@@ -30,6 +31,13 @@ lentAt s h = after s h .lent
 
 abbrev pub filesAt : Start → History → Files
 filesAt s h = filesOf (serverAt s h) (lentAt s h)
+
+-- the packet that a call sends after a history, and the information of the one that it hears
+abbrev pub sentAt : Start → History → Call → List ℕ
+sentAt s h c = sentBy (callOf (serverAt s h) (lentAt s h) c .done .answer) (callOf (serverAt s h) (lentAt s h) c .out)
+
+abbrev pub infoAt : Start → History → ℕ → List ℕ → List ℕ
+infoAt s h session input = heardOf (serverAt s h) (lentAt s h) (session - 1) input .info
 
 -- a file stands at a place: numbers are from 1
 abbrev pub Live : View → Type 0
@@ -96,6 +104,18 @@ pub record OnlyFour (file now : List ℕ) : Type 0 where
   pub size : length now ≡ length file
   pub rest : (k : ℕ) → Outside k (placeOf 1 file) → Outside k (placeOf 6 file) → Outside k (placeOf 10 file) → Outside k (placeOf 18 file)
       → getD now k 0 ≡ getD file k 0
+
+-- ---- "After a link lost at any byte, or closed, the partial holds exactly the whole DATA packets received, and a continuation offers that length."
+
+-- UL_GO_RESP (4) to an UPLOAD_CMD that names a file gives that number, and as offset the length of what was accepted under it
+abbrev pub Offers : Start → History → Call → Type 0
+Offers s h (login session clock out) = Unit {0}
+Offers s h (receive session clock input out) =
+    typeOf (sentAt s h (receive session clock input out)) ≡ 4 → (wordAt (infoAt s h session input) 0 ≡ 0 → ⊥)
+    → (wordAt (sentAt s h (receive session clock input out)) 2 ≡ wordAt (infoAt s h session input) 0)
+    × (wordAt (sentAt s h (receive session clock input out)) 6 ≡ length (accepted s h (wordAt (infoAt s h session input) 0)))
+Offers s h (request session out) = Unit {0}
+Offers s h (lose session) = Unit {0}
 
 -- all are bytes
 abbrev pub AreBytes : List ℕ → Type 0

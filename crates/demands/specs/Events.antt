@@ -1,6 +1,6 @@
 -- What a call did to the files, told by the packet that was heard and the packet that was sent, and not by what is stored. Assumes nothing.
 use mathlib.Core.Bool.{cond}
-use mathlib.Core.List.{List}
+use mathlib.Core.List.{List, []}
 use Prim.Native.Nat.{ℕ, _-_}
 use lib.Dec.{eqb}
 use lib.ListN.{getD, take}
@@ -51,6 +51,13 @@ abbrev pub heardOf : Server → Lent → ℕ → List ℕ → Framed
 heardOf sv l i input = hearOf (l .held) i (linkOf sv i .held) input .framed
 
 -- ---- what was sent
+
+-- the packet that a call sent, no byte where it sent none
+unfoldable pub sentBy : Answer → List ℕ → List ℕ
+sentBy (answer.Quiet taken) out = []
+sentBy (answer.Sent taken size) out = take size out
+sentBy (answer.Closed taken) out = []
+sentBy (answer.Refused r) out = []
 
 -- the type of a packet
 abbrev pub typeOf : List ℕ → ℕ
