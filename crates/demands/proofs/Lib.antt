@@ -12,4 +12,5 @@ pub mod Story
 pub mod Theorems
 pub mod Bytes
 pub mod Fields
+pub mod Offering
 pub mod Example

@@ -105,18 +105,6 @@ pub record OnlyFour (file now : List ℕ) : Type 0 where
   pub rest : (k : ℕ) → Outside k (placeOf 1 file) → Outside k (placeOf 6 file) → Outside k (placeOf 10 file) → Outside k (placeOf 18 file)
       → getD now k 0 ≡ getD file k 0
 
--- ---- "After a link lost at any byte, or closed, the partial holds exactly the whole DATA packets received, and a continuation offers that length."
-
--- UL_GO_RESP (4) to an UPLOAD_CMD that names a file gives that number, and as offset the length of what was accepted under it
-abbrev pub Offers : Start → History → Call → Type 0
-Offers s h (login session clock out) = Unit {0}
-Offers s h (receive session clock input out) =
-    typeOf (sentAt s h (receive session clock input out)) ≡ 4 → (wordAt (infoAt s h session input) 0 ≡ 0 → ⊥)
-    → (wordAt (sentAt s h (receive session clock input out)) 2 ≡ wordAt (infoAt s h session input) 0)
-    × (wordAt (sentAt s h (receive session clock input out)) 6 ≡ length (accepted s h (wordAt (infoAt s h session input) 0)))
-Offers s h (request session out) = Unit {0}
-Offers s h (lose session) = Unit {0}
-
 -- all are bytes
 abbrev pub AreBytes : List ℕ → Type 0
 AreBytes [] = Unit {0}
@@ -138,6 +126,18 @@ abbrev pub FourFields : Start → History → Type 0
 FourFields s h =
     OfBytes s h → (place : ℕ) → Live (filesAt s h place) → (filesAt s h place .file .time ≡ 0 → ⊥)
     → OnlyFour (accepted s h (filesAt s h place .file .number)) (filesAt s h place .bytes)
+
+-- ---- "After a link lost at any byte, or closed, the partial holds exactly the whole DATA packets received, and a continuation offers that length."
+
+-- UL_GO_RESP (4) to an UPLOAD_CMD that names a file gives that number, and as offset the length of what was accepted under it
+abbrev pub Offers : Start → History → Call → Type 0
+Offers s h (login session clock out) = Unit {0}
+Offers s h (receive session clock input out) =
+    typeOf (sentAt s h (receive session clock input out)) ≡ 4 → (wordAt (infoAt s h session input) 0 ≡ 0 → ⊥)
+    → (wordAt (sentAt s h (receive session clock input out)) 2 ≡ wordAt (infoAt s h session input) 0)
+    × (wordAt (sentAt s h (receive session clock input out)) 6 ≡ length (accepted s h (wordAt (infoAt s h session input) 0)))
+Offers s h (request session out) = Unit {0}
+Offers s h (lose session) = Unit {0}
 
 -- ---- "a call changes no file but its own"
 
