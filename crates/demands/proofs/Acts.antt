@@ -16,6 +16,7 @@ use Rattle.session.specs.declared.state.Uplink.{Uplink}
 use Rattle.session.specs.declared.state.Uplink.the-variants as up
 use Rattle.session.specs.declared.reply.Reply.{Reply}
 use Rattle.session.specs.declared.reply.Reply.the-variants as reply
+use Rattle.session.specs.State.{withUp}
 use Rattle.table.specs.declared.File.{File}
 use Rattle.table.specs.declared.Given.{Given}
 use Rattle.table.specs.declared.Given.the-variants.{UsedUp, Next}
@@ -182,7 +183,8 @@ module _ (n : ℕ) (frame : Frame) (info : List ℕ) (clock : ℕ) (m : Mem) (la
   same-files : (t : Turned) → Leaves m last t → Same last (filesIn m) (t .turn .last) (filesIn (t .mem))
   same-files t l = record { files = λ q. rw (l .disk, l .owner, l .table); given = l .given }
 
-  pub left-turns : (t : Turned) → Leaves m last t → onReply (t .turn .reply) n frame info clock ≡ nothing → Small (t .turn .reply) info → Offer (t .turn .reply) info (filesIn m)
+  pub left-turns : (t : Turned) → Leaves m last t → onReply (t .turn .reply) n frame info clock ≡ nothing → Small (t .turn .reply) info
+      → Offer (t .turn .reply) info (filesIn m)
       → Turns n frame info clock m last t
   left-turns t l e k f =
       record {
@@ -247,9 +249,11 @@ send-told s last place offset lock passed disk owner table = either last (ltb (d
 confirm-told : (s : Session) (last : Last) (place destination : ℕ) (disk owner table : List ℕ)
     → Told last (confirmTurn s last place destination disk owner table)
 unfolding confirmTurn
-confirm-told s last place destination disk owner table = either last (ltb (destinationsAt disk owner table place) destination) _ _ (refl, tt) (refl, tt)
+confirm-told s last place destination disk owner table = either last (ltb (destinationsAt disk owner table place) destination) _ _ (refl, tt)
+    (refl, tt)
 
-module _ (n : ℕ) (frame : Frame) (info : List ℕ) (clock : ℕ) (m : Mem) (last : Last) (bound : last .number ≤ mostGiven) (s : Session) (most size : ℕ) where
+module _ (n : ℕ) (frame : Frame) (info : List ℕ) (clock : ℕ) (m : Mem) (last : Last) (bound : last .number ≤ mostGiven) (s : Session)
+    (most size : ℕ) where
   abbrev Done : Act → Type 0
   Done a = Turns n frame info clock m last (carryOut a s last clock most size info m)
 
@@ -307,8 +311,8 @@ module _ (n : ℕ) (frame : Frame) (info : List ℕ) (clock : ℕ) (m : Mem) (la
     started-turns : (number place : ℕ) → number ≡ last .number + 1 → number ≤ mostGiven
         → BeginLeaves (m .map) (m .owner) (m .table) (last .number) (last .time) (wordAt info 4) place asked
         → Turns n frame info clock m last
-        (onFrees m (frees (turnOf (record { linked = s .linked; up = up.Receiving place 0 0; down = s .down; held = s .held; count = s .count; next = s .next })
-        (lastOf number (last .time)) (reply.Go number 0)) (asked .map) (asked .owner) (asked .table)))
+        (onFrees m (frees (turnOf (withUp s (up.Receiving place 0 0)) (lastOf number (last .time)) (reply.Go number 0)) (asked .map) (asked .owner)
+        (asked .table)))
     unfolding onReply onGo onFrees
     started-turns number place e l b =
         record {
@@ -388,7 +392,8 @@ module _ (frame : Frame) (info : List ℕ) (clock : ℕ) (m : Mem) (last : Last)
           change = record {
             place = place;
             partial = ownPartial;
-            here = view-is (viewAt (m .disk) (w .owner) (w .table) place) noFile [] (d .file) (ap (λ (f : File). take (f .received) (held (place + 1) (w .owner) (m .disk))) (d .file));
+            here = view-is (viewAt (m .disk) (w .owner) (w .table) place) noFile [] (d .file)
+                (ap (λ (f : File). take (f .received) (held (place + 1) (w .owner) (m .disk))) (d .file));
             others = λ q z. d .others (m .disk) q z;
             given = refl;
           };
@@ -469,7 +474,8 @@ module _ (frame : Frame) (info : List ℕ) (clock : ℕ) (m : Mem) (last : Last)
 -- DATA within it
 module _ (info : List ℕ) (clock : ℕ) (m : Mem) (last : Last) (bound : last .number ≤ mostGiven) (st : Stored m last)
     (s : Session) (most place : ℕ) (number : recordAt (m .table) place .number ≡ 0 → ⊥) (time : recordAt (m .table) place .time ≡ 0)
-    (whole : length info ≡ 256) (size : ℕ) (small : size ≤ 256) (room : recordAt (m .table) place .received + size ≤ recordAt (m .table) place .size) where
+    (whole : length info ≡ 256) (size : ℕ) (small : size ≤ 256)
+    (room : recordAt (m .table) place .received + size ≤ recordAt (m .table) place .size) where
   abbrev written : uploads.Writes
   written = uploads.appendOf (m .disk) (m .owner) (m .table) place (take size info)
 
@@ -477,12 +483,14 @@ module _ (info : List ℕ) (clock : ℕ) (m : Mem) (last : Last) (bound : last .
   taken = length-take-le size info (omega arith)
 
   pub store-turns : (offset received : ℕ)
-      → Turns (recordAt (m .table) place .number) (Whole 0 size) info clock m last (carryOut (act.Store place offset received) s last clock most size info m)
+      → Turns (recordAt (m .table) place .number) (Whole 0 size) info clock m last
+      (carryOut (act.Store place offset received) s last clock most size info m)
   unfolding carryOut onWrites upload.storeTurn upload.appendedAs upload.storedAs onReply onQuiet
   store-turns offset received =
       let l = taken in
       let fits : recordAt (m .table) place .received + length (take size info) ≤ recordAt (m .table) place .size = omega arith in
-      let done = append-done (m .map) (m .disk) (m .owner) (m .table) (last .number) (last .time) (st .sound) (st .sizes) place number (take size info) fits in
+      let done = append-done (m .map) (m .disk) (m .owner) (m .table) (last .number) (last .time) (st .sound) (st .sizes) place number
+      (take size info) fits in
       let a = append-leaves (m .map) (m .disk) (m .owner) (m .table) (last .number) (last .time) (st .sound) place (take size info) done in
       rw (le-ltb (length info) size (omega arith), eq-eqb (written .answer) 0 done) (record {
         effect = rw (ne-eqb (recordAt (m .table) place .number) 0 number) (record {

@@ -10,7 +10,8 @@ use lib.ListN.{length, take, drop, set, replicate}
 use Rattle.packet.specs.declared.frame.Frame.{Frame}
 use Rattle.packet.specs.declared.frame.Frame.the-variants.{Open, TooLong, Whole, Refused}
 use Rattle.packet.specs.Machine.{Step, more, ends, Call, called, call}
-use Rattle.packet.specs.Frame.{Held, Event, packet, too-long, none-held, announcedIn, packetIn, judged, byte, padded, Heard, withoutPacket, answerBy, answerOf, refusedPart, receiveOf}
+use Rattle.packet.specs.Frame.{Held, Event, packet, too-long, none-held, announcedIn, packetIn, judged}
+use Rattle.packet.specs.Frame.{byte, padded, Heard, withoutPacket, answerBy, answerOf, refusedPart, receiveOf}
 use Rattle.header.proofs.Written.{Bytes, bytes-drop, bytes-take, bytes-join}
 use Rattle.header.proofs.Set.{bytes-sets}
 use Rattle.session.specs.declared.reply.Answer.{Answer}
@@ -43,7 +44,8 @@ zeros (suc n) = (omega arith, zeros n)
 
 part-bytes : (a n : ℕ) (p l : List ℕ) → Bytes p → Bytes l → Bytes (withPart a n p l)
 part-bytes a n p l v w =
-    bytes-join (take a l) (p ++ drop n (drop a l)) (bytes-take a l w) (bytes-join p (drop n (drop a l)) v (bytes-drop n (drop a l) (bytes-drop a l w)))
+    bytes-join (take a l) (p ++ drop n (drop a l)) (bytes-take a l w)
+    (bytes-join p (drop n (drop a l)) v (bytes-drop n (drop a l) (bytes-drop a l w)))
 
 -- ---- hearing
 
@@ -71,7 +73,8 @@ judged-bytes n p v = go (ltb n 2) (ltb 256 (announcedIn p)) (ltb n (2 + announce
     go false false true = v
     go false false false = (zeros 258, bytes-take (announcedIn p) (drop 2 p) (bytes-drop 2 p v))
 
-called-bytes : (s : Step Held Event) (k : Held → Call Held Event) → StepBytes s → ((t : Held) → Bytes (t .part) → CallBytes (k t)) → CallBytes (called s k)
+called-bytes : (s : Step Held Event) (k : Held → Call Held Event) → StepBytes s → ((t : Held) → Bytes (t .part) → CallBytes (k t))
+    → CallBytes (called s k)
 unfolding called
 called-bytes (more t) k a f = f t a
 called-bytes (ends t e) k a f = a
@@ -100,7 +103,8 @@ receive-bytes : (part : List ℕ) (held : ℕ) (input : List ℕ) → Bytes part
 unfolding receiveOf answerOf withoutPacket
 receive-bytes part held input v w = go (eqb (length part) 258) (ltb held 258)
   where
-    go : (a b : Bool) → HeardBytes (cond a (cond b (answerOf (call byte (record { count = held; part = part }) input)) (refusedPart part held)) (refusedPart part held))
+    go : (a b : Bool) → HeardBytes (cond a (cond b (answerOf (call byte (record { count = held; part = part }) input)) (refusedPart part held))
+        (refusedPart part held))
     go true true =
         let c = call byte (record { count = held; part = part }) input in
         let k = call-bytes input (record { count = held; part = part }) v w in
@@ -151,12 +155,14 @@ go-bytes number info n = pick (eqb (wordAt info 0) 0) (given number (wordAt info
 sent-bytes : (u : ℕ) (info : List ℕ) (clock : ℕ) (sent : List ℕ) (n : ℕ) → Bytes (addedBy (onSent u info clock sent) n)
 unfolding onSent addedBy
 sent-bytes u info clock sent n =
-    pick (eqb (typeOf sent) 4) (onGo (wordAt sent 2) info) (cond (eqb (typeOf sent) 6) (finished u clock) (cond (eqb (typeOf sent) 7) (dropped u) nothing)) n
+    pick (eqb (typeOf sent) 4) (onGo (wordAt sent 2) info) (cond (eqb (typeOf sent) 6) (finished u clock)
+    (cond (eqb (typeOf sent) 7) (dropped u) nothing)) n
     (go-bytes (wordAt sent 2) info n)
     (pick (eqb (typeOf sent) 6) (finished u clock) (cond (eqb (typeOf sent) 7) (dropped u) nothing) n tt
     (pick (eqb (typeOf sent) 7) (dropped u) nothing n tt tt))
 
-answered-bytes : (a : Answer) (out : List ℕ) (u : ℕ) (frame : Frame) (info : List ℕ) (clock n : ℕ) → Bytes info → Bytes (addedBy (onAnswer a out u frame info clock) n)
+answered-bytes : (a : Answer) (out : List ℕ) (u : ℕ) (frame : Frame) (info : List ℕ) (clock n : ℕ) → Bytes info
+    → Bytes (addedBy (onAnswer a out u frame info clock) n)
 unfolding onAnswer addedBy
 answered-bytes (answer.Quiet taken) out u frame info clock n v = quiet-bytes u frame info n v
 answered-bytes (answer.Sent taken size) out u frame info clock n v = sent-bytes u info clock (take size out) n
@@ -189,7 +195,8 @@ module _ (sv : Server) (l : Lent) (v : Bytes (l .held)) where
   event-bytes (receive session clock input out) b n =
       let o = callOf sv l (receive session clock input out) in
       answered-bytes (o .done .answer) (o .out) (events.uploading sv l (session - 1)) (heardOf sv l (session - 1) input .frame)
-      (heardOf sv l (session - 1) input .info) clock n (info-bytes (l .held) v (session - 1) (linkOf sv (session - 1) .held) input (are-bytes input b))
+      (heardOf sv l (session - 1) input .info) clock n (info-bytes (l .held) v (session - 1) (linkOf sv (session - 1) .held) input
+      (are-bytes input b))
   event-bytes (request session out) b n = tt
   event-bytes (lose session) b n = tt
 

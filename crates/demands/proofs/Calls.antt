@@ -94,7 +94,8 @@ by-check sv l g session out P a b =
     go false d false e false f w h = a 34
     go false d false e true f true h = a 32
     go false d false e true f false h =
-        b (omega (arith, ltb-false (sv .sessions) session e, eqb-false session 0 d)) (linked-as (linkOf sv (session - 1) .linked) f) (ltb-false out 258 h)
+        b (omega (arith, ltb-false (sv .sessions) session e, eqb-false session 0 d)) (linked-as (linkOf sv (session - 1) .linked) f)
+        (ltb-false out 258 h)
 
 -- ---- the effect of a call
 
@@ -122,7 +123,8 @@ module _ (sv : Server) (l : Lent) (g : Good sv l) (bound : sv .last .number ≤ 
       front-back (4 * sv .files) (t .mem .table) (l .table) (facts .room .table) (d .records) in
       let e = answered-event (t .turn .reply) taken out h n frame info clock (d .small) in
       record {
-        effect = subst (λ (x : Event). Effect x (sv .last) (filesOf sv l) (t .turn .last) (filesOf (withTurn sv i (t .turn)) (backIn sv i l (t .mem) held))) (sym e)
+        effect = subst (λ (x : Event). Effect x (sv .last) (filesOf sv l) (t .turn .last)
+            (filesOf (withTurn sv i (t .turn)) (backIn sv i l (t .mem) held))) (sym e)
             (subst (λ (x : List ℕ). Effect (onReply (t .turn .reply) n frame info clock) (sv .last) (filesOf sv l) (t .turn .last)
             (λ q. viewAt (t .mem .disk) x (take (4 * sv .files) (t .mem .table ++ drop (4 * sv .files) (l .table))) q)) (sym o)
             (subst (λ (x : List ℕ). Effect (onReply (t .turn .reply) n frame info clock) (sv .last) (filesOf sv l) (t .turn .last)
@@ -136,11 +138,13 @@ module _ (sv : Server) (l : Lent) (g : Good sv l) (bound : sv .last .number ≤ 
       carryOut
       (decideOf (withHeld (linkOf sv i) (heardOf sv l i input .held)) (sv .links) (heardOf sv l i input .frame) (heardOf sv l i input .info)
       (files (partsOf sv i (memOf l) .table)) (partsOf sv i (memOf l) .selected))
-      (withHeld (linkOf sv i) (heardOf sv l i input .held)) (sv .last) clock (sv .most) (sizeIn (heardOf sv l i input .frame)) (heardOf sv l i input .info)
+      (withHeld (linkOf sv i) (heardOf sv l i input .held)) (sv .last) clock (sv .most) (sizeIn (heardOf sv l i input .frame))
+      (heardOf sv l i input .info)
       (partsOf sv i (memOf l))
 
   pub step-turns : (i clock : ℕ) (input : List ℕ) → i < sv .sessions → linkOf sv i .linked ≡ true
-      → Turns (uploading sv l i) (heardOf sv l i input .frame) (heardOf sv l i input .info) clock (partsOf sv i (memOf l)) (sv .last) (turnAt i clock input)
+      → Turns (uploading sv l i) (heardOf sv l i input .frame) (heardOf sv l i input .info) clock (partsOf sv i (memOf l)) (sv .last)
+      (turnAt i clock input)
   step-turns i clock input inside linked =
       let f = heardOf sv l i input in
       let fit = heard-fits (l .held) i (linkOf sv i .held) input in
@@ -158,7 +162,8 @@ module _ (sv : Server) (l : Lent) (g : Good sv l) (bound : sv .last .number ≤ 
       (step-turns i clock input inside linked) (hearOf (l .held) i (linkOf sv i .held) input .held) (heardOf sv l i input .taken) out h
 
   receive-after : (session clock : ℕ) (input out : List ℕ)
-      → After (eventOf sv l (receive session clock input out)) sv l (receiveOf sv l out session clock input .done .server) (receiveOf sv l out session clock input .lent)
+      → After (eventOf sv l (receive session clock input out)) sv l (receiveOf sv l out session clock input .done .server)
+      (receiveOf sv l out session clock input .lent)
   unfolding receiveOf onCheck onAnswer
   receive-after session clock input out =
       by-check sv l g session (length out)

@@ -49,7 +49,8 @@ found-quiet found.Nothing offset lock passed fs = tt
 found-quiet (found.At place) offset lock passed fs =
     pick (eqb (fileAt fs place .time) 0) _ _ tt (pick (ltb (fileAt fs place .size) offset) _ _ tt tt)
 
-numbered-quiet : (number offset lock count next : ℕ) (fs : List File) (selected : List ℕ) → Quiet (onNumbered number offset lock count next fs selected)
+numbered-quiet : (number offset lock count next : ℕ) (fs : List File) (selected : List ℕ)
+    → Quiet (onNumbered number offset lock count next fs selected)
 unfolding onNumbered
 numbered-quiet number offset lock count next fs selected =
     pick (eqb number 0) _ _
@@ -119,7 +120,8 @@ module _ (s : Session) (links : List Session) (m : Mem) (last : Last) (bound : l
           → Turns (fileAt stored place .number) (Whole 0 size) info clock m last
           (carryOut (cond t (act.Overrun place) (act.Store place offset received)) s last clock most size info m)
       go true e =
-          overrun-turns (Whole 0 size) info clock m last bound st s most place (r place offset received refl .number) (r place offset received refl .time) size
+          overrun-turns (Whole 0 size) info clock m last bound st s most place (r place offset received refl .number)
+          (r place offset received refl .time) size
       go false e =
           store-turns info clock m last bound st s most place (r place offset received refl .number) (r place offset received refl .time) whole size k
           (ltb-false (fileAt stored place .size) (fileAt stored place .received + size) e) offset received
@@ -130,7 +132,8 @@ module _ (s : Session) (links : List Session) (m : Mem) (last : Last) (bound : l
   unfolding onEnd sizeIn onQuiet
   end-does size up.Idle r = closes 0 (Whole 1 size)
   end-does size (up.Receiving place offset received) r =
-      finish-turns (Whole 1 size) info clock m last bound st s most place (r place offset received refl .number) (r place offset received refl .time) size
+      finish-turns (Whole 1 size) info clock m last bound st s most place (r place offset received refl .number)
+      (r place offset received refl .time) size
   end-does size up.Ignoring r = quietly 0 (Whole 1 size) refl act.Stop tt
 
   -- UPLOAD_CMD
@@ -149,7 +152,8 @@ module _ (s : Session) (links : List Session) (m : Mem) (last : Last) (bound : l
           (act.Resume place (wordAt info 0) (fileAt stored place .received))) (act.Tell (reply.UploadError 2))) (act.Tell (reply.UploadError 12)))
       go true t true true = refuses 2
       go true t true false =
-          resume-turns n (Whole kind size) info clock m last bound s most (sizeIn (Whole kind size)) z place (find-number stored (wordAt info 0) place e)
+          resume-turns n (Whole kind size) info clock m last bound s most (sizeIn (Whole kind size)) z place
+          (find-number stored (wordAt info 0) place e)
           (eqb-true (fileAt stored place .time) 0 t)
       go true t false d = refuses 2
       go false t b d = refuses 12
@@ -165,7 +169,8 @@ module _ (s : Session) (links : List Session) (m : Mem) (last : Last) (bound : l
       go true false e = continued-does n kind size k (eqb-false (wordAt info 0) 0 e) (findOf stored (wordAt info 0)) refl
       go false b e = quietly n (Whole kind size) (not-data n kind size info k) (act.Tell (reply.UploadError 1)) tt
 
-  uplink-does : (kind size : ℕ) → size ≤ 256 → (u : Uplink) → Receives u → Does (numberIn u stored) (Whole kind size) (onUplink u links kind size info stored)
+  uplink-does : (kind size : ℕ) → size ≤ 256 → (u : Uplink) → Receives u
+      → Does (numberIn u stored) (Whole kind size) (onUplink u links kind size info stored)
   unfolding onUplink
   uplink-does kind size k u r = go (eqb kind 0) refl (eqb kind 1) refl
     where
@@ -183,7 +188,8 @@ module _ (s : Session) (links : List Session) (m : Mem) (last : Last) (bound : l
     where
       go : (a b : Bool) → ltb kind 8 ≡ b
           → Does (numberIn (s .up) stored) (Whole kind size)
-          (cond a (cond b (onUplink (s .up) links kind size info stored) (onDownlink (s .down) (s .count) (s .next) kind size info stored selected)) act.Close)
+          (cond a (cond b (onUplink (s .up) links kind size info stored)
+          (onDownlink (s .down) (s .count) (s .next) kind size info stored selected)) act.Close)
       go true true e = uplink-does kind size k (s .up) r
       go true false e =
           quietly (numberIn (s .up) stored) (Whole kind size)

@@ -12,7 +12,8 @@ use Rattle.packet.specs.declared.frame.Frame.{Frame}
 use Rattle.packet.specs.declared.frame.Frame.the-variants.{Open, TooLong, Refused}
 use Rattle.packet.specs.declared.frame.Framed.{Framed}
 use Rattle.packet.specs.Machine.{Step, more, ends, Call, called, call}
-use Rattle.packet.specs.Frame.{Held, Event, packet, too-long, none-held, announcedIn, packetIn, judged, byte, padded, withoutPacket, answerBy, answerOf, refusedPart, receiveOf}
+use Rattle.packet.specs.Frame.{Held, Event, packet, too-long, none-held, announcedIn, packetIn}
+use Rattle.packet.specs.Frame.{judged, byte, padded, withoutPacket, answerBy, answerOf, refusedPart, receiveOf}
 use Rattle.files.proofs.Choice.{take-le}
 use Rattle.server.specs.Turns.{sizeIn, hearOf}
 
@@ -72,7 +73,8 @@ received-fits : (part : List ℕ) (held : ℕ) (input : List ℕ) → Fitting (r
 unfolding receiveOf answerOf sizeIn
 received-fits part held input = go (eqb (length part) 258) (ltb held 258)
   where
-    go : (a b : Bool) → Fitting (cond a (cond b (answerOf (call byte (record { count = held; part = part }) input)) (refusedPart part held)) (refusedPart part held) .answer)
+    go : (a b : Bool) → Fitting (cond a (cond b (answerOf (call byte (record { count = held; part = part }) input)) (refusedPart part held))
+        (refusedPart part held) .answer)
     go true true =
         answer-fits (call byte (record { count = held; part = part }) input .taken) (call byte (record { count = held; part = part }) input .state)
         (call byte (record { count = held; part = part }) input .event) (call-short input (record { count = held; part = part }))

@@ -152,7 +152,8 @@ module _ (F F′ : Files) (last last′ : Last) (o : Orderly F last) where
         let s = kept c l in
         stands-on c s (others (s .place) (λ z. s .live (ap (λ (k : ℕ). F k .file .number) z ∙ t)))
 
-    kept-finished : (n clock : ℕ) → Finishes n clock last F last′ F′ → (c : Completion) → Listed c (cs ++ completion n (timeAt clock (last .time)) ∷ []) → Stands F′ c
+    kept-finished : (n clock : ℕ) → Finishes n clock last F last′ F′ → (c : Completion)
+        → Listed c (cs ++ completion n (timeAt clock (last .time)) ∷ []) → Stands F′ c
     kept-finished n clock x c l =
         ⊎-elim (kept-partial (x .change .place) (x .change .partial .time) (x .change .others) c)
         (λ (e : completion n (timeAt clock (last .time)) ≡ c). subst (Stands F′) e (record {

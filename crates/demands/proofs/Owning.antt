@@ -15,7 +15,8 @@ use Rattle.server.specs.declared.Server.{Server}
 use Rattle.server.specs.State.{Lent}
 use Rattle.history.specs.Calls.{Call, login, receive, request, lose, callOf}
 use Rattle.history.specs.Change.{Files}
-use Rattle.demands.specs.Events.{Event, nothing, given, added, finished, dropped, uploading, heardOf, typeOf, onQuiet, onGo, onSent, onAnswer, eventOf}
+use Rattle.demands.specs.Events.{Event, nothing, given, added, finished, dropped, uploading}
+use Rattle.demands.specs.Events.{heardOf, typeOf, onQuiet, onGo, onSent, onAnswer, eventOf}
 use Rattle.demands.specs.Effect.{Effect}
 use Rattle.demands.specs.Demand3.{Live, sessionOf}
 

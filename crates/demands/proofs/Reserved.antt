@@ -85,7 +85,8 @@ module _ (F F′ : Files) (last last′ : Last) (o : Orderly F last) (o′ : Ord
       (λ k h. rw (ne-eqb n k (λ z. omega arith))) in
       record {
         each = λ q. by-eq q p
-            (λ z live. subst (λ (k : ℕ). cond (eqb n (F′ k .file .number)) (blocksFor size) (res (F′ k .file .number)) ≡ blocksFor (F′ k .file .size)) (sym z)
+            (λ z live. subst (λ (k : ℕ). cond (eqb n (F′ k .file .number)) (blocksFor size) (res (F′ k .file .number)) ≡ blocksFor
+            (F′ k .file .size)) (sym z)
             (rw (eq-eqb n (F′ p .file .number) (sym number)) (ap blocksFor (sym length))))
             (λ z. each-stays (λ k. cond (eqb n k) (blocksFor size) (res k)) q (x .change .others q z)
             (λ l. rw (ne-eqb n (F q .file .number) (λ y. omega (arith, o .known q)))));
@@ -128,8 +129,10 @@ module _ (F F′ : Files) (last last′ : Last) (o : Orderly F last) (o′ : Ord
   reserves-step (given n size) x = given-reserves n size x
   reserves-step (added n bytes) x =
       same-reserves (ap (λ (l : Last). l .number) (x .change .given))
-      (same-at (x .change .place) (ap (λ (v : View). v .file .number) (x .change .here), ap (λ (v : View). v .file .size) (x .change .here)) (x .change .others))
+      (same-at (x .change .place) (ap (λ (v : View). v .file .number) (x .change .here), ap (λ (v : View). v .file .size) (x .change .here))
+      (x .change .others))
   reserves-step (finished n clock) x =
       same-reserves (ap (λ (l : Last). l .number) (x .change .given))
-      (same-at (x .change .place) (ap (λ (v : View). v .file .number) (x .change .here), ap (λ (v : View). v .file .size) (x .change .here)) (x .change .others))
+      (same-at (x .change .place) (ap (λ (v : View). v .file .number) (x .change .here), ap (λ (v : View). v .file .size) (x .change .here))
+      (x .change .others))
   reserves-step (dropped n) x = dropped-reserves n x

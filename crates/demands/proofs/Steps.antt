@@ -25,7 +25,8 @@ use Rattle.demands.proofs.Orderly.{Orderly}
 module _ (F F′ : Files) (last last′ : Last) (o : Orderly F last) where
   -- ---- the bytes accepted
 
-  module _ (acc : ℕ → List ℕ) (fresh : (n : ℕ) → last .number < n → acc n ≡ []) (c : (q : ℕ) → Live (F q) → Holds (F q) (acc (F q .file .number))) where
+  module _ (acc : ℕ → List ℕ) (fresh : (n : ℕ) → last .number < n → acc n ≡ [])
+      (c : (q : ℕ) → Live (F q) → Holds (F q) (acc (F q .file .number))) where
     -- a place whose file is as it was
     stays : (acc′ : ℕ → List ℕ) (q : ℕ) → F′ q ≡ F q → (Live (F q) → acc′ (F q .file .number) ≡ acc (F q .file .number)) → Live (F′ q)
         → Holds (F′ q) (acc′ (F′ q .file .number))
@@ -64,7 +65,8 @@ module _ (F F′ : Files) (last last′ : Last) (o : Orderly F last) where
         by-eq q p
         (λ z. here (λ k. acc k ++ cond (eqb n k) bytes []) p q v z (x .change .here)
         (λ l. partial-holds v (acc (F p .file .number) ++ cond (eqb n (F p .file .number)) bytes []) (x .change .partial .time)
-        (rw (eq-eqb n (F p .file .number) (sym (x .number)), ← x .bytes-are) (ap (λ (b : List ℕ). b ++ x .change .more) (c p live .partial (x .change .partial .time))))))
+        (rw (eq-eqb n (F p .file .number) (sym (x .number)), ← x .bytes-are)
+        (ap (λ (b : List ℕ). b ++ x .change .more) (c p live .partial (x .change .partial .time))))))
         (λ z. stays (λ k. acc k ++ cond (eqb n k) bytes []) q (x .change .others q z)
         (λ l. rw (ne-eqb n (F q .file .number) (other p q n live (x .number) z)) (append-nil (acc (F q .file .number)))))
 
@@ -79,13 +81,15 @@ module _ (F F′ : Files) (last last′ : Last) (o : Orderly F last) where
         let p = x .change .place in
         let t = x .change .time in
         let live = x .change .partial .number in
-        let same : F p .bytes ≡ acc (F p .file .number) ++ [] = c p live .partial (x .change .partial .time) ∙ sym (append-nil (acc (F p .file .number))) in
+        let same : F p .bytes ≡ acc (F p .file .number) ++ [] = c p live .partial (x .change .partial .time)
+        ∙ sym (append-nil (acc (F p .file .number))) in
         let v = view (completed t (F p .file)) (fieldsSet (F p .file .number) t (F p .bytes)) in
         by-eq q p
         (λ z. here (λ k. acc k ++ []) p q v z (x .change .here) (λ l. record {
           partial = λ y. absurd (omega (arith, x .change .above));
           complete = λ y. ap (λ (b : List ℕ). fieldsSet (F p .file .number) t b) same;
-          checked = λ y. subst (λ (b : List ℕ). verdict b (length b) ≡ 0) same (whole-length (F p .bytes) (F p .file .size) (o .sized p live) (x .change .whole));
+          checked = λ y. subst (λ (b : List ℕ). verdict b (length b) ≡ 0) same
+              (whole-length (F p .bytes) (F p .file .size) (o .sized p live) (x .change .whole));
         }))
         (λ z. stays (λ k. acc k ++ []) q (x .change .others q z) (λ l. append-nil (acc (F q .file .number))))
 
@@ -95,7 +99,8 @@ module _ (F F′ : Files) (last last′ : Last) (o : Orderly F last) where
         (λ z live. absurd (live (ap (λ (v : View). v .file .number) (ap F′ z ∙ x .change .here))))
         (λ z. stays (λ k. acc k ++ []) q (x .change .others q z) (λ l. append-nil (acc (F q .file .number))))
 
-    pub contents-step : (e : Event) → Effect e last F last′ F′ → (q : ℕ) → Live (F′ q) → Holds (F′ q) (acc (F′ q .file .number) ++ addedBy e (F′ q .file .number))
+    pub contents-step : (e : Event) → Effect e last F last′ F′ → (q : ℕ) → Live (F′ q)
+        → Holds (F′ q) (acc (F′ q .file .number) ++ addedBy e (F′ q .file .number))
     unfolding addedBy
     contents-step nothing x q = stays (λ k. acc k ++ []) q (x .files q) (λ l. append-nil (acc (F q .file .number)))
     contents-step (given n size) x q = given-step n size x q

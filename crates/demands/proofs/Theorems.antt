@@ -24,7 +24,8 @@ use Rattle.history.proofs.GoodFacts.{Facts, good-facts}
 use Rattle.history.proofs.Histories.{good-after, sizes-after}
 use Rattle.demands.specs.Events.{uploading}
 use Rattle.demands.specs.Accepted.{eventAt, reserved, total, numbersGiven, fromOne}
-use Rattle.demands.specs.Demand3.{serverAt, lentAt, filesAt, Live, Free, Owned, EachBlock, BlocksHeld, NumbersOnce, Contents, sessionOf, OwnFile, Told, TimesRise}
+use Rattle.demands.specs.Demand3.{serverAt, lentAt, filesAt, Live, Free, Owned, EachBlock}
+use Rattle.demands.specs.Demand3.{BlocksHeld, NumbersOnce, Contents, sessionOf, OwnFile, Told, TimesRise}
 use Rattle.demands.proofs.Orderly.{good-orderly}
 use Rattle.demands.proofs.Lists.{from-one-length, from-one-rising, sum-same}
 use Rattle.demands.proofs.Owning.{event-own, others-stay}
@@ -51,7 +52,8 @@ module _ (sv : Server) (l : Lent) (g : Good sv l) where
   place-weight : (q : ℕ) → blocks (q + 1) (ownerPart sv l) ≡ weight (filesOf sv l q)
   place-weight q =
       by-eq (filesOf sv l q .file .number) 0
-      (λ z. free-blocks (mapPart sv l) (ownerPart sv l) (tablePart sv l) (sv .last .number) (sv .last .time) (facts .store) q z ∙ sym (no-weight (filesOf sv l q) z))
+      (λ z. free-blocks (mapPart sv l) (ownerPart sv l) (tablePart sv l) (sv .last .number) (sv .last .time) (facts .store) q z
+      ∙ sym (no-weight (filesOf sv l q) z))
       (λ z. file-blocks (mapPart sv l) (ownerPart sv l) (tablePart sv l) (sv .last .number) (sv .last .time) (facts .store) q z
       ∙ sym (live-weight (filesOf sv l q) z))
 
@@ -124,7 +126,8 @@ module _ (s : Start) (ok : legal s ≡ true) where
 
   pub own-file : (h : History) (c : Call) → OwnFile s h c
   own-file h c =
-      others-stay (filesAt s h) (filesAt s (h ▸ c)) (serverAt s h .last) (serverAt s (h ▸ c) .last) (uploading (serverAt s h) (lentAt s h) (sessionOf c)) (eventAt s h c)
+      others-stay (filesAt s h) (filesAt s (h ▸ c)) (serverAt s h .last) (serverAt s (h ▸ c) .last)
+      (uploading (serverAt s h) (lentAt s h) (sessionOf c)) (eventAt s h c)
       (as-told h c) (event-own (serverAt s h) (lentAt s h) c)
 
   -- "Upload times rise strictly in order of completion"
