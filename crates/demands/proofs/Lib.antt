@@ -13,4 +13,5 @@ pub mod Theorems
 pub mod Bytes
 pub mod Fields
 pub mod Offering
+pub mod Whole
 pub mod Example

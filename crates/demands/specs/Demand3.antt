@@ -182,3 +182,16 @@ pub record TimesRise (s : Start) (h : History) : Type 0 where
       → Listed (completion (filesAt s h place .file .number) (filesAt s h place .file .time)) (completions s h)
   -- and each file that was completed still stands
   pub kept : (c : Completion) → Listed c (completions s h) → Stands (filesAt s h) c
+
+-- ---- all of it, but for the last sentence, which speaks of selections
+
+pub record Demand3 (s : Start) (h : History) : Type 0 where
+  pub blocks : EachBlock s h
+  pub held : BlocksHeld s h
+  pub numbers : NumbersOnce s h
+  pub contents : Contents s h
+  pub fields : FourFields s h
+  pub offers : (c : Call) → Offers s h c
+  pub own : (c : Call) → OwnFile s h c
+  pub told : (c : Call) → Told s h c
+  pub times : TimesRise s h
