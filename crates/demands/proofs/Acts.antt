@@ -46,7 +46,7 @@ use Rattle.carry.specs.Download.{selectTurn, selectedAs, confirmTurn}
 use Rattle.carry.specs.Carry.{onFrees, onWrites, onMoves, onChooses, carryOut}
 use Rattle.history.specs.Change.{Files, view, Partial, Same, Begins}
 use Rattle.history.proofs.Interface.{filesIn, Stored}
-use Rattle.demands.specs.Events.{Event, nothing, given, finished, dropped, onQuiet, onGo}
+use Rattle.demands.specs.Events.{Event, numberIn, nothing, given, finished, dropped, onQuiet, onGo}
 use Rattle.demands.specs.Effect.{Effect, timeAt}
 
 -- ---- the event by the reply
@@ -68,7 +68,7 @@ onReply (reply.Selected c) n frame info clock = nothing
 -- a reply that tells no change of the files but for an accepted DATA
 abbrev pub Plain : Reply → Type 0
 Plain reply.Nothing = Unit {0}
-Plain reply.Closing = Unit {0}
+Plain reply.Closing = ⊥
 Plain reply.DataEnd = Unit {0}
 Plain (reply.Login c) = Unit {0}
 Plain (reply.Go number offset) = ⊥
@@ -84,7 +84,7 @@ plain-nothing : (r : Reply) (n : ℕ) (frame : Frame) (info : List ℕ) (clock :
     → onReply r n frame info clock ≡ nothing
 unfolding onReply
 plain-nothing reply.Nothing n frame info clock p q = q
-plain-nothing reply.Closing n frame info clock p q = refl
+plain-nothing reply.Closing n frame info clock p q = absurd p
 plain-nothing reply.DataEnd n frame info clock p q = refl
 plain-nothing (reply.Login c) n frame info clock p q = refl
 plain-nothing (reply.Go number offset) n frame info clock p q = absurd p
@@ -113,7 +113,7 @@ Small (reply.Selected c) info = Unit {0}
 
 plain-small : (r : Reply) (info : List ℕ) → Plain r → Small r info
 plain-small reply.Nothing info p = p
-plain-small reply.Closing info p = p
+plain-small reply.Closing info p = absurd p
 plain-small reply.DataEnd info p = p
 plain-small (reply.Login c) info p = p
 plain-small (reply.Go number offset) info p = absurd p
@@ -149,7 +149,7 @@ Offer (reply.Selected c) info F = Unit {0}
 
 plain-offer : (r : Reply) (info : List ℕ) (F : Files) → Plain r → Offer r info F
 plain-offer reply.Nothing info F p = p
-plain-offer reply.Closing info F p = p
+plain-offer reply.Closing info F p = absurd p
 plain-offer reply.DataEnd info F p = p
 plain-offer (reply.Login c) info F p = p
 plain-offer (reply.Go number offset) info F p = absurd p
@@ -161,6 +161,36 @@ plain-offer reply.Aborted info F p = p
 plain-offer reply.Completed info F p = p
 plain-offer (reply.Selected c) info F p = p
 
+-- the number of the file that the session uploads afterwards, by the reply: UL_GO_RESP gives it; nothing after UL_ACK_RESP, UL_NAK_RESP and
+-- a closed link; else the one before
+abbrev pub Names : Reply → ℕ → ℕ → Type 0
+Names reply.Nothing was now = now ≡ was
+Names reply.Closing was now = now ≡ 0
+Names reply.DataEnd was now = now ≡ was
+Names (reply.Login c) was now = now ≡ was
+Names (reply.Go number offset) was now = now ≡ number
+Names (reply.UploadError e) was now = now ≡ was
+Names reply.Ack was now = now ≡ 0
+Names (reply.Nak e) was now = now ≡ 0
+Names (reply.DownloadError e) was now = now ≡ was
+Names reply.Aborted was now = now ≡ was
+Names reply.Completed was now = now ≡ was
+Names (reply.Selected c) was now = now ≡ was
+
+plain-names : (r : Reply) (was now : ℕ) → Plain r → now ≡ was → Names r was now
+plain-names reply.Nothing was now p e = e
+plain-names reply.Closing was now p e = absurd p
+plain-names reply.DataEnd was now p e = e
+plain-names (reply.Login c) was now p e = e
+plain-names (reply.Go number offset) was now p e = absurd p
+plain-names (reply.UploadError e) was now p d = d
+plain-names reply.Ack was now p e = absurd p
+plain-names (reply.Nak e) was now p d = absurd p
+plain-names (reply.DownloadError e) was now p d = d
+plain-names reply.Aborted was now p e = e
+plain-names reply.Completed was now p e = e
+plain-names (reply.Selected c) was now p e = e
+
 -- ---- a turn
 
 -- what a turn leaves, with the event that its reply tells
@@ -168,6 +198,7 @@ pub record Turns (n : ℕ) (frame : Frame) (info : List ℕ) (clock : ℕ) (m : 
   pub effect : Effect (onReply (t .turn .reply) n frame info clock) last (filesIn m) (t .turn .last) (filesIn (t .mem))
   pub small : Small (t .turn .reply) info
   pub offer : Offer (t .turn .reply) info (filesIn m)
+  pub names : Names (t .turn .reply) n (numberIn (t .turn .session .up) (files (t .mem .table)))
   pub bound : t .turn .last .number ≤ mostGiven
   pub owners : length (t .mem .owner) ≡ length (m .owner)
   pub records : length (t .mem .table) ≡ length (m .table)
@@ -184,22 +215,25 @@ module _ (n : ℕ) (frame : Frame) (info : List ℕ) (clock : ℕ) (m : Mem) (la
   same-files t l = record { files = λ q. rw (l .disk, l .owner, l .table); given = l .given }
 
   pub left-turns : (t : Turned) → Leaves m last t → onReply (t .turn .reply) n frame info clock ≡ nothing → Small (t .turn .reply) info
-      → Offer (t .turn .reply) info (filesIn m)
+      → Offer (t .turn .reply) info (filesIn m) → Names (t .turn .reply) n (numberIn (t .turn .session .up) (files (m .table)))
       → Turns n frame info clock m last t
-  left-turns t l e k f =
+  left-turns t l e k f u =
       record {
         effect = subst (λ (x : Event). Effect x last (filesIn m) (t .turn .last) (filesIn (t .mem))) (sym e) (same-files t l);
         small = k;
         offer = f;
+        names = rw (l .table) u;
         bound = rw (l .given) bound;
         owners = ap length (l .owner);
         records = ap length (l .table);
       }
 
-  pub plain-turns : (t : Turned) → Leaves m last t → Plain (t .turn .reply) → onQuiet n frame info ≡ nothing → Turns n frame info clock m last t
-  plain-turns t l p q =
+  pub plain-turns : (t : Turned) → Leaves m last t → Plain (t .turn .reply) → numberIn (t .turn .session .up) (files (m .table)) ≡ n
+      → onQuiet n frame info ≡ nothing → Turns n frame info clock m last t
+  plain-turns t l p u q =
       left-turns t l (plain-nothing (t .turn .reply) n frame info clock p q) (plain-small (t .turn .reply) info p)
       (plain-offer (t .turn .reply) info (filesIn m) p)
+      (plain-names (t .turn .reply) n (numberIn (t .turn .session .up) (files (m .table))) p u)
 
 -- ---- the acts that leave the store as it was
 
@@ -211,7 +245,7 @@ Quiet (act.Begin size) = ⊥
 Quiet (act.Resume place number received) = ⊥
 Quiet (act.Store place offset received) = ⊥
 Quiet (act.Overrun place) = ⊥
-Quiet act.Stop = Unit {0}
+Quiet act.Stop = ⊥
 Quiet (act.Finish place) = ⊥
 Quiet act.Select = Unit {0}
 Quiet (act.Send place offset lock passed) = Unit {0}
@@ -219,74 +253,81 @@ Quiet (act.Confirm place destination) = Unit {0}
 Quiet (act.End r) = Plain r
 Quiet (act.Abort place) = Unit {0}
 
--- a turn that gives no number and no time, with a plain reply
-abbrev Told : Last → Turn → Type 0
-Told last t = (t .last ≡ last) × Plain (t .reply)
+-- a turn that gives no number and no time and leaves the uplink, with a plain reply
+abbrev Told : Session → Last → Turn → Type 0
+Told s last t = (t .last ≡ last) × Plain (t .reply) × (t .session .up ≡ s .up)
 
-either : (last : Last) (b : Bool) (x y : Turn) → Told last x → Told last y → Told last (cond b x y)
-either last true x y j k = j
-either last false x y j k = k
+either : (s : Session) (last : Last) (b : Bool) (x y : Turn) → Told s last x → Told s last y → Told s last (cond b x y)
+either s last true x y j k = j
+either s last false x y j k = k
 
-either-chosen : (last : Last) (b : Bool) (x y : Chooses) → Told last (x .turn) → Told last (y .turn) → Told last (cond b x y .turn)
-either-chosen last true x y j k = j
-either-chosen last false x y j k = k
+either-chosen : (s : Session) (last : Last) (b : Bool) (x y : Chooses) → Told s last (x .turn) → Told s last (y .turn) → Told s last (cond b x y .turn)
+either-chosen s last true x y j k = j
+either-chosen s last false x y j k = k
 
-selected-told : (s : Session) (last : Last) (r : Selects) → Told last (selectedAs s last r .turn)
+selected-told : (s : Session) (last : Last) (r : Selects) → Told s last (selectedAs s last r .turn)
 unfolding selectedAs
-selected-told s last r = either-chosen last (eqb (r .answer .refused) 0) _ _ (refl, tt) (refl, tt)
+selected-told s last r = either-chosen s last (eqb (r .answer .refused) 0) _ _ (refl, tt, refl) (refl, tt, refl)
 
 select-told : (s : Session) (last : Last) (most size : ℕ) (info disk owner table selected : List ℕ)
-    → Told last (selectTurn s last most size info disk owner table selected .turn)
+    → Told s last (selectTurn s last most size info disk owner table selected .turn)
 unfolding selectTurn
 select-told s last most size info disk owner table selected =
-    either-chosen last (ltb (length info) size) _ _ (refl, tt) (selected-told s last (selectOf (take size info) disk owner table selected most))
+    either-chosen s last (ltb (length info) size) _ _ (refl, tt, refl) (selected-told s last (selectOf (take size info) disk owner table selected most))
 
 send-told : (s : Session) (last : Last) (place offset lock passed : ℕ) (disk owner table : List ℕ)
-    → Told last (download.beginTurn s last place offset lock passed disk owner table)
+    → Told s last (download.beginTurn s last place offset lock passed disk owner table)
 unfolding download.beginTurn
-send-told s last place offset lock passed disk owner table = either last (ltb (destinationsAt disk owner table place) lock) _ _ (refl, tt) (refl, tt)
+send-told s last place offset lock passed disk owner table = either s last (ltb (destinationsAt disk owner table place) lock) _ _ (refl, tt, refl) (refl, tt, refl)
 
 confirm-told : (s : Session) (last : Last) (place destination : ℕ) (disk owner table : List ℕ)
-    → Told last (confirmTurn s last place destination disk owner table)
+    → Told s last (confirmTurn s last place destination disk owner table)
 unfolding confirmTurn
-confirm-told s last place destination disk owner table = either last (ltb (destinationsAt disk owner table place) destination) _ _ (refl, tt)
-    (refl, tt)
+confirm-told s last place destination disk owner table = either s last (ltb (destinationsAt disk owner table place) destination) _ _ (refl, tt, refl)
+    (refl, tt, refl)
 
 module _ (n : ℕ) (frame : Frame) (info : List ℕ) (clock : ℕ) (m : Mem) (last : Last) (bound : last .number ≤ mostGiven) (s : Session)
-    (most size : ℕ) where
+    (most size : ℕ) (was : numberIn (s .up) (files (m .table)) ≡ n) where
   abbrev Done : Act → Type 0
   Done a = Turns n frame info clock m last (carryOut a s last clock most size info m)
 
   kept : (t : Turned) → t .mem .disk ≡ m .disk → t .mem .owner ≡ m .owner → t .mem .table ≡ m .table → t .turn .last ≡ last → Leaves m last t
   kept t d o b g = record { disk = d; owner = o; table = b; given = g }
 
-  chosen-turns : onQuiet n frame info ≡ nothing → (r : Chooses) → Told last (r .turn) → Turns n frame info clock m last (onChooses m r)
+  chosen-turns : onQuiet n frame info ≡ nothing → (r : Chooses) → Told s last (r .turn) → Turns n frame info clock m last (onChooses m r)
   unfolding onChooses
-  chosen-turns q r k = plain-turns n frame info clock m last bound _ (kept _ refl refl refl (k .0)) (k .1) q
+  chosen-turns q r k =
+      plain-turns n frame info clock m last bound _ (kept _ refl refl refl (k .0)) (k .1) (ap (λ (u : Uplink). numberIn u (files (m .table))) (k .2) ∙ was) q
 
-  told-turns : onQuiet n frame info ≡ nothing → (t : Turn) → Told last t → Turns n frame info clock m last (turned t m)
-  told-turns q t k = plain-turns n frame info clock m last bound _ (kept _ refl refl refl (k .0)) (k .1) q
+  told-turns : onQuiet n frame info ≡ nothing → (t : Turn) → Told s last t → Turns n frame info clock m last (turned t m)
+  told-turns q t k =
+      plain-turns n frame info clock m last bound _ (kept _ refl refl refl (k .0)) (k .1) (ap (λ (u : Uplink). numberIn u (files (m .table))) (k .2) ∙ was) q
 
   pub close-turns : Done act.Close
   unfolding carryOut onChooses download.closeTurn onReply
-  close-turns = left-turns n frame info clock m last bound _ (kept _ refl refl refl refl) refl tt tt
+  close-turns = left-turns n frame info clock m last bound _ (kept _ refl refl refl refl) refl tt tt refl
 
   pub quiet-turns : onQuiet n frame info ≡ nothing → (a : Act) → Quiet a → Done a
   unfolding carryOut
   quiet-turns q act.Close k = close-turns
-  quiet-turns q act.Ignore k = plain-turns n frame info clock m last bound _ (kept _ refl refl refl refl) tt q
-  quiet-turns q (act.Tell r) k = plain-turns n frame info clock m last bound _ (kept _ refl refl refl refl) k q
+  quiet-turns q act.Ignore k = plain-turns n frame info clock m last bound _ (kept _ refl refl refl refl) tt was q
+  quiet-turns q (act.Tell r) k = plain-turns n frame info clock m last bound _ (kept _ refl refl refl refl) k was q
   quiet-turns q (act.Begin size) k = absurd k
   quiet-turns q (act.Resume place number received) k = absurd k
   quiet-turns q (act.Store place offset received) k = absurd k
   quiet-turns q (act.Overrun place) k = absurd k
-  quiet-turns q act.Stop k = plain-turns n frame info clock m last bound _ (kept _ refl refl refl refl) tt q
+  quiet-turns q act.Stop k = absurd k
   quiet-turns q (act.Finish place) k = absurd k
   quiet-turns q act.Select k = chosen-turns q _ (select-told s last most size info (m .disk) (m .owner) (m .table) (m .selected))
   quiet-turns q (act.Send place offset lock passed) k = told-turns q _ (send-told s last place offset lock passed (m .disk) (m .owner) (m .table))
   quiet-turns q (act.Confirm place destination) k = told-turns q _ (confirm-told s last place destination (m .disk) (m .owner) (m .table))
-  quiet-turns q (act.End r) k = plain-turns n frame info clock m last bound _ (kept _ refl refl refl refl) k q
-  quiet-turns q (act.Abort place) k = plain-turns n frame info clock m last bound _ (kept _ refl refl refl refl) tt q
+  quiet-turns q (act.End r) k = plain-turns n frame info clock m last bound _ (kept _ refl refl refl refl) k was q
+  quiet-turns q (act.Abort place) k = plain-turns n frame info clock m last bound _ (kept _ refl refl refl refl) tt was q
+
+  -- the DATA_END of an ignored upload
+  pub stop-turns : onQuiet n frame info ≡ nothing → 0 ≡ n → Done act.Stop
+  unfolding carryOut
+  stop-turns q e = plain-turns n frame info clock m last bound _ (kept _ refl refl refl refl) tt e q
 
   -- an upload that goes on: UPLOAD_CMD names a file, so UL_GO_RESP gives no new number
   pub resume-turns : (wordAt info 0 ≡ 0 → ⊥) → (place : ℕ) → recordAt (m .table) place .number ≡ wordAt info 0 → recordAt (m .table) place .time ≡ 0
@@ -294,7 +335,7 @@ module _ (n : ℕ) (frame : Frame) (info : List ℕ) (clock : ℕ) (m : Mem) (la
   unfolding carryOut onReply onGo
   resume-turns z place e time =
       left-turns n frame info clock m last bound _ (kept _ refl refl refl refl) (rw (ne-eqb (wordAt info 0) 0 z)) (λ e. absurd (z e))
-      (λ y. record { place = place; is = e; partial = time; same = refl; has = refl })
+      (λ y. record { place = place; is = e; partial = time; same = refl; has = refl }) e
 
 -- ---- a new file
 
@@ -302,7 +343,7 @@ view-is : (v : View) (f : File) (bytes : List ℕ) → v .file ≡ f → v .byte
 view-is v f bytes e d = rw (← e, ← d)
 
 module _ (n : ℕ) (frame : Frame) (info : List ℕ) (clock : ℕ) (m : Mem) (last : Last) (bound : last .number ≤ mostGiven) (st : Stored m last)
-    (s : Session) (most : ℕ) where
+    (s : Session) (most : ℕ) (was : numberIn (s .up) (files (m .table)) ≡ n) where
   -- UPLOAD_CMD asks for a new file
   module _ (new : wordAt info 0 ≡ 0) where
     abbrev asked : uploads.Begins
@@ -330,6 +371,7 @@ module _ (n : ℕ) (frame : Frame) (info : List ℕ) (clock : ℕ) (m : Mem) (la
           });
           small = λ z. omega arith;
           offer = λ z. absurd (z new);
+          names = ap (λ (f : File). f .number) (b .file) ∙ sym e;
           bound = l;
           owners = b .blocks-size;
           records = b .table-size;
@@ -345,7 +387,7 @@ module _ (n : ℕ) (frame : Frame) (info : List ℕ) (clock : ℕ) (m : Mem) (la
           owner = ap (λ (b : uploads.Begins). b .owner) k;
           table = ap (λ (b : uploads.Begins). b .table) k;
           given = refl;
-        }) refl tt tt
+        }) refl tt tt was
     begun-turns number e l (begun.Started place) q =
         started-turns number place e l
         (begin-leaves (m .map) (m .owner) (m .table) (last .number) (last .time) (st .sound) (wordAt info 4) place q)
@@ -356,7 +398,7 @@ module _ (n : ℕ) (frame : Frame) (info : List ℕ) (clock : ℕ) (m : Mem) (la
       where
         go : (g : Given) → nextNumber (last .number) ≡ g
             → Turns n frame info clock m last (onFrees m (upload.beginWith g s last (wordAt info 4) (m .map) (m .owner) (m .table)))
-        go UsedUp e = left-turns n frame info clock m last bound _ (record { disk = refl; owner = refl; table = refl; given = refl }) refl tt tt
+        go UsedUp e = left-turns n frame info clock m last bound _ (record { disk = refl; owner = refl; table = refl; given = refl }) refl tt tt was
         go (Next number) e =
             let g = number-given (last .number) number e in
             begun-turns number (g .next) (g .fits bound) (asked .answer) refl
@@ -380,10 +422,10 @@ module _ (frame : Frame) (info : List ℕ) (clock : ℕ) (m : Mem) (last : Last)
   ownPartial = record { number = number; time = time }
 
   -- UL_NAK_RESP, with the uplink's state afterwards
-  pub discard-turns : (u : Uplink) (r : ℕ)
+  pub discard-turns : (u : Uplink) → ((fs : List File) → numberIn u fs ≡ 0) → (r : ℕ)
       → Turns (own .number) frame info clock m last (onFrees m (upload.discardTurn s last place u r (m .map) (m .owner) (m .table)))
   unfolding onFrees upload.discardTurn onReply
-  discard-turns u r =
+  discard-turns u over r =
       let d = discard-leaves (m .map) (m .owner) (m .table) (last .number) (last .time) (st .sound) place
       (discard-done (m .map) (m .owner) (m .table) (last .number) (last .time) (st .sound) (st .sizes .some) (st .sizes .most) place number) in
       let w = uploads.discardOf (m .map) (m .owner) (m .table) place in
@@ -401,6 +443,7 @@ module _ (frame : Frame) (info : List ℕ) (clock : ℕ) (m : Mem) (last : Last)
         };
         small = tt;
         offer = tt;
+        names = over (files (w .table));
         bound = bound;
         owners = d .blocks-size;
         records = d .table-size;
@@ -451,6 +494,7 @@ module _ (frame : Frame) (info : List ℕ) (clock : ℕ) (m : Mem) (last : Last)
         };
         small = tt;
         offer = tt;
+        names = refl;
         bound = bound;
         owners = refl;
         records = c .table-size;
@@ -458,18 +502,18 @@ module _ (frame : Frame) (info : List ℕ) (clock : ℕ) (m : Mem) (last : Last)
 
   pub finish-turns : (size : ℕ) → Turns (own .number) frame info clock m last (carryOut (act.Finish place) s last clock most size info m)
   finish-turns size = by-number (checkOf (m .disk) (m .owner) (m .table) place) (λ z. timely z (uploadTime clock (last .time)) refl)
-      (λ z. rw (finish-refused size z) (discard-turns up.Idle (checkOf (m .disk) (m .owner) (m .table) place)))
+      (λ z. rw (finish-refused size z) (discard-turns up.Idle (λ fs. refl) (checkOf (m .disk) (m .owner) (m .table) place)))
     where
       timely : checkOf (m .disk) (m .owner) (m .table) place ≡ 0 → (g : Given) → uploadTime clock (last .time) ≡ g
           → Turns (own .number) frame info clock m last (carryOut (act.Finish place) s last clock most size info m)
-      timely z UsedUp e = rw (finish-late size z e) (discard-turns up.Idle 3)
+      timely z UsedUp e = rw (finish-late size z e) (discard-turns up.Idle (λ fs. refl) 3)
       timely z (Next t) e =
           rw (finish-accepted size t z e) (accept-turns t (time-is clock (last .time) t e) (time-given clock (last .time) t e .later) z)
 
   -- DATA that would pass the announced length
   pub overrun-turns : (size : ℕ) → Turns (own .number) frame info clock m last (carryOut (act.Overrun place) s last clock most size info m)
   unfolding carryOut
-  overrun-turns size = discard-turns up.Ignoring 16
+  overrun-turns size = discard-turns up.Ignoring (λ fs. refl) 16
 
 -- DATA within it
 module _ (info : List ℕ) (clock : ℕ) (m : Mem) (last : Last) (bound : last .number ≤ mostGiven) (st : Stored m last)
@@ -508,6 +552,7 @@ module _ (info : List ℕ) (clock : ℕ) (m : Mem) (last : Last) (bound : last .
         });
         small = tt;
         offer = tt;
+        names = ap (λ (f : File). f .number) (a .file);
         bound = bound;
         owners = refl;
         records = a .table-size;

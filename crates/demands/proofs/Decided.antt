@@ -35,7 +35,7 @@ use Rattle.carry.specs.Carry.{carryOut}
 use Rattle.server.specs.Turns.{sizeIn}
 use Rattle.history.proofs.Interface.{Stored}
 use Rattle.demands.specs.Events.{nothing, numberIn, onQuiet}
-use Rattle.demands.proofs.Acts.{Quiet, Turns, close-turns, quiet-turns, resume-turns, begin-turns, finish-turns, overrun-turns, store-turns}
+use Rattle.demands.proofs.Acts.{Quiet, Turns, close-turns, quiet-turns, stop-turns, resume-turns, begin-turns, finish-turns, overrun-turns, store-turns}
 
 -- ---- the downlink's acts leave the store
 
@@ -104,17 +104,21 @@ module _ (s : Session) (links : List Session) (m : Mem) (last : Last) (bound : l
   abbrev Does : ℕ → Frame → Act → Type 0
   Does n frame a = Turns n frame info clock m last (carryOut a s last clock most (sizeIn frame) info m)
 
-  quietly : (n : ℕ) (frame : Frame) → onQuiet n frame info ≡ nothing → (a : Act) → Quiet a → Does n frame a
-  quietly n frame q a k = quiet-turns n frame info clock m last bound s most (sizeIn frame) q a k
+  -- the number that the session uploads
+  abbrev Was : ℕ → Type 0
+  Was n = numberIn (s .up) (files (m .table)) ≡ n
 
-  closes : (n : ℕ) (frame : Frame) → Does n frame act.Close
-  closes n frame = close-turns n frame info clock m last bound s most (sizeIn frame)
+  quietly : (n : ℕ) → Was n → (frame : Frame) → onQuiet n frame info ≡ nothing → (a : Act) → Quiet a → Does n frame a
+  quietly n w frame q a k = quiet-turns n frame info clock m last bound s most (sizeIn frame) w q a k
+
+  closes : (n : ℕ) → Was n → (frame : Frame) → Does n frame act.Close
+  closes n w frame = close-turns n frame info clock m last bound s most (sizeIn frame) w
 
   -- DATA
-  data-does : (size : ℕ) → size ≤ 256 → (u : Uplink) → Receives u → Does (numberIn u stored) (Whole 0 size) (onData u size stored)
+  data-does : (size : ℕ) → size ≤ 256 → (u : Uplink) → Was (numberIn u stored) → Receives u → Does (numberIn u stored) (Whole 0 size) (onData u size stored)
   unfolding onData sizeIn onQuiet
-  data-does size k up.Idle r = closes 0 (Whole 0 size)
-  data-does size k (up.Receiving place offset received) r = go (ltb (fileAt stored place .size) (fileAt stored place .received + size)) refl
+  data-does size k up.Idle w r = closes 0 w (Whole 0 size)
+  data-does size k (up.Receiving place offset received) w r = go (ltb (fileAt stored place .size) (fileAt stored place .received + size)) refl
     where
       go : (t : Bool) → ltb (fileAt stored place .size) (fileAt stored place .received + size) ≡ t
           → Turns (fileAt stored place .number) (Whole 0 size) info clock m last
@@ -125,61 +129,61 @@ module _ (s : Session) (links : List Session) (m : Mem) (last : Last) (bound : l
       go false e =
           store-turns info clock m last bound st s most place (r place offset received refl .number) (r place offset received refl .time) whole size k
           (ltb-false (fileAt stored place .size) (fileAt stored place .received + size) e) offset received
-  data-does size k up.Ignoring r = quietly 0 (Whole 0 size) refl act.Ignore tt
+  data-does size k up.Ignoring w r = quietly 0 w (Whole 0 size) refl act.Ignore tt
 
   -- DATA_END
-  end-does : (size : ℕ) (u : Uplink) → Receives u → Does (numberIn u stored) (Whole 1 size) (onEnd u)
+  end-does : (size : ℕ) (u : Uplink) → Was (numberIn u stored) → Receives u → Does (numberIn u stored) (Whole 1 size) (onEnd u)
   unfolding onEnd sizeIn onQuiet
-  end-does size up.Idle r = closes 0 (Whole 1 size)
-  end-does size (up.Receiving place offset received) r =
+  end-does size up.Idle w r = closes 0 w (Whole 1 size)
+  end-does size (up.Receiving place offset received) w r =
       finish-turns (Whole 1 size) info clock m last bound st s most place (r place offset received refl .number)
       (r place offset received refl .time) size
-  end-does size up.Ignoring r = quietly 0 (Whole 1 size) refl act.Stop tt
+  end-does size up.Ignoring w r = stop-turns 0 (Whole 1 size) info clock m last bound s most size w refl refl
 
   -- UPLOAD_CMD
-  continued-does : (n kind size : ℕ) → (kind ≡ 0 → ⊥) → (wordAt info 0 ≡ 0 → ⊥) → (f : Found) → findOf stored (wordAt info 0) ≡ f
+  continued-does : (n kind size : ℕ) → Was n → (kind ≡ 0 → ⊥) → (wordAt info 0 ≡ 0 → ⊥) → (f : Found) → findOf stored (wordAt info 0) ≡ f
       → Does n (Whole kind size) (onContinued f (wordAt info 0) (wordAt info 4) links stored)
   unfolding onContinued
-  continued-does n kind size k z found.Nothing e = quietly n (Whole kind size) (not-data n kind size info k) _ tt
-  continued-does n kind size k z (found.At place) e =
+  continued-does n kind size w k z found.Nothing e = quietly n w (Whole kind size) (not-data n kind size info k) _ tt
+  continued-does n kind size w k z (found.At place) e =
       go (eqb (fileAt stored place .time) 0) refl (eqb (fileAt stored place .size) (wordAt info 4)) (uploading links place)
     where
       refuses : (e : ℕ) → Does n (Whole kind size) (act.Tell (reply.UploadError e))
-      refuses e = quietly n (Whole kind size) (not-data n kind size info k) (act.Tell (reply.UploadError e)) tt
+      refuses e = quietly n w (Whole kind size) (not-data n kind size info k) (act.Tell (reply.UploadError e)) tt
 
       go : (a : Bool) → eqb (fileAt stored place .time) 0 ≡ a → (b d : Bool)
           → Does n (Whole kind size) (cond a (cond b (cond d (act.Tell (reply.UploadError 2))
           (act.Resume place (wordAt info 0) (fileAt stored place .received))) (act.Tell (reply.UploadError 2))) (act.Tell (reply.UploadError 12)))
       go true t true true = refuses 2
       go true t true false =
-          resume-turns n (Whole kind size) info clock m last bound s most (sizeIn (Whole kind size)) z place
+          resume-turns n (Whole kind size) info clock m last bound s most (sizeIn (Whole kind size)) w z place
           (find-number stored (wordAt info 0) place e)
           (eqb-true (fileAt stored place .time) 0 t)
       go true t false d = refuses 2
       go false t b d = refuses 12
 
-  upload-does : (n kind size : ℕ) → (kind ≡ 0 → ⊥) → Does n (Whole kind size) (onUpload links size info stored)
+  upload-does : (n kind size : ℕ) → Was n → (kind ≡ 0 → ⊥) → Does n (Whole kind size) (onUpload links size info stored)
   unfolding onUpload
-  upload-does n kind size k = go (eqb size 8) (eqb (wordAt info 0) 0) refl
+  upload-does n kind size w k = go (eqb size 8) (eqb (wordAt info 0) 0) refl
     where
       go : (a b : Bool) → eqb (wordAt info 0) 0 ≡ b
           → Does n (Whole kind size) (cond a (cond b (act.Begin (wordAt info 4))
           (onContinued (findOf stored (wordAt info 0)) (wordAt info 0) (wordAt info 4) links stored)) (act.Tell (reply.UploadError 1)))
-      go true true e = begin-turns n (Whole kind size) info clock m last bound st s most (eqb-true (wordAt info 0) 0 e) (sizeIn (Whole kind size))
-      go true false e = continued-does n kind size k (eqb-false (wordAt info 0) 0 e) (findOf stored (wordAt info 0)) refl
-      go false b e = quietly n (Whole kind size) (not-data n kind size info k) (act.Tell (reply.UploadError 1)) tt
+      go true true e = begin-turns n (Whole kind size) info clock m last bound st s most w (eqb-true (wordAt info 0) 0 e) (sizeIn (Whole kind size))
+      go true false e = continued-does n kind size w k (eqb-false (wordAt info 0) 0 e) (findOf stored (wordAt info 0)) refl
+      go false b e = quietly n w (Whole kind size) (not-data n kind size info k) (act.Tell (reply.UploadError 1)) tt
 
-  uplink-does : (kind size : ℕ) → size ≤ 256 → (u : Uplink) → Receives u
+  uplink-does : (kind size : ℕ) → size ≤ 256 → (u : Uplink) → Was (numberIn u stored) → Receives u
       → Does (numberIn u stored) (Whole kind size) (onUplink u links kind size info stored)
   unfolding onUplink
-  uplink-does kind size k u r = go (eqb kind 0) refl (eqb kind 1) refl
+  uplink-does kind size k u w r = go (eqb kind 0) refl (eqb kind 1) refl
     where
       go : (a : Bool) → eqb kind 0 ≡ a → (b : Bool) → eqb kind 1 ≡ b
           → Does (numberIn u stored) (Whole kind size) (cond a (onData u size stored) (cond b (onEnd u) (onUpload links size info stored)))
       go true e b d =
-          subst (λ (x : ℕ). Does (numberIn u stored) (Whole x size) (onData u size stored)) (sym (eqb-true kind 0 e)) (data-does size k u r)
-      go false e true d = subst (λ (x : ℕ). Does (numberIn u stored) (Whole x size) (onEnd u)) (sym (eqb-true kind 1 d)) (end-does size u r)
-      go false e false d = upload-does (numberIn u stored) kind size (eqb-false kind 0 e)
+          subst (λ (x : ℕ). Does (numberIn u stored) (Whole x size) (onData u size stored)) (sym (eqb-true kind 0 e)) (data-does size k u w r)
+      go false e true d = subst (λ (x : ℕ). Does (numberIn u stored) (Whole x size) (onEnd u)) (sym (eqb-true kind 1 d)) (end-does size u w r)
+      go false e false d = upload-does (numberIn u stored) kind size w (eqb-false kind 0 e)
 
   packet-does : (kind size : ℕ) → size ≤ 256 → Receives (s .up)
       → Does (numberIn (s .up) stored) (Whole kind size) (onPacket s links kind size info stored selected)
@@ -190,20 +194,20 @@ module _ (s : Session) (links : List Session) (m : Mem) (last : Last) (bound : l
           → Does (numberIn (s .up) stored) (Whole kind size)
           (cond a (cond b (onUplink (s .up) links kind size info stored)
           (onDownlink (s .down) (s .count) (s .next) kind size info stored selected)) act.Close)
-      go true true e = uplink-does kind size k (s .up) r
+      go true true e = uplink-does kind size k (s .up) refl r
       go true false e =
-          quietly (numberIn (s .up) stored) (Whole kind size)
+          quietly (numberIn (s .up) stored) refl (Whole kind size)
           (not-data (numberIn (s .up) stored) kind size info (λ z. omega (arith, ltb-false kind 8 e))) _
           (downlink-quiet (s .down) (s .count) (s .next) kind size info stored selected)
-      go false b e = closes (numberIn (s .up) stored) (Whole kind size)
+      go false b e = closes (numberIn (s .up) stored) refl (Whole kind size)
 
   frame-does : (frame : Frame) → sizeIn frame ≤ 256 → Receives (s .up)
       → Does (numberIn (s .up) stored) frame (onFrame s links frame info stored selected)
   unfolding onFrame onQuiet sizeIn
-  frame-does Open k r = quietly (numberIn (s .up) stored) Open refl act.Ignore tt
-  frame-does TooLong k r = closes (numberIn (s .up) stored) TooLong
+  frame-does Open k r = quietly (numberIn (s .up) stored) refl Open refl act.Ignore tt
+  frame-does TooLong k r = closes (numberIn (s .up) stored) refl TooLong
   frame-does (Whole kind size) k r = packet-does kind size k r
-  frame-does (Refused e) k r = quietly (numberIn (s .up) stored) (Refused e) refl act.Ignore tt
+  frame-does (Refused e) k r = quietly (numberIn (s .up) stored) refl (Refused e) refl act.Ignore tt
 
   pub decided-does : (frame : Frame) → sizeIn frame ≤ 256 → Receives (s .up)
       → Turns (numberIn (s .up) (files (m .table))) frame info clock m last
