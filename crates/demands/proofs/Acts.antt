@@ -261,7 +261,8 @@ either : (s : Session) (last : Last) (b : Bool) (x y : Turn) → Told s last x �
 either s last true x y j k = j
 either s last false x y j k = k
 
-either-chosen : (s : Session) (last : Last) (b : Bool) (x y : Chooses) → Told s last (x .turn) → Told s last (y .turn) → Told s last (cond b x y .turn)
+either-chosen : (s : Session) (last : Last) (b : Bool) (x y : Chooses) → Told s last (x .turn) → Told s last (y .turn)
+    → Told s last (cond b x y .turn)
 either-chosen s last true x y j k = j
 either-chosen s last false x y j k = k
 
@@ -273,12 +274,14 @@ select-told : (s : Session) (last : Last) (most size : ℕ) (info disk owner tab
     → Told s last (selectTurn s last most size info disk owner table selected .turn)
 unfolding selectTurn
 select-told s last most size info disk owner table selected =
-    either-chosen s last (ltb (length info) size) _ _ (refl, tt, refl) (selected-told s last (selectOf (take size info) disk owner table selected most))
+    either-chosen s last (ltb (length info) size) _ _ (refl, tt, refl)
+    (selected-told s last (selectOf (take size info) disk owner table selected most))
 
 send-told : (s : Session) (last : Last) (place offset lock passed : ℕ) (disk owner table : List ℕ)
     → Told s last (download.beginTurn s last place offset lock passed disk owner table)
 unfolding download.beginTurn
-send-told s last place offset lock passed disk owner table = either s last (ltb (destinationsAt disk owner table place) lock) _ _ (refl, tt, refl) (refl, tt, refl)
+send-told s last place offset lock passed disk owner table = either s last (ltb (destinationsAt disk owner table place) lock) _ _ (refl, tt, refl)
+    (refl, tt, refl)
 
 confirm-told : (s : Session) (last : Last) (place destination : ℕ) (disk owner table : List ℕ)
     → Told s last (confirmTurn s last place destination disk owner table)
@@ -297,11 +300,13 @@ module _ (n : ℕ) (frame : Frame) (info : List ℕ) (clock : ℕ) (m : Mem) (la
   chosen-turns : onQuiet n frame info ≡ nothing → (r : Chooses) → Told s last (r .turn) → Turns n frame info clock m last (onChooses m r)
   unfolding onChooses
   chosen-turns q r k =
-      plain-turns n frame info clock m last bound _ (kept _ refl refl refl (k .0)) (k .1) (ap (λ (u : Uplink). numberIn u (files (m .table))) (k .2) ∙ was) q
+      plain-turns n frame info clock m last bound _ (kept _ refl refl refl (k .0)) (k .1)
+      (ap (λ (u : Uplink). numberIn u (files (m .table))) (k .2) ∙ was) q
 
   told-turns : onQuiet n frame info ≡ nothing → (t : Turn) → Told s last t → Turns n frame info clock m last (turned t m)
   told-turns q t k =
-      plain-turns n frame info clock m last bound _ (kept _ refl refl refl (k .0)) (k .1) (ap (λ (u : Uplink). numberIn u (files (m .table))) (k .2) ∙ was) q
+      plain-turns n frame info clock m last bound _ (kept _ refl refl refl (k .0)) (k .1)
+      (ap (λ (u : Uplink). numberIn u (files (m .table))) (k .2) ∙ was) q
 
   pub close-turns : Done act.Close
   unfolding carryOut onChooses download.closeTurn onReply

@@ -6,7 +6,7 @@ use Prim.Native.Nat.{ℕ, _+_, _-_, _*_, _≤_, _<_}
 use native.Mathlib.Omega.{arith}
 use lib.Dec.{eqb, ltb}
 use lib.ListN.{length, take, drop}
-use borrow.Author.Tests.{le-ltb, ne-eqb, ltb-false, eqb-false}
+use borrow.Author.Tests.{not-true, le-ltb, ne-eqb, ltb-false, eqb-false}
 use Rattle.packet.specs.declared.frame.Frame.{Frame}
 use Rattle.packet.specs.Numbers.{number, four}
 use Rattle.packet.specs.Packet.{packetOf}
@@ -74,27 +74,28 @@ answered-event r taken out h n frame info clock k = rw (le-ltb (length out) 258 
 
 -- ---- a call that goes through is that of its own session
 
-linked-as : (k : Bool) → inState true k ≡ true → k ≡ true
+linked-as : (w k : Bool) → inState w k ≡ true → k ≡ w
 unfolding inState
-linked-as k e = e
+linked-as true k e = e
+linked-as false k e = not-true k e
 
-pub by-check : (sv : Server) (l : Lent) → Good sv l → (session out : ℕ) (P : Check → Type 0) → ((r : ℕ) → P (Refuse r))
-    → (session - 1 < sv .sessions → linkOf sv (session - 1) .linked ≡ true → 258 ≤ out → P (Go (session - 1)))
-    → P (checkOf sv l session true out)
+pub by-check : (sv : Server) (l : Lent) → Good sv l → (session : ℕ) (wanted : Bool) (out : ℕ) (P : Check → Type 0) → ((r : ℕ) → P (Refuse r))
+    → (session - 1 < sv .sessions → linkOf sv (session - 1) .linked ≡ wanted → 258 ≤ out → P (Go (session - 1)))
+    → P (checkOf sv l session wanted out)
 unfolding sessionCheck
-by-check sv l g session out P a b =
-    rw (good-check sv l g session true out)
-    (go (eqb session 0) refl (ltb (sv .sessions) session) refl (inState true (linkOf sv (session - 1) .linked)) refl (ltb out 258) refl)
+by-check sv l g session wanted out P a b =
+    rw (good-check sv l g session wanted out)
+    (go (eqb session 0) refl (ltb (sv .sessions) session) refl (inState wanted (linkOf sv (session - 1) .linked)) refl (ltb out 258) refl)
   where
     go : (t : Bool) → eqb session 0 ≡ t → (u : Bool) → ltb (sv .sessions) session ≡ u
-        → (v : Bool) → inState true (linkOf sv (session - 1) .linked) ≡ v → (w : Bool) → ltb out 258 ≡ w
+        → (v : Bool) → inState wanted (linkOf sv (session - 1) .linked) ≡ v → (w : Bool) → ltb out 258 ≡ w
         → P (cond t (Refuse 34) (cond u (Refuse 34) (cond v (cond w (Refuse 32) (Go (session - 1))) (Refuse 34))))
     go true d u e v f w h = a 34
     go false d true e v f w h = a 34
     go false d false e false f w h = a 34
     go false d false e true f true h = a 32
     go false d false e true f false h =
-        b (omega (arith, ltb-false (sv .sessions) session e, eqb-false session 0 d)) (linked-as (linkOf sv (session - 1) .linked) f)
+        b (omega (arith, ltb-false (sv .sessions) session e, eqb-false session 0 d)) (linked-as wanted (linkOf sv (session - 1) .linked) f)
         (ltb-false out 258 h)
 
 -- ---- the effect of a call
@@ -153,7 +154,7 @@ module _ (sv : Server) (l : Lent) (g : Good sv l) (bound : sv .last .number ≤ 
       (m .selected) (f .frame) (fit .small) (facts .sessions .each i inside linked .receiving)
 
   -- bytes of an open session's link
-  step-after : (i clock : ℕ) (input out : List ℕ) → i < sv .sessions → linkOf sv i .linked ≡ true → 258 ≤ length out
+  pub step-after : (i clock : ℕ) (input out : List ℕ) → i < sv .sessions → linkOf sv i .linked ≡ true → 258 ≤ length out
       → After (receiveEvent sv l i clock input (stepOf sv i clock input l out)) sv l
       (stepOf sv i clock input l out .done .server) (stepOf sv i clock input l out .lent)
   unfolding stepOf heardBy answeredBy actOf putBack
@@ -166,7 +167,7 @@ module _ (sv : Server) (l : Lent) (g : Good sv l) (bound : sv .last .number ≤ 
       (receiveOf sv l out session clock input .lent)
   unfolding receiveOf onCheck onAnswer
   receive-after session clock input out =
-      by-check sv l g session (length out)
+      by-check sv l g session true (length out)
       (λ (c : Check). After (receiveEvent sv l (session - 1) clock input (onCheck c sv l out clock input)) sv l
       (onCheck c sv l out clock input .done .server) (onCheck c sv l out clock input .lent))
       (λ r. left-all) (λ inside linked h. step-after (session - 1) clock input out inside linked h)

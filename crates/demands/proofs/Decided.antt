@@ -35,7 +35,8 @@ use Rattle.carry.specs.Carry.{carryOut}
 use Rattle.server.specs.Turns.{sizeIn}
 use Rattle.history.proofs.Interface.{Stored}
 use Rattle.demands.specs.Events.{nothing, numberIn, onQuiet}
-use Rattle.demands.proofs.Acts.{Quiet, Turns, close-turns, quiet-turns, stop-turns, resume-turns, begin-turns, finish-turns, overrun-turns, store-turns}
+use Rattle.demands.proofs.Acts.{Quiet, Turns, close-turns, quiet-turns, stop-turns}
+use Rattle.demands.proofs.Acts.{resume-turns, begin-turns, finish-turns, overrun-turns, store-turns}
 
 -- ---- the downlink's acts leave the store
 
@@ -115,7 +116,8 @@ module _ (s : Session) (links : List Session) (m : Mem) (last : Last) (bound : l
   closes n w frame = close-turns n frame info clock m last bound s most (sizeIn frame) w
 
   -- DATA
-  data-does : (size : ℕ) → size ≤ 256 → (u : Uplink) → Was (numberIn u stored) → Receives u → Does (numberIn u stored) (Whole 0 size) (onData u size stored)
+  data-does : (size : ℕ) → size ≤ 256 → (u : Uplink) → Was (numberIn u stored) → Receives u
+      → Does (numberIn u stored) (Whole 0 size) (onData u size stored)
   unfolding onData sizeIn onQuiet
   data-does size k up.Idle w r = closes 0 w (Whole 0 size)
   data-does size k (up.Receiving place offset received) w r = go (ltb (fileAt stored place .size) (fileAt stored place .received + size)) refl

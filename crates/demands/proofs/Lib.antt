@@ -13,5 +13,6 @@ pub mod Theorems
 pub mod Bytes
 pub mod Fields
 pub mod Offering
+pub mod Naming
 pub mod Whole
 pub mod Example

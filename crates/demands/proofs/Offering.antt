@@ -1,10 +1,10 @@
 -- "a continuation offers that length": UL_GO_RESP for a named file has its number, and the length of what was accepted under it.
-use mathlib.Core.Path.{_≡_, refl, sym, ap, _∙_, subst}
+use mathlib.Core.Path.{_≡_, sym, ap, _∙_}
 use mathlib.Core.Bool.{true}
-use mathlib.Core.List.{List, [], _∷_, _++_}
-use Prim.Native.Nat.{ℕ, _+_, _-_, _*_, _≤_, _<_}
+use mathlib.Core.List.{List}
+use Prim.Native.Nat.{ℕ, _+_, _-_, _≤_, _<_}
 use native.Mathlib.Omega.{arith}
-use lib.ListN.{length, take}
+use lib.ListN.{length}
 use lib.Seq.{length-take-le}
 use borrow.Author.Tests.{le-ltb}
 use Rattle.packet.specs.Numbers.{number, four}
@@ -24,7 +24,7 @@ use Rattle.server.specs.declared.check.Check.{Check}
 use Rattle.server.specs.State.{Lent, Outcome, linkOf, mapPart, ownerPart, tablePart}
 use Rattle.server.specs.Turns.{actOf, putBack}
 use Rattle.server.specs.Calls.{answeredBy, heardBy, stepOf, onCheck, receiveOf}
-use Rattle.history.specs.Calls.{Call, login, receive, request, lose, Start, legal, History, after}
+use Rattle.history.specs.Calls.{Call, login, receive, request, lose, Start, legal, History}
 use Rattle.history.specs.Change.{Files}
 use Rattle.history.specs.Good.{Good}
 use Rattle.history.specs.Stored.{filesOf}
@@ -33,7 +33,7 @@ use Rattle.history.proofs.Histories.{good-after}
 use Rattle.demands.specs.Events.{heardOf, sentBy, typeOf}
 use Rattle.demands.specs.Accepted.{accepted}
 use Rattle.demands.specs.Demand3.{serverAt, lentAt, filesAt, Live, infoAt, Offers}
-use Rattle.demands.proofs.Acts.{Offered, Offer}
+use Rattle.demands.proofs.Acts.{Offer}
 use Rattle.demands.proofs.Orderly.{good-orderly}
 use Rattle.demands.proofs.Calls.{by-check, turnAt, step-turns}
 use Rattle.demands.proofs.Story.{story}
@@ -103,7 +103,7 @@ module _ (sv : Server) (l : Lent) (g : Good sv l) (bound : sv .last .number ≤ 
   receive-offer : (session clock : ℕ) (input out : List ℕ) → InOutcome (session - 1) input (receiveOf sv l out session clock input)
   unfolding receiveOf onCheck sentBy
   receive-offer session clock input out =
-      by-check sv l g session (length out) (λ (c : Check). InOutcome (session - 1) input (onCheck c sv l out clock input))
+      by-check sv l g session true (length out) (λ (c : Check). InOutcome (session - 1) input (onCheck c sv l out clock input))
       (λ r. other-type 0 (λ e. omega arith)) (λ inside linked h. step-offer (session - 1) clock input out inside linked h)
 
   -- a live file's bytes are as many as received, and their number has 32 bits

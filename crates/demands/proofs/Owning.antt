@@ -15,10 +15,10 @@ use Rattle.server.specs.declared.Server.{Server}
 use Rattle.server.specs.State.{Lent}
 use Rattle.history.specs.Calls.{Call, login, receive, request, lose, callOf}
 use Rattle.history.specs.Change.{Files}
-use Rattle.demands.specs.Events.{Event, nothing, given, added, finished, dropped, uploading}
+use Rattle.demands.specs.Events.{sessionOf, Event, nothing, given, added, finished, dropped, uploading}
 use Rattle.demands.specs.Events.{heardOf, typeOf, onQuiet, onGo, onSent, onAnswer, eventOf}
 use Rattle.demands.specs.Effect.{Effect}
-use Rattle.demands.specs.Demand3.{Live, sessionOf}
+use Rattle.demands.specs.Demand3.{Live}
 
 -- the number of an event that is not of a new file
 abbrev pub OwnEvent : ℕ → Event → Type 0
@@ -50,7 +50,7 @@ sent-own u info clock packet =
     pick u (eqb (typeOf packet) 4) (onGo (wordAt packet 2) info) _ (go-own u (wordAt packet 2) info)
     (pick u (eqb (typeOf packet) 6) (finished u clock) _ refl (pick u (eqb (typeOf packet) 7) (dropped u) nothing refl tt))
 
-answer-own : (a : Answer) (out : List ℕ) (u : ℕ) (frame : Frame) (info : List ℕ) (clock : ℕ) → OwnEvent u (onAnswer a out u frame info clock)
+pub answer-own : (a : Answer) (out : List ℕ) (u : ℕ) (frame : Frame) (info : List ℕ) (clock : ℕ) → OwnEvent u (onAnswer a out u frame info clock)
 unfolding onAnswer
 answer-own (answer.Quiet taken) out u frame info clock = quiet-own u frame info
 answer-own (answer.Sent taken size) out u frame info clock = sent-own u info clock (take size out)

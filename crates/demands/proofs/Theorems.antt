@@ -22,10 +22,10 @@ use Rattle.history.specs.Good.{Good}
 use Rattle.history.specs.Stored.{filesOf}
 use Rattle.history.proofs.GoodFacts.{Facts, good-facts}
 use Rattle.history.proofs.Histories.{good-after, sizes-after}
-use Rattle.demands.specs.Events.{uploading}
+use Rattle.demands.specs.Events.{sessionOf, uploading}
 use Rattle.demands.specs.Accepted.{eventAt, reserved, total, numbersGiven, fromOne}
 use Rattle.demands.specs.Demand3.{serverAt, lentAt, filesAt, Live, Free, Owned, EachBlock}
-use Rattle.demands.specs.Demand3.{BlocksHeld, NumbersOnce, Contents, sessionOf, OwnFile, Told, TimesRise}
+use Rattle.demands.specs.Demand3.{BlocksHeld, NumbersOnce, Contents, OwnFile, Told, TimesRise}
 use Rattle.demands.proofs.Orderly.{good-orderly}
 use Rattle.demands.proofs.Lists.{from-one-length, from-one-rising, sum-same}
 use Rattle.demands.proofs.Owning.{event-own, others-stay}

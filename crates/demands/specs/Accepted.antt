@@ -4,9 +4,13 @@ use mathlib.Core.Bool.{cond}
 use mathlib.Core.List.{List, [], _∷_, _++_, map}
 use Prim.Native.Nat.{ℕ, zero, suc, _+_}
 use lib.Dec.{eqb}
+use lib.ListN.{take}
 use Rattle.table.specs.Given.{blocksFor}
-use Rattle.history.specs.Calls.{Call, Start, History, start, _▸_, after}
-use Rattle.demands.specs.Events.{Event, nothing, given, added, finished, dropped, eventOf}
+use Rattle.session.specs.declared.reply.Answer.{Answer}
+use Rattle.session.specs.declared.reply.Answer.the-variants as answer
+use Rattle.decide.specs.Words.{wordAt}
+use Rattle.history.specs.Calls.{Call, login, receive, request, lose, callOf, Start, History, start, _▸_, after}
+use Rattle.demands.specs.Events.{Event, nothing, given, added, finished, dropped, eventOf, typeOf, sessionOf}
 use Rattle.demands.specs.Effect.{timeAt}
 
 -- the event of a call that follows a history
@@ -26,6 +30,39 @@ addedBy (dropped k) n = []
 unfoldable pub accepted : Start → History → ℕ → List ℕ
 accepted s start n = []
 accepted s (h ▸ c) n = accepted s h n ++ addedBy (eventAt s h c) n
+
+-- ---- the file that a link uploads
+
+-- UL_GO_RESP (4) gives its number; after UL_ACK_RESP (6), UL_NAK_RESP (7) and a closed link there is none, 0; else it is the one before
+unfoldable pub namedBy : Answer → List ℕ → ℕ → ℕ
+namedBy (answer.Quiet taken) out was = was
+namedBy (answer.Sent taken size) out was =
+    cond (eqb (typeOf (take size out)) 4) (wordAt (take size out) 2)
+    (cond (eqb (typeOf (take size out)) 6) 0 (cond (eqb (typeOf (take size out)) 7) 0 was))
+namedBy (answer.Closed taken) out was = 0
+namedBy (answer.Refused r) out was = was
+
+-- a link made, or lost, uploads nothing
+unfoldable pub noneBy : Answer → ℕ → ℕ
+noneBy (answer.Quiet taken) was = 0
+noneBy (answer.Sent taken size) was = 0
+noneBy (answer.Closed taken) was = 0
+noneBy (answer.Refused r) was = was
+
+-- by the call, its answer and its output
+abbrev pub uploadBy : Call → Answer → List ℕ → ℕ → ℕ
+uploadBy (login session clock out) a packet was = noneBy a was
+uploadBy (receive session clock input out) a packet was = namedBy a packet was
+uploadBy (request session out) a packet was = was
+uploadBy (lose session) a packet was = noneBy a was
+
+-- the number of the file that session i, counted from 0, is uploading, 0 for none
+unfoldable pub uploadOf : Start → History → ℕ → ℕ
+uploadOf s start i = 0
+uploadOf s (h ▸ c) i =
+    cond (eqb (sessionOf c) i)
+    (uploadBy c (callOf (after s h .server) (after s h .lent) c .done .answer) (callOf (after s h .server) (after s h .lent) c .out) (uploadOf s h i))
+    (uploadOf s h i)
 
 -- ---- "their reserved blocks by history"
 

@@ -2,6 +2,7 @@
 -- at any byte and clocks running backwards included". `s` is what the server was made with, `h` the calls in order. That they hold for every
 -- legal start and every history is proved in proofs/Theorems.antt. Assumes nothing.
 use mathlib.Core.Path.{_≡_}
+use mathlib.Core.Bool.{true}
 use mathlib.Core.Logic.{_⊎_}
 use mathlib.Core.List.{List, [], _∷_}
 use Prim.Native.Nat.{ℕ, _+_, _-_, _<_, _≤_}
@@ -14,13 +15,14 @@ use Rattle.blocks.specs.Owners.{heldCount, blocks}
 use Rattle.files.specs.View.{View}
 use Rattle.decide.specs.Words.{wordAt}
 use Rattle.server.specs.declared.Server.{Server}
-use Rattle.server.specs.State.{Lent, mapPart, ownerPart}
+use Rattle.server.specs.State.{Lent, linkOf, mapPart, ownerPart}
 use Rattle.history.specs.Change.{Files}
 use Rattle.history.specs.Calls.{Call, login, receive, request, lose, callOf, Start, History, start, _▸_, after}
 use Rattle.history.specs.Stored.{filesOf}
-use Rattle.demands.specs.Events.{uploading, heardOf, sentBy, typeOf}
+use Rattle.demands.specs.Events.{uploading, heardOf, sentBy, typeOf, sessionOf}
 use Rattle.demands.specs.Effect.{Effect}
-use Rattle.demands.specs.Accepted.{eventAt, accepted, reserved, total, numbersGiven, fromOne, Completion, completion, completions, times}
+use Rattle.demands.specs.Accepted.{eventAt, uploadOf, accepted, reserved, total}
+use Rattle.demands.specs.Accepted.{numbersGiven, fromOne, Completion, completion, completions, times}
 
 -- the server, what is lent, and the files after a history
 abbrev pub serverAt : Start → History → Server
@@ -95,6 +97,11 @@ pub record Holds (v : View) (bytes : List ℕ) : Type 0 where
 abbrev pub Contents : Start → History → Type 0
 Contents s h = (place : ℕ) → Live (filesAt s h place) → Holds (filesAt s h place) (accepted s h (filesAt s h place .file .number))
 
+-- "under its number": the number under which a link's DATA is accepted is the one that its last UL_GO_RESP gave
+abbrev pub UnderNumber : Start → History → Type 0
+UnderNumber s h =
+    (i : ℕ) → linkOf (serverAt s h) i .linked ≡ true → uploading (serverAt s h) (lentAt s h) i ≡ uploadOf s h i
+
 -- byte k is none of an item's data
 abbrev pub Outside : ℕ → Place → Type 0
 Outside k p = (k < p .at) ⊎ (p .at + p .size ≤ k)
@@ -141,13 +148,6 @@ Offers s h (lose session) = Unit {0}
 
 -- ---- "a call changes no file but its own"
 
--- the session of a call, counted from 0
-abbrev pub sessionOf : Call → ℕ
-sessionOf (login session clock out) = session - 1
-sessionOf (receive session clock input out) = session - 1
-sessionOf (request session out) = session - 1
-sessionOf (lose session) = session - 1
-
 -- every file but the one that the call's session is uploading is as it was, its record and its bytes
 abbrev pub OwnFile : Start → History → Call → Type 0
 OwnFile s h c =
@@ -190,6 +190,7 @@ pub record Demand3 (s : Start) (h : History) : Type 0 where
   pub held : BlocksHeld s h
   pub numbers : NumbersOnce s h
   pub contents : Contents s h
+  pub under : UnderNumber s h
   pub fields : FourFields s h
   pub offers : (c : Call) → Offers s h c
   pub own : (c : Call) → OwnFile s h c

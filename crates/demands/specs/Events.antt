@@ -34,6 +34,13 @@ pub data Event : Type 0 where
   finished : ℕ → ℕ → Event
   dropped : ℕ → Event
 
+-- the session of a call, counted from 0
+abbrev pub sessionOf : Call → ℕ
+sessionOf (login session clock out) = session - 1
+sessionOf (receive session clock input out) = session - 1
+sessionOf (request session out) = session - 1
+sessionOf (lose session) = session - 1
+
 -- ---- what was heard
 
 -- the number of the file that an uplink is receiving, 0 where it receives none
