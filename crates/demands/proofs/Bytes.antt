@@ -28,8 +28,8 @@ use Rattle.server.specs.Calls.{answeredBy, heardBy, stepOf, onCheck, receiveOf 
 use Rattle.history.specs.Calls as calls
 use Rattle.history.specs.Calls.{login, receive, request, lose, callOf, Start, legal, made, History, start, _▸_, after}
 use Rattle.demands.specs.Events as events
-use Rattle.demands.specs.Events.{nothing, given, added, finished, dropped, heardOf, typeOf, onQuiet, onGo, onSent, onAnswer, eventOf}
-use Rattle.demands.specs.Accepted.{eventAt, addedBy, accepted}
+use Rattle.demands.specs.Events.{nothing, given, added, finished, dropped, heardOf, typeOf, onQuiet, onGo, onSent, onAnswer, eventBy, sessionOf}
+use Rattle.demands.specs.Accepted.{eventAt, uploadOf, addedBy, accepted}
 use Rattle.demands.specs.Demand3.{AreBytes, BringsBytes, OfBytes, lentAt}
 
 -- ---- lists of bytes
@@ -189,16 +189,15 @@ module _ (sv : Server) (l : Lent) (v : Bytes (l .held)) where
   call-held (request session out) b = v
   call-held (lose session) b = lose-held (checkOf sv l session true 258)
 
-  event-bytes : (c : calls.Call) → BringsBytes c → (n : ℕ) → Bytes (addedBy (eventOf sv l c) n)
+  event-bytes : (u : ℕ) (c : calls.Call) → BringsBytes c → (n : ℕ) → Bytes (addedBy (eventBy u sv l c) n)
   unfolding addedBy
-  event-bytes (login session clock out) b n = tt
-  event-bytes (receive session clock input out) b n =
+  event-bytes u (login session clock out) b n = tt
+  event-bytes u (receive session clock input out) b n =
       let o = callOf sv l (receive session clock input out) in
-      answered-bytes (o .done .answer) (o .out) (events.uploading sv l (session - 1)) (heardOf sv l (session - 1) input .frame)
-      (heardOf sv l (session - 1) input .info) clock n (info-bytes (l .held) v (session - 1) (linkOf sv (session - 1) .held) input
-      (are-bytes input b))
-  event-bytes (request session out) b n = tt
-  event-bytes (lose session) b n = tt
+      answered-bytes (o .done .answer) (o .out) u (heardOf sv l (session - 1) input .frame) (heardOf sv l (session - 1) input .info) clock n
+      (info-bytes (l .held) v (session - 1) (linkOf sv (session - 1) .held) input (are-bytes input b))
+  event-bytes u (request session out) b n = tt
+  event-bytes u (lose session) b n = tt
 
 -- ---- histories
 
@@ -219,4 +218,4 @@ module _ (s : Start) (ok : legal s ≡ true) where
   accepted-bytes start b n = tt
   accepted-bytes (h ▸ c) b n =
       bytes-join (accepted s h n) (addedBy (eventAt s h c) n) (accepted-bytes h (b .0) n)
-      (event-bytes (after s h .server) (after s h .lent) (held-after h (b .0)) c (b .1) n)
+      (event-bytes (after s h .server) (after s h .lent) (held-after h (b .0)) (uploadOf s h (sessionOf c)) c (b .1) n)

@@ -36,7 +36,7 @@ use Rattle.history.specs.Stored.{filesOf}
 use Rattle.history.proofs.GoodFacts.{Facts, good-facts, good-check}
 use Rattle.history.proofs.Parts.{front-back}
 use Rattle.history.proofs.Leaves.{memOf, backIn, stored-parts}
-use Rattle.demands.specs.Events.{Event, nothing, uploading, heardOf, onGo, onSent, onAnswer, receiveEvent, eventOf}
+use Rattle.demands.specs.Events.{Event, nothing, uploading, heardOf, onGo, onSent, onAnswer, receiveEvent, eventBy, sessionOf}
 use Rattle.demands.specs.Effect.{Effect}
 use Rattle.demands.proofs.Acts.{onReply, Small, Turns}
 use Rattle.demands.proofs.Heard.{heard-fits}
@@ -100,6 +100,10 @@ by-check sv l g session wanted out P a b =
 
 -- ---- the effect of a call
 
+-- the event, with the number of the file that the server has the session upload
+abbrev pub eventOf : Server → Lent → Call → Event
+eventOf sv l c = eventBy (uploading sv l (sessionOf c)) sv l c
+
 -- the effect of an outcome, and that the last number given still has 32 bits
 pub record After (e : Event) (sv : Server) (l : Lent) (sv′ : Server) (l′ : Lent) : Type 0 where
   pub effect : Effect e (sv .last) (filesOf sv l) (sv′ .last) (filesOf sv′ l′)
@@ -155,7 +159,7 @@ module _ (sv : Server) (l : Lent) (g : Good sv l) (bound : sv .last .number ≤ 
 
   -- bytes of an open session's link
   pub step-after : (i clock : ℕ) (input out : List ℕ) → i < sv .sessions → linkOf sv i .linked ≡ true → 258 ≤ length out
-      → After (receiveEvent sv l i clock input (stepOf sv i clock input l out)) sv l
+      → After (receiveEvent (uploading sv l i) sv l i clock input (stepOf sv i clock input l out)) sv l
       (stepOf sv i clock input l out .done .server) (stepOf sv i clock input l out .lent)
   unfolding stepOf heardBy answeredBy actOf putBack
   step-after i clock input out inside linked h =
@@ -168,7 +172,7 @@ module _ (sv : Server) (l : Lent) (g : Good sv l) (bound : sv .last .number ≤ 
   unfolding receiveOf onCheck onAnswer
   receive-after session clock input out =
       by-check sv l g session true (length out)
-      (λ (c : Check). After (receiveEvent sv l (session - 1) clock input (onCheck c sv l out clock input)) sv l
+      (λ (c : Check). After (receiveEvent (uploading sv l (session - 1)) sv l (session - 1) clock input (onCheck c sv l out clock input)) sv l
       (onCheck c sv l out clock input .done .server) (onCheck c sv l out clock input .lent))
       (λ r. left-all) (λ inside linked h. step-after (session - 1) clock input out inside linked h)
 

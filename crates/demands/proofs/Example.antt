@@ -111,7 +111,7 @@ pub record TooEarly : Type 0 where
 
 pub passes : LostOnce × TooEarly
 unfolding
-    small beforeUpload lostOnce tooEarly smallest ones trailingZeros links-sound.downlinkSound demands-events.sentBy packet-frame.judged packet-frame.byte packet-frame.withoutPacket
+    small beforeUpload lostOnce tooEarly smallest ones trailingZeros links-sound.downlinkSound demands-events.sentBy demands-accepted.namedBy demands-accepted.noneBy demands-accepted.uploadOf packet-frame.judged packet-frame.byte packet-frame.withoutPacket
     packet-frame.answerBy packet-frame.answerOf packet-frame.receiveOf packet-machine.called packet-machine.call packet-numbers.number
     packet-packet.packetOf session-expected.expectedUp session-expected.expected session-reply.tell session-reply.answered table-table.files
     table-table.putTable table-table.firstFrom table-fit.fileFits table-fit.recordFits table-fit.recordsFitFrom table-fit.shares

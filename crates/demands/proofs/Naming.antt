@@ -30,6 +30,7 @@ use Rattle.server.specs.declared.Server.{Server}
 use Rattle.server.specs.declared.check.Check.{Check}
 use Rattle.server.specs.declared.check.Check.the-variants.{Go}
 use Rattle.server.specs.State.{Lent, Outcome, linkOf, tablePart}
+use Rattle.server.specs.Making.{newServer, makeOf}
 use Rattle.server.specs.Sending.{Due, dataOf, sendingOf, dueOf}
 use Rattle.server.specs.Turns.{actOf, putBack}
 use Rattle.server.specs.Calls.{answeredBy, heardBy, stepOf, onCheck, receiveOf, onLogin, loginOf, onLose, loseOf, dueAs, onRequest, requestOf}
@@ -40,14 +41,13 @@ use Rattle.history.proofs.GoodFacts.{Facts, good-facts}
 use Rattle.history.proofs.Histories.{good-after}
 use Rattle.history.proofs.Kept.{good-kept}
 use Rattle.history.proofs.Parts.{front-back}
-use Rattle.demands.specs.Events.{uploading, numberIn, heardOf, sessionOf, receiveEvent}
-use Rattle.demands.specs.Accepted.{namedBy, noneBy, uploadBy, uploadOf}
+use Rattle.demands.specs.Events.{uploading, numberIn, heardOf, sessionOf, receiveEvent, onAnswer}
+use Rattle.demands.specs.Accepted.{eventAt, namedBy, noneBy, uploadBy, uploadOf}
 use Rattle.demands.specs.Demand3.{serverAt, lentAt, Live, UnderNumber}
 use Rattle.demands.proofs.Acts.{Names}
 use Rattle.demands.proofs.Orderly.{good-orderly}
-use Rattle.demands.proofs.Calls.{by-check, turnAt, step-turns, step-after, call-after}
+use Rattle.demands.proofs.Calls.{by-check, turnAt, step-turns, step-after, eventOf, call-after}
 use Rattle.demands.proofs.Owning.{answer-own, others-stay}
-use Rattle.demands.proofs.Story.{story, made-server}
 
 -- ---- in the packet
 
@@ -256,7 +256,7 @@ module _ (sv : Server) (l : Lent) (g : Good sv l) (bound : sv .last .number ≤ 
       let x : Uploads (linkOf sv i) place = record { linked = linked-here; offset = offset; received = received; receiving = e } in
       ap (λ (v : View). v .file .number)
       (others-stay (filesOf sv l) (filesOf (o .done .server) (o .lent)) (sv .last) (o .done .server .last) (uploading sv l k)
-      (receiveEvent sv l k clock input o) (step-after sv l g bound k clock input out inside linked h .effect)
+      (receiveEvent (uploading sv l k) sv l k clock input o) (step-after sv l g bound k clock input out inside linked h .effect)
       (answer-own (o .done .answer) (o .out) (uploading sv l k) (heardOf sv l k input .frame) (heardOf sv l k input .info) clock) place live
       (two-files i k place n x linked live))
   step-keeps k clock input out inside linked h i n linked-here up.Ignoring e = refl
@@ -295,7 +295,19 @@ all-closed zero i = refl
 all-closed (suc n) zero = refl
 all-closed (suc n) (suc i) = all-closed n i
 
+pub made-server : (s : Start) → legal s ≡ true → made s .server ≡ newServer (s .blocks) (s .files) (s .sessions) (s .most)
+unfolding made makeOf
+made-server s e = rw e
+
 module _ (s : Start) (ok : legal s ≡ true) where
+  -- the last number given has 32 bits
+  pub bound-after : (h : History) → serverAt s h .last .number ≤ mostGiven
+  unfolding after
+  bound-after start =
+      let n : made s .server .last .number ≡ 0 = ap (λ (sv : Server). sv .last .number) (made-server s ok) in
+      omega arith
+  bound-after (h ▸ c) = call-after (serverAt s h) (lentAt s h) (good-after s ok h) (bound-after h) c .bound
+
   named-start : UnderNumber s start
   unfolding after
   named-start i e =
@@ -312,7 +324,7 @@ module _ (s : Start) (ok : legal s ≡ true) where
       let sv = serverAt s h in
       let l = lentAt s h in
       let g = good-after s ok h in
-      let b = story s ok h .bound in
+      let b = bound-after h in
       by-eq (sessionOf c) i
       (λ z. rw (eq-eqb (sessionOf c) i z)
       (subst (λ (j : ℕ). linkOf (callOf sv l c .done .server) j .linked ≡ true
@@ -326,3 +338,19 @@ module _ (s : Start) (ok : legal s ≡ true) where
   pub under-number : (h : History) → UnderNumber s h
   under-number start = named-start
   under-number (h ▸ c) = named-step h (under-number h) c
+
+  -- so the event by the packets is the event with the number that the server's state has
+  pub event-same : (h : History) (c : Call) → eventAt s h c ≡ eventOf (serverAt s h) (lentAt s h) c
+  unfolding receiveOf onCheck onAnswer
+  event-same h (login session clock out) = refl
+  event-same h (receive session clock input out) =
+      let sv = serverAt s h in
+      let l = lentAt s h in
+      by-check sv l (good-after s ok h) session true (length out)
+      (λ (c : Check). receiveEvent (uploadOf s h (session - 1)) sv l (session - 1) clock input (onCheck c sv l out clock input)
+      ≡ receiveEvent (uploading sv l (session - 1)) sv l (session - 1) clock input (onCheck c sv l out clock input))
+      (λ r. refl)
+      (λ inside linked k. ap (λ (n : ℕ). receiveEvent n sv l (session - 1) clock input (stepOf sv (session - 1) clock input l out))
+      (sym (under-number h (session - 1) linked)))
+  event-same h (request session out) = refl
+  event-same h (lose session) = refl

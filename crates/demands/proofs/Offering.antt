@@ -37,6 +37,7 @@ use Rattle.demands.proofs.Acts.{Offer}
 use Rattle.demands.proofs.Orderly.{good-orderly}
 use Rattle.demands.proofs.Calls.{by-check, turnAt, step-turns}
 use Rattle.demands.proofs.Story.{story}
+use Rattle.demands.proofs.Naming.{bound-after}
 
 -- ---- in the packet
 
@@ -131,10 +132,10 @@ module _ (s : Start) (ok : legal s ≡ true) where
       let g = good-after s ok h in
       let q = w .place in
       let live : Live (filesAt s h q) = λ y. z (sym (w .is) ∙ y) in
-      let n : filesAt s h q .file .number < 4294967296 = omega (arith, good-orderly sv l g .known q, story s ok h .bound) in (
+      let n : filesAt s h q .file .number < 4294967296 = omega (arith, good-orderly sv l g .known q, bound-after s ok h) in (
         w .gives ∙ number-four (filesAt s h q .file .number) n ∙ w .is,
-        w .offset ∙ number-four (filesAt s h q .file .received) (received-small sv l g (story s ok h .bound) q live)
-            ∙ sym (received-length sv l g (story s ok h .bound) q live) ∙ ap length (story s ok h .contents q live .partial (w .partial))
+        w .offset ∙ number-four (filesAt s h q .file .received) (received-small sv l g (bound-after s ok h) q live)
+            ∙ sym (received-length sv l g (bound-after s ok h) q live) ∙ ap length (story s ok h .contents q live .partial (w .partial))
             ∙ ap (λ (k : ℕ). length (accepted s h k)) (w .is),
       )
 
@@ -143,6 +144,6 @@ module _ (s : Start) (ok : legal s ≡ true) where
   offers h (login session clock out) = tt
   offers h (receive session clock input out) = λ t z.
       offered h (wordAt (infoAt s h session input) 0) _ z
-      (receive-offer (serverAt s h) (lentAt s h) (good-after s ok h) (story s ok h .bound) session clock input out t z)
+      (receive-offer (serverAt s h) (lentAt s h) (good-after s ok h) (bound-after s ok h) session clock input out t z)
   offers h (request session out) = tt
   offers h (lose session) = tt

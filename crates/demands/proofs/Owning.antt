@@ -15,8 +15,8 @@ use Rattle.server.specs.declared.Server.{Server}
 use Rattle.server.specs.State.{Lent}
 use Rattle.history.specs.Calls.{Call, login, receive, request, lose, callOf}
 use Rattle.history.specs.Change.{Files}
-use Rattle.demands.specs.Events.{sessionOf, Event, nothing, given, added, finished, dropped, uploading}
-use Rattle.demands.specs.Events.{heardOf, typeOf, onQuiet, onGo, onSent, onAnswer, eventOf}
+use Rattle.demands.specs.Events.{Event, nothing, given, added, finished, dropped}
+use Rattle.demands.specs.Events.{heardOf, typeOf, onQuiet, onGo, onSent, onAnswer, eventBy}
 use Rattle.demands.specs.Effect.{Effect}
 use Rattle.demands.specs.Demand3.{Live}
 
@@ -57,13 +57,13 @@ answer-own (answer.Sent taken size) out u frame info clock = sent-own u info clo
 answer-own (answer.Closed taken) out u frame info clock = tt
 answer-own (answer.Refused r) out u frame info clock = tt
 
-pub event-own : (sv : Server) (l : Lent) (c : Call) → OwnEvent (uploading sv l (sessionOf c)) (eventOf sv l c)
-event-own sv l (login session clock out) = tt
-event-own sv l (receive session clock input out) =
-    answer-own (callOf sv l (receive session clock input out) .done .answer) (callOf sv l (receive session clock input out) .out)
-    (uploading sv l (session - 1)) (heardOf sv l (session - 1) input .frame) (heardOf sv l (session - 1) input .info) clock
-event-own sv l (request session out) = tt
-event-own sv l (lose session) = tt
+pub event-own : (u : ℕ) (sv : Server) (l : Lent) (c : Call) → OwnEvent u (eventBy u sv l c)
+event-own u sv l (login session clock out) = tt
+event-own u sv l (receive session clock input out) =
+    answer-own (callOf sv l (receive session clock input out) .done .answer) (callOf sv l (receive session clock input out) .out) u
+    (heardOf sv l (session - 1) input .frame) (heardOf sv l (session - 1) input .info) clock
+event-own u sv l (request session out) = tt
+event-own u sv l (lose session) = tt
 
 -- a live file with another number is as it was
 pub others-stay : (F F′ : Files) (last last′ : Last) (u : ℕ) (e : Event) → Effect e last F last′ F′ → OwnEvent u e

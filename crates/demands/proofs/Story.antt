@@ -1,27 +1,27 @@
 -- What a history says of the files holds of them after every history: by one step for each call.
-use mathlib.Core.Path.{_≡_, refl, sym, ap}
+use mathlib.Core.Path.{_≡_, refl, sym, ap, subst}
 use mathlib.Core.Bool.{true}
 use mathlib.Core.List.{[], _∷_}
 use Prim.Native.Nat.{ℕ, zero, suc, _≤_, _<_}
 use native.Mathlib.Omega.{arith}
-use Rattle.table.specs.Given.{mostGiven}
 use Rattle.server.specs.declared.Server.{Server}
-use Rattle.server.specs.Making.{newServer, makeOf}
 use Rattle.history.specs.Calls.{Call, Start, legal, made, History, start, _▸_, after}
 use Rattle.history.specs.Stored.{filesOf}
 use Rattle.history.proofs.Made.{made-good}
 use Rattle.history.proofs.Histories.{good-after}
+use Rattle.demands.specs.Events.{Event}
+use Rattle.demands.specs.Effect.{Effect}
 use Rattle.demands.specs.Accepted.{eventAt, accepted, reserved, total, numbersGiven, fromOne, Completion, completions, lastFrom}
 use Rattle.demands.specs.Demand3.{serverAt, lentAt, filesAt, Contents, Listed}
 use Rattle.demands.proofs.Orderly.{Orderly, good-orderly}
-use Rattle.demands.proofs.Calls.{After, call-after}
+use Rattle.demands.proofs.Calls.{call-after}
+use Rattle.demands.proofs.Naming.{made-server, bound-after, event-same}
 use Rattle.demands.proofs.Steps.{contents-step}
 use Rattle.demands.proofs.Lists.{sum-zero}
 use Rattle.demands.proofs.Numbers.{Timed, Own, Kept, fresh-step, numbers-step, times-step, own-step, kept-step}
 use Rattle.demands.proofs.Reserved.{weight, no-weight, Reserves, reserves-step}
 
 pub record Story (s : Start) (h : History) : Type 0 where
-  pub bound : serverAt s h .last .number ≤ mostGiven
   pub fresh : (n : ℕ) → serverAt s h .last .number < n → accepted s h n ≡ []
   pub contents : Contents s h
   pub numbers : numbersGiven s h ≡ fromOne (serverAt s h .last .number)
@@ -31,10 +31,6 @@ pub record Story (s : Start) (h : History) : Type 0 where
   pub reserves : Reserves (filesAt s h) (serverAt s h .last) (reserved s h)
 
 -- ---- the empty store
-
-pub made-server : (s : Start) → legal s ≡ true → made s .server ≡ newServer (s .blocks) (s .files) (s .sessions) (s .most)
-unfolding made makeOf
-made-server s e = rw e
 
 module _ (s : Start) (ok : legal s ≡ true) where
   -- no number is given, so there is no file
@@ -52,7 +48,6 @@ module _ (s : Start) (ok : legal s ≡ true) where
       let n : made s .server .last .number ≡ 0 = ap (λ (sv : Server). sv .last .number) (made-server s ok) in
       let t : made s .server .last .time ≡ 0 = ap (λ (sv : Server). sv .last .time) (made-server s ok) in
       record {
-        bound = omega arith;
         fresh = λ k h. refl;
         contents = λ q live. absurd (live (none-live q));
         numbers = rw n;
@@ -74,9 +69,12 @@ module _ (s : Start) (ok : legal s ≡ true) where
 -- ---- one call more
 
 module _ (s : Start) (ok : legal s ≡ true) where
-  pub step : (h : History) → Story s h → (c : Call) → After (eventAt s h c) (serverAt s h) (lentAt s h) (serverAt s (h ▸ c)) (lentAt s (h ▸ c))
+  pub step : (h : History) (c : Call)
+      → Effect (eventAt s h c) (serverAt s h .last) (filesAt s h) (serverAt s (h ▸ c) .last) (filesAt s (h ▸ c))
   unfolding after
-  step h y c = call-after (serverAt s h) (lentAt s h) (good-after s ok h) (y .bound) c
+  step h c =
+      subst (λ (e : Event). Effect e (serverAt s h .last) (filesAt s h) (serverAt s (h ▸ c) .last) (filesAt s (h ▸ c))) (sym (event-same s ok h c))
+      (call-after (serverAt s h) (lentAt s h) (good-after s ok h) (bound-after s ok h) c .effect)
 
   orderly : (h : History) → Orderly (filesAt s h) (serverAt s h .last)
   orderly h = good-orderly (serverAt s h) (lentAt s h) (good-after s ok h)
@@ -85,15 +83,13 @@ module _ (s : Start) (ok : legal s ≡ true) where
   unfolding accepted reserved numbersGiven completions
   story-step h y c =
       let e = eventAt s h c in
-      let a = step h y c in
-      let x = a .effect in
+      let x = step h c in
       let F = filesAt s h in
       let F′ = filesAt s (h ▸ c) in
       let l = serverAt s h .last in
       let l′ = serverAt s (h ▸ c) .last in
       let o = orderly h in
       record {
-        bound = a .bound;
         fresh = fresh-step F F′ l l′ o (accepted s h) (y .fresh) e x;
         contents = contents-step F F′ l l′ o (accepted s h) (y .fresh) (y .contents) e x;
         numbers = numbers-step F F′ l l′ o (numbersGiven s h) (y .numbers) e x;

@@ -22,15 +22,16 @@ use Rattle.history.specs.Good.{Good}
 use Rattle.history.specs.Stored.{filesOf}
 use Rattle.history.proofs.GoodFacts.{Facts, good-facts}
 use Rattle.history.proofs.Histories.{good-after, sizes-after}
-use Rattle.demands.specs.Events.{sessionOf, uploading}
-use Rattle.demands.specs.Accepted.{eventAt, reserved, total, numbersGiven, fromOne}
+use Rattle.demands.specs.Events.{sessionOf}
+use Rattle.demands.specs.Accepted.{eventAt, uploadOf, reserved, total, numbersGiven, fromOne}
 use Rattle.demands.specs.Demand3.{serverAt, lentAt, filesAt, Live, Free, Owned, EachBlock}
 use Rattle.demands.specs.Demand3.{BlocksHeld, NumbersOnce, Contents, OwnFile, Told, TimesRise}
 use Rattle.demands.proofs.Orderly.{good-orderly}
 use Rattle.demands.proofs.Lists.{from-one-length, from-one-rising, sum-same}
 use Rattle.demands.proofs.Owning.{event-own, others-stay}
 use Rattle.demands.proofs.Reserved.{weight, weights, live-weight, no-weight}
-use Rattle.demands.proofs.Story.{Story, story, step, made-server}
+use Rattle.demands.proofs.Story.{Story, story, step}
+use Rattle.demands.proofs.Naming.{made-server}
 
 -- ---- of one good state
 
@@ -122,13 +123,13 @@ module _ (s : Start) (ok : legal s ≡ true) where
 
   -- "a call changes no file but its own"
   pub as-told : (h : History) (c : Call) → Told s h c
-  as-told h c = step s ok h (told h) c .effect
+  as-told h c = step s ok h c
 
   pub own-file : (h : History) (c : Call) → OwnFile s h c
   own-file h c =
       others-stay (filesAt s h) (filesAt s (h ▸ c)) (serverAt s h .last) (serverAt s (h ▸ c) .last)
-      (uploading (serverAt s h) (lentAt s h) (sessionOf c)) (eventAt s h c)
-      (as-told h c) (event-own (serverAt s h) (lentAt s h) c)
+      (uploadOf s h (sessionOf c)) (eventAt s h c)
+      (as-told h c) (event-own (uploadOf s h (sessionOf c)) (serverAt s h) (lentAt s h) c)
 
   -- "Upload times rise strictly in order of completion"
   pub times-rise : (h : History) → TimesRise s h

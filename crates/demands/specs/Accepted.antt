@@ -10,26 +10,8 @@ use Rattle.session.specs.declared.reply.Answer.{Answer}
 use Rattle.session.specs.declared.reply.Answer.the-variants as answer
 use Rattle.decide.specs.Words.{wordAt}
 use Rattle.history.specs.Calls.{Call, login, receive, request, lose, callOf, Start, History, start, _▸_, after}
-use Rattle.demands.specs.Events.{Event, nothing, given, added, finished, dropped, eventOf, typeOf, sessionOf}
+use Rattle.demands.specs.Events.{Event, nothing, given, added, finished, dropped, eventBy, typeOf, sessionOf}
 use Rattle.demands.specs.Effect.{timeAt}
-
--- the event of a call that follows a history
-abbrev pub eventAt : Start → History → Call → Event
-eventAt s h c = eventOf (after s h .server) (after s h .lent) c
-
--- ---- "the bytes accepted under its number, in order"
-
--- what an event adds to file n: the information of a DATA packet accepted for it
-unfoldable pub addedBy : Event → ℕ → List ℕ
-addedBy nothing n = []
-addedBy (given k size) n = []
-addedBy (added k bytes) n = cond (eqb k n) bytes []
-addedBy (finished k clock) n = []
-addedBy (dropped k) n = []
-
-unfoldable pub accepted : Start → History → ℕ → List ℕ
-accepted s start n = []
-accepted s (h ▸ c) n = accepted s h n ++ addedBy (eventAt s h c) n
 
 -- ---- the file that a link uploads
 
@@ -63,6 +45,24 @@ uploadOf s (h ▸ c) i =
     cond (eqb (sessionOf c) i)
     (uploadBy c (callOf (after s h .server) (after s h .lent) c .done .answer) (callOf (after s h .server) (after s h .lent) c .out) (uploadOf s h i))
     (uploadOf s h i)
+
+-- the event of a call that follows a history
+abbrev pub eventAt : Start → History → Call → Event
+eventAt s h c = eventBy (uploadOf s h (sessionOf c)) (after s h .server) (after s h .lent) c
+
+-- ---- "the bytes accepted under its number, in order"
+
+-- what an event adds to file n: the information of a DATA packet accepted for it
+unfoldable pub addedBy : Event → ℕ → List ℕ
+addedBy nothing n = []
+addedBy (given k size) n = []
+addedBy (added k bytes) n = cond (eqb k n) bytes []
+addedBy (finished k clock) n = []
+addedBy (dropped k) n = []
+
+unfoldable pub accepted : Start → History → ℕ → List ℕ
+accepted s start n = []
+accepted s (h ▸ c) n = accepted s h n ++ addedBy (eventAt s h c) n
 
 -- ---- "their reserved blocks by history"
 

@@ -97,7 +97,8 @@ pub record Holds (v : View) (bytes : List ℕ) : Type 0 where
 abbrev pub Contents : Start → History → Type 0
 Contents s h = (place : ℕ) → Live (filesAt s h place) → Holds (filesAt s h place) (accepted s h (filesAt s h place .file .number))
 
--- "under its number": the number under which a link's DATA is accepted is the one that its last UL_GO_RESP gave
+-- "under its number": the number under which a link's DATA is accepted, that of its last UL_GO_RESP, is that of the file which the server's own
+-- state has the session upload
 abbrev pub UnderNumber : Start → History → Type 0
 UnderNumber s h =
     (i : ℕ) → linkOf (serverAt s h) i .linked ≡ true → uploading (serverAt s h) (lentAt s h) i ≡ uploadOf s h i
@@ -151,7 +152,7 @@ Offers s h (lose session) = Unit {0}
 -- every file but the one that the call's session is uploading is as it was, its record and its bytes
 abbrev pub OwnFile : Start → History → Call → Type 0
 OwnFile s h c =
-    (place : ℕ) → Live (filesAt s h place) → (filesAt s h place .file .number ≡ uploading (serverAt s h) (lentAt s h) (sessionOf c) → ⊥)
+    (place : ℕ) → Live (filesAt s h place) → (filesAt s h place .file .number ≡ uploadOf s h (sessionOf c) → ⊥)
     → filesAt s (h ▸ c) place ≡ filesAt s h place
 
 -- and what happens to its own is what the packets tell

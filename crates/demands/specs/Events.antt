@@ -97,14 +97,14 @@ onAnswer (answer.Refused r) out n frame info clock = nothing
 
 -- ---- the event of a call
 
-abbrev pub receiveEvent : Server → Lent → ℕ → ℕ → List ℕ → Outcome → Event
-receiveEvent sv l i clock input o =
-    onAnswer (o .done .answer) (o .out) (uploading sv l i) (heardOf sv l i input .frame) (heardOf sv l i input .info) clock
+abbrev pub receiveEvent : ℕ → Server → Lent → ℕ → ℕ → List ℕ → Outcome → Event
+receiveEvent n sv l i clock input o =
+    onAnswer (o .done .answer) (o .out) n (heardOf sv l i input .frame) (heardOf sv l i input .info) clock
 
--- only bytes of a link bring files about
-abbrev pub eventOf : Server → Lent → Call → Event
-eventOf sv l (login session clock out) = nothing
-eventOf sv l (receive session clock input out) =
-    receiveEvent sv l (session - 1) clock input (callOf sv l (receive session clock input out))
-eventOf sv l (request session out) = nothing
-eventOf sv l (lose session) = nothing
+-- n is the number of the file that the call's session is uploading; only bytes of a link bring files about
+abbrev pub eventBy : ℕ → Server → Lent → Call → Event
+eventBy n sv l (login session clock out) = nothing
+eventBy n sv l (receive session clock input out) =
+    receiveEvent n sv l (session - 1) clock input (callOf sv l (receive session clock input out))
+eventBy n sv l (request session out) = nothing
+eventBy n sv l (lose session) = nothing
