@@ -111,34 +111,35 @@ pub record TooEarly : Type 0 where
 
 pub passes : LostOnce × TooEarly
 unfolding
-    small beforeUpload lostOnce tooEarly smallest ones trailingZeros links-sound.downlinkSound demands-events.sentBy demands-accepted.namedBy demands-accepted.noneBy demands-accepted.uploadOf packet-frame.judged packet-frame.byte packet-frame.withoutPacket
-    packet-frame.answerBy packet-frame.answerOf packet-frame.receiveOf packet-machine.called packet-machine.call packet-numbers.number
-    packet-packet.packetOf session-expected.expectedUp session-expected.expected session-reply.tell session-reply.answered table-table.files
-    table-table.putTable table-table.firstFrom table-fit.fileFits table-fit.recordFits table-fit.recordsFitFrom table-fit.shares
-    table-fit.sharesWith table-fit.distinctOf blocks-freemap.freeCount blocks-freemap.lowest blocks-freemap.reservedMap blocks-owners.blocks
-    blocks-owners.countsFrom blocks-owners.nth blocks-owners.reservedOwner blocks-owners.releasedOwner blocks-owners.releasedMap
-    blocks-owners.wordOf blocks-owners.mapOf blocks-contents.held blocks-contents.stored blocks-check.within blocks-check.mapIs
-    blocks-check.agreesTest blocks-answers.makeOwner blocks-answers.makeMap blocks-answers.reserveMap blocks-answers.reserveOwner
-    blocks-answers.releaseMap blocks-answers.releaseOwner blocks-answers.writeDisk stored-answers.checkAt stored-answers.setNumber
-    stored-answers.setDisk header-items.headOf header-items.after header-items.walk header-items.marked header-items.fieldsOf
-    header-header.listed header-header.every header-header.countIf header-header.bytesOf header-header.lengthIn header-header.lengthFits
-    header-header.ordered header-header.proper header-header.complete header-header.sumOf header-header.checkItems header-header.checkValues
-    header-header.verdict header-header.placeFrom header-fields.withFields header-fields.withSum header-fields.fieldsSet files-uploads.beginAt
-    files-uploads.beginIn files-uploads.beginWith files-uploads.placeNumber files-uploads.roomNumber files-uploads.appendNumber
-    files-uploads.appendOf files-uploads.discardNumber files-uploads.discardOf files-completion.checkOf files-completion.completeNumber
-    files-completion.completeOf files-sound.soundTest decide-uplink.onContinued decide-uplink.onUpload decide-uplink.onData decide-uplink.onEnd
-    decide-uplink.onUplink decide-decide.onPacket decide-decide.onFrame decide-decide.decideOf carry-upload.begunTurn carry-upload.begunAs
-    carry-upload.beginWith carry-upload.storedAs carry-upload.appendedAs carry-upload.storeTurn carry-upload.discardTurn carry-upload.timed
-    carry-upload.judgedAt carry-upload.acceptedAs carry-upload.acceptTurn carry-upload.withDisk carry-upload.withBlocks carry-upload.finishAs
-    carry-carry.onFrees carry-carry.onWrites carry-carry.onMoves carry-carry.carryOut links-sound.uplinkSound links-sound.namesSound
-    links-sound.selectionSound links-sound.packetSound links-sound.linkSound links-sound.linkIn links-sound.apartFrom links-sound.allApart
-    links-sound.linksSound server-check.sizesFit server-check.roomFits server-check.soundParts server-check.inState server-check.sessionCheck
-    server-check.checkParts server-calls.answeredBy server-calls.heardBy server-calls.stepOf server-calls.onCheck server-calls.receiveOf
-    server-calls.onLogin server-calls.loginOf server-calls.onLose server-calls.loseOf server-turns.hearOf server-turns.sizeIn
-    server-turns.putBack server-turns.actOf server-making.emptyOf server-making.makeOf history-calls.made history-calls.after
-    demands-events.onQuiet demands-events.onGo demands-events.onSent demands-events.onAnswer demands-accepted.addedBy demands-accepted.accepted
-    demands-accepted.reservedBy demands-accepted.reserved demands-accepted.total demands-accepted.givenBy demands-accepted.numbersGiven
-    demands-accepted.fromOne demands-accepted.lastFrom demands-accepted.completedBy demands-accepted.completions
+    small beforeUpload lostOnce tooEarly smallest ones trailingZeros links-sound.downlinkSound demands-events.sentBy demands-accepted.namedBy
+    demands-accepted.noneBy demands-accepted.uploadOf packet-frame.judged packet-frame.byte packet-frame.withoutPacket packet-frame.answerBy
+    packet-frame.answerOf packet-frame.receiveOf packet-machine.called packet-machine.call packet-numbers.number packet-packet.packetOf
+    session-expected.expectedUp session-expected.expected session-reply.tell session-reply.answered table-table.files table-table.putTable
+    table-table.firstFrom table-fit.fileFits table-fit.recordFits table-fit.recordsFitFrom table-fit.shares table-fit.sharesWith
+    table-fit.distinctOf blocks-freemap.freeCount blocks-freemap.lowest blocks-freemap.reservedMap blocks-owners.blocks blocks-owners.countsFrom
+    blocks-owners.nth blocks-owners.reservedOwner blocks-owners.releasedOwner blocks-owners.releasedMap blocks-owners.wordOf blocks-owners.mapOf
+    blocks-contents.held blocks-contents.stored blocks-check.within blocks-check.mapIs blocks-check.agreesTest blocks-answers.makeOwner
+    blocks-answers.makeMap blocks-answers.reserveMap blocks-answers.reserveOwner blocks-answers.releaseMap blocks-answers.releaseOwner
+    blocks-answers.writeDisk stored-answers.checkAt stored-answers.setNumber stored-answers.setDisk header-items.headOf header-items.after
+    header-items.walk header-items.marked header-items.fieldsOf header-header.listed header-header.every header-header.countIf
+    header-header.bytesOf header-header.lengthIn header-header.lengthFits header-header.ordered header-header.proper header-header.complete
+    header-header.sumOf header-header.checkItems header-header.checkValues header-header.verdict header-header.placeFrom
+    header-fields.withFields header-fields.withSum header-fields.fieldsSet files-uploads.beginAt files-uploads.beginIn files-uploads.beginWith
+    files-uploads.placeNumber files-uploads.roomNumber files-uploads.appendNumber files-uploads.appendOf files-uploads.discardNumber
+    files-uploads.discardOf files-completion.checkOf files-completion.completeNumber files-completion.completeOf files-sound.soundTest
+    decide-uplink.onContinued decide-uplink.onUpload decide-uplink.onData decide-uplink.onEnd decide-uplink.onUplink decide-decide.onPacket
+    decide-decide.onFrame decide-decide.decideOf carry-upload.begunTurn carry-upload.begunAs carry-upload.beginWith carry-upload.storedAs
+    carry-upload.appendedAs carry-upload.storeTurn carry-upload.discardTurn carry-upload.timed carry-upload.judgedAt carry-upload.acceptedAs
+    carry-upload.acceptTurn carry-upload.withDisk carry-upload.withBlocks carry-upload.finishAs carry-carry.onFrees carry-carry.onWrites
+    carry-carry.onMoves carry-carry.carryOut links-sound.uplinkSound links-sound.namesSound links-sound.selectionSound links-sound.packetSound
+    links-sound.linkSound links-sound.linkIn links-sound.apartFrom links-sound.allApart links-sound.linksSound server-check.sizesFit
+    server-check.roomFits server-check.soundParts server-check.inState server-check.sessionCheck server-check.checkParts server-calls.answeredBy
+    server-calls.heardBy server-calls.stepOf server-calls.onCheck server-calls.receiveOf server-calls.onLogin server-calls.loginOf
+    server-calls.onLose server-calls.loseOf server-turns.hearOf server-turns.sizeIn server-turns.putBack server-turns.actOf
+    server-making.emptyOf server-making.makeOf history-calls.made history-calls.after demands-events.onQuiet demands-events.onGo
+    demands-events.onSent demands-events.onAnswer demands-accepted.addedBy demands-accepted.accepted demands-accepted.reservedBy
+    demands-accepted.reserved demands-accepted.total demands-accepted.givenBy demands-accepted.numbersGiven demands-accepted.fromOne
+    demands-accepted.lastFrom demands-accepted.completedBy demands-accepted.completions
 passes = (
   record { offer = refl; numbers = refl; bytes = refl; blocks = refl; complete = refl; file = refl },
   record { numbers = refl; first = refl; second = refl; freed = refl; blocks = refl; complete = refl; file = refl },

@@ -1,5 +1,5 @@
 -- What a history of calls says of the files, by its packets: the bytes accepted under each number, the blocks reserved for it, the numbers
--- given and the files completed. Nothing here looks at a stored byte. Assumes nothing.
+-- given and the files completed. Nothing here looks at what is stored. Assumes nothing.
 use mathlib.Core.Bool.{cond}
 use mathlib.Core.List.{List, [], _∷_, _++_, map}
 use Prim.Native.Nat.{ℕ, zero, suc, _+_}
@@ -33,10 +33,10 @@ noneBy (answer.Refused r) was = was
 
 -- by the call, its answer and its output
 abbrev pub uploadBy : Call → Answer → List ℕ → ℕ → ℕ
-uploadBy (login session clock out) a packet was = noneBy a was
-uploadBy (receive session clock input out) a packet was = namedBy a packet was
-uploadBy (request session out) a packet was = was
-uploadBy (lose session) a packet was = noneBy a was
+uploadBy (login session clock out) a output was = noneBy a was
+uploadBy (receive session clock input out) a output was = namedBy a output was
+uploadBy (request session out) a output was = was
+uploadBy (lose session) a output was = noneBy a was
 
 -- the number of the file that session i, counted from 0, is uploading, 0 for none
 unfoldable pub uploadOf : Start → History → ℕ → ℕ

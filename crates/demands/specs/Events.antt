@@ -43,16 +43,6 @@ sessionOf (lose session) = session - 1
 
 -- ---- what was heard
 
--- the number of the file that an uplink is receiving, 0 where it receives none
-abbrev pub numberIn : Uplink → List File → ℕ
-numberIn up.Idle fs = 0
-numberIn (up.Receiving place offset received) fs = fileAt fs place .number
-numberIn up.Ignoring fs = 0
-
--- the number of the file that a session, counted from 0, is uploading, 0 for none
-abbrev pub uploading : Server → Lent → ℕ → ℕ
-uploading sv l i = numberIn (linkOf sv i .up) (files (tablePart sv l))
-
 -- what the bytes of a link came to
 abbrev pub heardOf : Server → Lent → ℕ → List ℕ → Framed
 heardOf sv l i input = hearOf (l .held) i (linkOf sv i .held) input .framed
@@ -108,3 +98,15 @@ eventBy n sv l (receive session clock input out) =
     receiveEvent n sv l (session - 1) clock input (callOf sv l (receive session clock input out))
 eventBy n sv l (request session out) = nothing
 eventBy n sv l (lose session) = nothing
+
+-- ---- what the server's own state has a session upload; no event looks at this
+
+-- the number of the file that an uplink is receiving, 0 where it receives none
+abbrev pub numberIn : Uplink → List File → ℕ
+numberIn up.Idle fs = 0
+numberIn (up.Receiving place offset received) fs = fileAt fs place .number
+numberIn up.Ignoring fs = 0
+
+-- the number of the file that a session, counted from 0, is uploading, 0 for none
+abbrev pub uploading : Server → Lent → ℕ → ℕ
+uploading sv l i = numberIn (linkOf sv i .up) (files (tablePart sv l))
