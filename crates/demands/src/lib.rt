@@ -1,2 +1,2 @@
-// The demands of demand 3 as theorems on histories: what the store holds after any calls, said by the packets heard and sent. Definitions and
-// theorems only; there is no code here.
+// The demands, as theorems on the calls of crates/server and on histories of them (crates/history). Definitions and theorems only; there is no
+// code here. Each statement is a named type in specs/, beside the sentence that it renders; its proof stands in proofs/.

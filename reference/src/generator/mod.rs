@@ -13,7 +13,8 @@ use crate::random::Random;
 use crate::script::{Driver, Line, Unwatched, LINE_MOST};
 use crate::server::{Downlink, Server, Uplink, OUTPUT};
 
-pub use plans::{Plan, Wishes};
+pub use equations::equation;
+pub use plans::{plan, sound, Plan, Wishes};
 
 /// What the scripts of one kind dwell on. Chances are of 100.
 #[derive(Clone, Copy, Debug)]

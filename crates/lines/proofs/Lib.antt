@@ -1,0 +1,7 @@
+pub mod TextLaws
+pub mod Writing
+pub mod LineLaws
+pub mod NumeralLaws
+pub mod FieldLaws
+pub mod RoundTrip
+pub mod Examples

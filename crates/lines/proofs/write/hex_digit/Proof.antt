@@ -1,0 +1,25 @@
+use borrow.Author.Needs.{needs}
+use Rattle.lines.proofs.write.hex_digit.Statement.{statement}
+use Rattle.lines.proofs.write.hex_digit.Tie as tie
+use Rattle.lines.proofs.write.hex_digit.Reads as reads
+use Rattle.lines.proofs.write.hex_digit.Lts as lts
+use Rattle.lines.specs.Text.{hexDigit}
+use borrow.Author.Tests.{lt-ltb, le-ltb}
+use native.Mathlib.Omega.{arith}
+
+add-result : tie.Need-add-result
+add-result c = search needs
+
+add-result-2 : tie.Need-add-result-2
+add-result-2 c = search needs
+
+returns : tie.Need-returns
+unfolding hexDigit
+returns c = rw (lt-ltb (c .before .args .n) 10 (omega arith))
+
+returns-2 : tie.Need-returns-2
+unfolding hexDigit
+returns-2 c = rw (le-ltb (c .before .args .n) 10 (omega arith))
+
+pub hex-digit-spec : {M : Type 1} → statement M
+hex-digit-spec = tie.close (tie.spec add-result add-result-2 returns returns-2)

@@ -1,0 +1,14 @@
+pub mod Examples
+pub mod Bytes
+pub mod Stamp
+pub mod Hearing
+pub mod Asking
+pub mod Facts
+pub mod Above
+pub mod Page
+pub mod Clock
+pub mod Growth
+pub mod After
+pub mod Entries
+pub mod Paging
+pub mod Worked

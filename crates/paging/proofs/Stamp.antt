@@ -1,0 +1,295 @@
+-- The upload time that the server sets in a complete file is what a reader of its header finds, whatever the other bytes are. Assumes nothing.
+use mathlib.Core.Path.{_≡_, refl, sym, ap, _∙_, subst}
+use mathlib.Core.Bool.{Bool, true, false, cond}
+use mathlib.Core.List.{List, [], _∷_, _++_, append-assoc}
+use Prim.Native.Nat.{ℕ, zero, suc, _+_, _*_, _≤_, _<_}
+use native.Mathlib.Omega.{arith}
+use lib.Dec.{eqb, leb}
+use lib.ListN.{length, take, drop, length-drop, length-append, take-append-drop}
+use lib.Seq.{sets, length-take-le, take-at, drop-at}
+use borrow.Author.Tests.{eqb-false, leb-true, le-leb}
+use Rattle.packet.specs.Numbers.{two, four}
+use Rattle.header.specs.Items.{Field, Walk, headOf, walk, marked, fieldsOf}
+use Rattle.header.specs.Header.{listed, countIf, times, bytesOf, lengthIn, listedLength, proper, complete, headerSum, checkItems, placeFrom, placeOf}
+use Rattle.header.specs.Fields.{withFields, withSum, fieldsSet}
+use Rattle.header.proofs.Walk.{walk-broken, walk-end, walk-item}
+use Rattle.header.proofs.Order.{times-miss, complete-parts, proper-parts, length-of}
+use Rattle.header.proofs.Verdict.{passed-both}
+use Rattle.header.proofs.Replace.{withBytes, Alike, alike-count, alike-bytes, alike-with, with-same, with-other, sets-mid}
+use Rattle.equation.specs.Holds as holds
+
+-- ---- one item's data replaced
+
+-- the walk of an item and what follows it
+walked : (a b n : ℕ) (cs : List ℕ) → eqb (a + 256 * b) 0 ≡ false → n ≤ length cs
+    → walk 0 (a ∷ b ∷ n ∷ cs)
+    ≡ record {
+      items = record { id = a + 256 * b; bytes = take n cs } ∷ walk 0 (drop n cs) .items;
+      whole = walk 0 (drop n cs) .whole;
+      size = 3 + n + walk 0 (drop n cs) .size;
+    }
+unfolding headOf
+walked a b n cs e h =
+    let far : drop (0 + 3 + n) (a ∷ b ∷ n ∷ cs) ≡ drop n cs =
+    ap (λ (k : ℕ). drop k (a ∷ b ∷ n ∷ cs)) (let q : 0 + 3 + n ≡ suc (suc (suc n)) = omega arith in q) in
+    walk-item (a ∷ b ∷ n ∷ cs) 0 (a + 256 * b) n (rw (e, le-leb n (length cs) h)) ∙ rw far
+
+-- the bytes with the first item's data replaced: those before the header's items, and the items' bytes with what follows
+record Put (i at : ℕ) (new pre bs : List ℕ) : Type 0 where
+  rest : List ℕ
+  stored : sets (pre ++ bs) (placeFrom i at (walk 0 bs .items) .at) new ≡ pre ++ rest
+  items : walk 0 rest .items ≡ withBytes i new (walk 0 bs .items)
+
+module _ (i at : ℕ) (new pre : List ℕ) (a b n : ℕ) (cs : List ℕ) (some : eqb (a + 256 * b) 0 ≡ false) (fit : n ≤ length cs)
+    (here : length pre ≡ at) where
+  abbrev item : Field
+  item = record { id = a + 256 * b; bytes = take n cs }
+
+  abbrev later : List Field
+  later = walk 0 (drop n cs) .items
+
+  -- it is the item at the front
+  put-here : eqb (a + 256 * b) i ≡ true → length new ≡ n → Put i at new pre (a ∷ b ∷ n ∷ cs)
+  unfolding placeFrom withBytes
+  put-here e l =
+      record {
+        rest = a ∷ b ∷ n ∷ (new ++ drop n cs);
+        stored =
+            rw (walked a b n cs some fit, e)
+            (ap (λ (f : List ℕ). sets f (at + 3) new)
+            (ap (λ (f : List ℕ). pre ++ a ∷ b ∷ n ∷ f) (sym (take-append-drop n cs))
+            ∙ sym (append-assoc pre (a ∷ b ∷ n ∷ []) (take n cs ++ drop n cs)))
+            ∙ sets-mid (pre ++ a ∷ b ∷ n ∷ []) (take n cs) (drop n cs) new (at + 3)
+            (length-append pre (a ∷ b ∷ n ∷ []) ∙ ap (λ (k : ℕ). k + 3) here) (l ∙ sym (length-take-le n cs fit))
+            ∙ append-assoc pre (a ∷ b ∷ n ∷ []) (new ++ drop n cs));
+        items =
+            rw (walked a b n cs some fit, e)
+            (ap (λ (w : Walk). w .items) (walked a b n (new ++ drop n cs) some (rw (length-append new (drop n cs)) (omega arith)))
+            ∙ rw (take-at new (drop n cs) n l, drop-at new (drop n cs) n l));
+      }
+
+  -- it is a later one
+  put-later : eqb (a + 256 * b) i ≡ false → Put i (at + (3 + n)) new (pre ++ a ∷ b ∷ n ∷ take n cs) (drop n cs) → Put i at new pre (a ∷ b ∷ n ∷ cs)
+  unfolding placeFrom withBytes
+  put-later e p =
+      let size : length (take n cs) ≡ n = length-take-le n cs fit in
+      record {
+        rest = a ∷ b ∷ n ∷ (take n cs ++ p .rest);
+        stored =
+            rw (walked a b n cs some fit, e, size)
+            (ap (λ (f : List ℕ). sets f (placeFrom i (at + (3 + n)) later .at) new)
+            (ap (λ (f : List ℕ). pre ++ a ∷ b ∷ n ∷ f) (sym (take-append-drop n cs)) ∙ sym (append-assoc pre (a ∷ b ∷ n ∷ take n cs) (drop n cs)))
+            ∙ p .stored ∙ append-assoc pre (a ∷ b ∷ n ∷ take n cs) (p .rest));
+        items =
+            rw (walked a b n cs some fit, e)
+            (ap (λ (w : Walk). w .items) (walked a b n (take n cs ++ p .rest) some (rw (length-append (take n cs) (p .rest)) (omega arith)))
+            ∙ rw (take-at (take n cs) (p .rest) n size, drop-at (take n cs) (p .rest) n size) (ap (λ (f : List Field). item ∷ f) (p .items)));
+      }
+
+no-item : (i : ℕ) (bs : List ℕ) → walk 0 bs .items ≡ [] → 1 ≤ times i (walk 0 bs .items) → ⊥
+unfolding countIf
+no-item i bs e h = let z : times i (walk 0 bs .items) ≡ 0 = ap (times i) e in omega arith
+
+-- what stands at the front of bytes of which the walk finds an item
+record Front (bs : List ℕ) : Type 0 where
+  a : ℕ
+  b : ℕ
+  n : ℕ
+  cs : List ℕ
+  split : bs ≡ a ∷ b ∷ n ∷ cs
+  some : eqb (a + 256 * b) 0 ≡ false
+  fit : n ≤ length cs
+
+front : (i : ℕ) (bs : List ℕ) → 1 ≤ times i (walk 0 bs .items) → Front bs
+unfolding headOf
+front i [] h = absurd (no-item i [] (ap (λ (w : Walk). w .items) (walk-broken [] 0 refl)) h)
+front i (a ∷ []) h = absurd (no-item i (a ∷ []) (ap (λ (w : Walk). w .items) (walk-broken (a ∷ []) 0 refl)) h)
+front i (a ∷ b ∷ []) h = absurd (no-item i (a ∷ b ∷ []) (ap (λ (w : Walk). w .items) (walk-broken (a ∷ b ∷ []) 0 refl)) h)
+front i (a ∷ b ∷ n ∷ cs) h = go (eqb (a + 256 * b) 0) refl (eqb n 0) refl (leb n (length cs)) refl
+  where
+    go : (x : Bool) → eqb (a + 256 * b) 0 ≡ x → (y : Bool) → eqb n 0 ≡ y → (z : Bool) → leb n (length cs) ≡ z → Front (a ∷ b ∷ n ∷ cs)
+    go true x true y z w =
+        absurd (no-item i (a ∷ b ∷ n ∷ cs) (ap (λ (w : Walk). w .items) (walk-end (a ∷ b ∷ n ∷ cs) 0 (rw (x, y)))) h)
+    go true x false y z w =
+        absurd (no-item i (a ∷ b ∷ n ∷ cs) (ap (λ (w : Walk). w .items) (walk-broken (a ∷ b ∷ n ∷ cs) 0 (rw (x, y)))) h)
+    go false x y v false w =
+        absurd (no-item i (a ∷ b ∷ n ∷ cs) (ap (λ (w : Walk). w .items) (walk-broken (a ∷ b ∷ n ∷ cs) 0 (rw (x, w)))) h)
+    go false x y v true w = record { a = a; b = b; n = n; cs = cs; split = refl; some = x; fit = leb-true n (length cs) w }
+
+put : (k i at : ℕ) (new pre bs : List ℕ) → length bs < k → length pre ≡ at → 1 ≤ times i (walk 0 bs .items)
+    → length new ≡ length (bytesOf i (walk 0 bs .items)) → Put i at new pre bs
+put zero i at new pre bs s l h e = absurd (omega arith)
+put (suc k) i at new pre bs s l h e = on (front i bs h) (put k)
+  where
+    on : Front bs
+        → ((i at : ℕ) (new pre bs : List ℕ) → length bs < k → length pre ≡ at → 1 ≤ times i (walk 0 bs .items)
+        → length new ≡ length (bytesOf i (walk 0 bs .items)) → Put i at new pre bs)
+        → Put i at new pre bs
+    on f ih = subst (λ (l : List ℕ). Put i at new pre l) (sym (f .split)) (go (eqb (f .a + 256 * f .b) i) refl)
+      where
+        items : walk 0 bs .items ≡ record { id = f .a + 256 * f .b; bytes = take (f .n) (f .cs) } ∷ walk 0 (drop (f .n) (f .cs)) .items
+        items = ap (λ (l : List ℕ). walk 0 l .items) (f .split) ∙ ap (λ (w : Walk). w .items) (walked (f .a) (f .b) (f .n) (f .cs) (f .some) (f .fit))
+
+        first : eqb (f .a + 256 * f .b) i ≡ true → length new ≡ f .n
+        first t = e ∙ ap (λ (is : List Field). length (bytesOf i is)) items ∙ unfold bytesOf in rw t (length-take-le (f .n) (f .cs) (f .fit))
+
+        go : (t : Bool) → eqb (f .a + 256 * f .b) i ≡ t → Put i at new pre (f .a ∷ f .b ∷ f .n ∷ f .cs)
+        go true t = put-here i at new pre (f .a) (f .b) (f .n) (f .cs) (f .some) (f .fit) l t (first t)
+        go false t =
+            put-later i at new pre (f .a) (f .b) (f .n) (f .cs) (f .some) (f .fit) l t
+            (ih i (at + (3 + f .n)) new (pre ++ f .a ∷ f .b ∷ f .n ∷ take (f .n) (f .cs)) (drop (f .n) (f .cs))
+            (let z = ap length (f .split) in omega (arith, length-drop (f .n) (f .cs)))
+            (length-append pre (f .a ∷ f .b ∷ f .n ∷ take (f .n) (f .cs)) ∙ (let z = length-take-le (f .n) (f .cs) (f .fit) in omega arith))
+            (let z : times i (walk 0 bs .items) ≡ times i (walk 0 (drop (f .n) (f .cs)) .items) = ap (times i) items
+            ∙ times-miss i _ _ (eqb-false (f .a + 256 * f .b) i t) in omega arith)
+            (e ∙ ap (λ (is : List Field). length (bytesOf i is)) items ∙ unfold bytesOf in rw t))
+
+-- ---- the four fields
+
+-- an item is there, with data of this length
+abbrev Has : List Field → ℕ → ℕ → Type 0
+Has is i n = (1 ≤ times i is) × (length (bytesOf i is) ≡ n)
+
+-- the items that the server sets
+record Settable (is : List Field) : Type 0 where
+  number : Has is 1 4
+  modified : Has is 6 4
+  upload : Has is 18 4
+  sum : Has is 10 2
+
+alike-has : (is js : List Field) → Alike is js → (i n : ℕ) → Has js i n → Has is i n
+alike-has is js a i n h = (rw (alike-count (λ k. eqb k i) is js a) (h .0), alike-bytes i is js a ∙ h .1)
+
+alike-settable : (is js : List Field) → Alike is js → Settable js → Settable is
+alike-settable is js a s =
+    record {
+      number = alike-has is js a 1 4 (s .number);
+      modified = alike-has is js a 6 4 (s .modified);
+      upload = alike-has is js a 18 4 (s .upload);
+      sum = alike-has is js a 10 2 (s .sum);
+    }
+
+-- a file with these items, which the server can set
+record Holds (file : List ℕ) (is : List Field) : Type 0 where
+  mark : marked file ≡ true
+  fields : fieldsOf file ≡ is
+  settable : Settable is
+
+-- one of them is set
+set-one : (file : List ℕ) (is : List Field) (i : ℕ) (new : List ℕ) → Holds file is → Has is i (length new)
+    → Holds (sets file (placeOf i file .at) new) (withBytes i new is)
+unfolding marked fieldsOf
+set-one [] is i new h p = absurd (let z : _≡_ {A = ℕ} 0 1 = cc (h .mark) in omega arith)
+set-one (a ∷ []) is i new h p = absurd (let z : _≡_ {A = ℕ} 0 1 = cc (h .mark) in omega arith)
+set-one (a ∷ b ∷ bs) is i new h p = go (put (suc (length bs)) i 2 new (a ∷ b ∷ []) bs (omega arith) refl there long)
+  where
+    items : walk 0 bs .items ≡ is
+    items = sym (ap (λ (t : Bool). cond t (walk 0 bs .items) []) (h .mark)) ∙ h .fields
+
+    there : 1 ≤ times i (walk 0 bs .items)
+    there = rw items (p .0)
+
+    long : length new ≡ length (bytesOf i (walk 0 bs .items))
+    long = rw items (sym (p .1))
+
+    go : Put i 2 new (a ∷ b ∷ []) bs → Holds (sets (a ∷ b ∷ bs) (placeOf i (a ∷ b ∷ bs) .at) new) (withBytes i new is)
+    go q =
+        let same : sets (a ∷ b ∷ bs) (placeOf i (a ∷ b ∷ bs) .at) new ≡ a ∷ b ∷ q .rest =
+        ap (λ (is : List Field). sets (a ∷ b ∷ bs) (placeFrom i 2 is .at) new) (h .fields ∙ sym items) ∙ q .stored in
+        subst (λ (f : List ℕ). Holds f (withBytes i new is)) (sym same)
+        (record {
+          mark = h .mark;
+          fields = ap (λ (t : Bool). cond t (walk 0 (q .rest) .items) []) (h .mark) ∙ q .items ∙ ap (withBytes i new) items;
+          settable = alike-settable (withBytes i new is) is (alike-with i new is (sym (p .1))) (h .settable);
+        })
+
+-- a listed item is there, with the listed length
+listed-there : (is : List Field) (i k : ℕ) → proper is ≡ true → listedLength i ≡ suc k → times i is ≡ 1 → Has is i (suc k)
+listed-there is i k p l e =
+    let h : 1 ≤ times i is = omega arith in (h, length-of i k is l (proper-parts is p .fit) h)
+
+settable-items : (is : List Field) → proper is ≡ true → complete is ≡ true → Settable is
+unfolding listed lengthIn
+settable-items is p c =
+    let q = complete-parts is p c in
+    record {
+      number = listed-there is 1 3 p refl (q .low 1 (omega arith) (omega arith));
+      modified = listed-there is 6 3 p refl (q .low 6 (omega arith) (omega arith));
+      upload = listed-there is 18 3 p refl (q .upload);
+      sum = listed-there is 10 1 p refl (q .low 10 (omega arith) (omega arith));
+    }
+
+accepted-holds : (file : List ℕ) → checkItems file ≡ 0 → Holds file (fieldsOf file)
+unfolding checkItems
+accepted-holds file e = go (marked file) refl (walk 0 (drop 2 file) .whole) e
+  where
+    go : (m : Bool) → marked file ≡ m → (w : Bool)
+        → _≡_ {A = ℕ} (cond m (cond w (cond (proper (fieldsOf file)) (cond (complete (fieldsOf file)) 0 6) 14) 14) 7) 0
+        → Holds file (fieldsOf file)
+    go true m true e =
+        let p = passed-both (fieldsOf file) 0 e refl in
+        record { mark = m; fields = refl; settable = settable-items (fieldsOf file) (p .0) (p .1) }
+    go true m false e = absurd (omega arith)
+    go false m w e = absurd (omega arith)
+
+-- the data of the first item with an id, as the equations read it
+pub record First (i : ℕ) (data′ : List ℕ) (is : List Field) : Type 0 where
+  pub more : List (List ℕ)
+  pub first : holds.bytesOf i is ≡ data′ ∷ more
+  pub own : bytesOf i is ≡ data′
+
+first-of : (i : ℕ) (is : List Field) → 1 ≤ times i is → First i (bytesOf i is) is
+unfolding holds.bytesOf bytesOf countIf
+first-of i [] h = absurd (omega arith)
+first-of i (x ∷ xs) h = go (eqb (x .id) i) refl (first-of i xs)
+  where
+    go : (t : Bool) → eqb (x .id) i ≡ t → (1 ≤ times i xs → First i (bytesOf i xs) xs) → First i (bytesOf i (x ∷ xs)) (x ∷ xs)
+    go true e ih = record { more = holds.bytesOf i xs; first = rw e; own = refl }
+    go false e ih = on (ih (omega (arith, times-miss i x xs (eqb-false (x .id) i e))))
+      where
+        on : First i (bytesOf i xs) xs → First i (bytesOf i (x ∷ xs)) (x ∷ xs)
+        on r = record { more = r .more; first = rw e (r .first); own = refl }
+
+module _ (n t : ℕ) (file : List ℕ) (e : checkItems file ≡ 0) where
+  abbrev first-set : List ℕ
+  first-set = sets file (placeOf 1 file .at) (four n)
+
+  abbrev second-set : List ℕ
+  second-set = sets first-set (placeOf 6 first-set .at) (four t)
+
+  abbrev third-set : List ℕ
+  third-set = sets second-set (placeOf 18 second-set .at) (four t)
+
+  abbrev items-set : List Field
+  items-set = withBytes 18 (four t) (withBytes 6 (four t) (withBytes 1 (four n) (fieldsOf file)))
+
+  third-holds : Holds third-set items-set
+  third-holds =
+      let h0 = accepted-holds file e in
+      let h1 = set-one file (fieldsOf file) 1 (four n) h0 (h0 .settable .number) in
+      let h2 = set-one first-set (withBytes 1 (four n) (fieldsOf file)) 6 (four t) h1 (h1 .settable .modified) in
+      set-one second-set (withBytes 6 (four t) (withBytes 1 (four n) (fieldsOf file))) 18 (four t) h2 (h2 .settable .upload)
+
+  fields-set : fieldsSet n t file ≡ sets third-set (placeOf 10 third-set .at) (two (headerSum third-set))
+  unfolding fieldsSet withFields withSum
+  fields-set = rw e
+
+  upload-there : Has (withBytes 6 (four t) (withBytes 1 (four n) (fieldsOf file))) 18 4
+  upload-there =
+      let h0 = accepted-holds file e in
+      let h1 = set-one file (fieldsOf file) 1 (four n) h0 (h0 .settable .number) in
+      let h2 = set-one first-set (withBytes 1 (four n) (fieldsOf file)) 6 (four t) h1 (h1 .settable .modified) in
+      h2 .settable .upload
+
+  -- THE LAW: upload_time is read as it was set
+  pub stamped : First 18 (four t) (fieldsOf (fieldsSet n t file))
+  stamped =
+      let h3 = third-holds in
+      let h4 = set-one third-set items-set 10 (two (headerSum third-set)) h3 (h3 .settable .sum) in
+      let is : fieldsOf (fieldsSet n t file) ≡ withBytes 10 (two (headerSum third-set)) items-set = ap fieldsOf fields-set ∙ h4 .fields in
+      let read : bytesOf 18 (withBytes 10 (two (headerSum third-set)) items-set) ≡ four t =
+      with-other 10 18 (two (headerSum third-set)) items-set (λ z. omega arith)
+      ∙ with-same 18 (four t) (withBytes 6 (four t) (withBytes 1 (four n) (fieldsOf file))) (upload-there .0) in
+      subst (First 18 (four t)) (sym is)
+      (subst (λ (b : List ℕ). First 18 b (withBytes 10 (two (headerSum third-set)) items-set)) read
+      (first-of 18 (withBytes 10 (two (headerSum third-set)) items-set) (h4 .settable .upload .0)))

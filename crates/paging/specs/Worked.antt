@@ -1,0 +1,54 @@
+-- A worked example: one block, one place for files, one session and MAXSEL 1. A file is uploaded, and a client pages. Assumes nothing.
+use mathlib.Core.Path.{_≡_}
+use mathlib.Core.Bool.{true}
+use mathlib.Core.List.{List, [], _∷_, _++_}
+use Prim.Native.Nat.{ℕ, _+_, _≤_}
+use lib.ListN.{length, replicate}
+use Rattle.packet.specs.Numbers.{four}
+use Rattle.packet.specs.Packet.{packetOf}
+use Rattle.equation.specs.Answer.{validityOf}
+use Rattle.server.specs.State.{lent}
+use Rattle.history.specs.Calls.{Call, login, receive, legal, Start, History, start, _▸_}
+use Rattle.paging.specs.Examples.{smallest}
+use Rattle.paging.specs.Paging.{entry, Client, begins, asks, pagedBy, Allowed, Finished, Clocks}
+
+-- the sizes, and memory that has just room for them
+unfoldable pub tiny : Start
+tiny =
+    record {
+      blocks = 1;
+      files = 1;
+      sessions = 1;
+      most = 1;
+      lent = lent (replicate 256 0) (0 ∷ []) (0 ∷ []) (replicate 4 0) (0 ∷ []) (replicate 258 0);
+    }
+
+abbrev pub output : List ℕ
+output = replicate 258 0
+
+-- the session takes one packet at time 7
+abbrev pub taking : ℕ → List ℕ → Call
+taking kind info = receive 1 7 (packetOf kind info) output
+
+-- login; UPLOAD_CMD for a new file of 80 bytes, its bytes as DATA, DATA_END
+unfoldable pub uploaded : History
+uploaded =
+    start ▸ login 1 7 output ▸ taking 3 (four 0 ++ four 80) ▸ taking 0 smallest ▸ taking 1 []
+
+-- file_size (04) equal to 80
+abbrev pub sized : List ℕ
+sized = 128 ∷ 4 ∷ 0 ∷ 1 ∷ 80 ∷ []
+
+-- the client asks, and asks again as the first page is full
+unfoldable pub reader : Client
+reader = asks (asks (begins uploaded) 1 8 output) 1 9 output
+
+-- the hypotheses of the theorem are met: the client has been given the one file, with number 1 and upload time 7, and its second page was empty
+pub record Met : Type 0 where
+  pub sizes : legal tiny ≡ true
+  pub accepted : validityOf sized ≡ 0
+  pub short : length sized + 9 ≤ 256
+  pub allowed : Allowed tiny sized reader
+  pub clocks : Clocks (pagedBy tiny sized reader .history)
+  pub finished : Finished tiny sized reader
+  pub given : pagedBy tiny sized reader .given ≡ entry 1 7 ∷ []

@@ -1,0 +1,122 @@
+//! The packets of selections and downloads.
+use super::{files, Author};
+use crate::packets::{ack, download, nak, packet, select};
+use reference::generator::equation;
+use reference::header;
+use reference::packet::Type;
+use reference::server::{Downlink, Server, Session};
+
+impl Author {
+    pub(super) fn downlink_packet(
+        &mut self,
+        server: &Server,
+        session: &Session,
+        index: usize,
+    ) -> Vec<u8> {
+        match (session.downlink, self.random.below(16)) {
+            (Downlink::Idle, _) => self.idle_command(server, session),
+            (Downlink::Sending { .. }, 1..=6) => nak(),
+            (Downlink::Sending { .. } | Downlink::Aborting { .. }, 1..=14) => {
+                self.uplink_packet(server, session, index)
+            }
+            (Downlink::Ended { place }, 1..) => self.word(server, place),
+            (_, 0) => self.idle_command(server, session),
+            _ => ack(0),
+        }
+    }
+
+    /// A command that an idle downlink takes.
+    fn idle_command(&mut self, server: &Server, session: &Session) -> Vec<u8> {
+        match self.random.below(50) {
+            0 => packet(Type::DirShortCmd, &[1; 4]),
+            1 => packet(Type::DirLongCmd, &[]),
+            2 => nak(),
+            3 => {
+                let length = *self.random.pick(&[0, 8, 10]);
+                packet(Type::DownloadCmd, &vec![1; length])
+            }
+            4..=20 => self.select(server),
+            _ => self.download(server, session),
+        }
+    }
+
+    fn select(&mut self, server: &Server) -> Vec<u8> {
+        // a few files are enough to make relations that some meet, and reading all would take long
+        let short = files(server, |file| file.is_complete() && file.length < 3000);
+        let mut known = Vec::new();
+        for _ in 0..short.len().min(4) {
+            let file = self.random.pick(&short);
+            known.push(contents(server, file.number));
+        }
+        select(&equation(&mut self.random, &known))
+    }
+
+    fn download(&mut self, server: &Server, session: &Session) -> Vec<u8> {
+        let selected = session.selection.numbers.get(session.selection.position);
+        let any = self.random.chance(1, 4);
+        let live = files(server, |file| any || file.is_complete());
+        let number = match self.random.below(12) {
+            0 => u32::MAX,
+            1 => server.store.last_number.wrapping_add(1),
+            2..=7 if selected.is_some() => 0,
+            2 => 0,
+            _ if live.is_empty() => 1,
+            _ => self.random.pick(&live).number,
+        };
+        let meant = match number {
+            0 => selected.copied().unwrap_or(0),
+            _ => number,
+        };
+        let (length, destinations) = match server.store.find(meant) {
+            Some(place) => (
+                server.store.file(place).length,
+                header::destinations(&server.store.contents(place)),
+            ),
+            None => (100, 0),
+        };
+        let offset = self.offset(length);
+        download(number, offset, self.destination(destinations))
+    }
+
+    fn offset(&mut self, length: u32) -> u32 {
+        match self.random.below(14) {
+            0 => length,
+            1 => length.saturating_add(1),
+            2 => length.saturating_sub(1),
+            3 => self.random.below(length as usize + 1) as u32,
+            4 => 256,
+            5 => length.saturating_sub(256),
+            6 if self.random.chance(1, 3) => u32::MAX,
+            _ => 0,
+        }
+    }
+
+    /// A destination number, mostly one that the file has.
+    fn destination(&mut self, destinations: usize) -> u8 {
+        let number = match self.random.below(8) {
+            0 => destinations + 1,
+            1 => 255,
+            2..=4 => self.random.below(destinations + 1),
+            _ => 0,
+        };
+        number.min(255) as u8
+    }
+
+    /// The client's word after a download.
+    fn word(&mut self, server: &Server, place: usize) -> Vec<u8> {
+        match self.random.below(10) {
+            0 => packet(Type::DlAckCmd, &[]),
+            1 => packet(Type::DlAckCmd, &[0, 0]),
+            2 | 3 => nak(),
+            _ => {
+                let destinations = header::destinations(&server.store.contents(place));
+                ack(self.destination(destinations))
+            }
+        }
+    }
+}
+
+fn contents(server: &Server, number: u32) -> Vec<u8> {
+    let place = server.store.find(number).expect("a file of that number");
+    server.store.contents(place)
+}

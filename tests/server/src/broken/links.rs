@@ -1,0 +1,226 @@
+//! The facts on the sessions, and on the words that stand for them.
+use super::{each, Change, Link, State, Word};
+use crate::image::{HEAD, PART, SESSION};
+
+// ---- uploads
+
+pub(super) fn upload_of_no_file(s: &State) -> Vec<Change> {
+    let nowhere = |link: &Link| {
+        let at = link.at + 2;
+        s.nowhere()
+            .into_iter()
+            .map(move |place| Word::State(at, place))
+    };
+    each(s.uplinks(1).iter().flat_map(nowhere))
+}
+
+/// The bytes are those of the complete file, so that they break nothing.
+pub(super) fn upload_of_a_complete_file(s: &State) -> Vec<Change> {
+    let mut changes = Vec::new();
+    for link in s.uplinks(1) {
+        for file in s.complete() {
+            changes.push(vec![
+                Word::State(link.at + 2, file.place as u64),
+                Word::State(link.at + 3, file.received.into()),
+                Word::State(link.at + 4, 0),
+            ]);
+        }
+    }
+    changes
+}
+
+pub(super) fn upload_bytes(s: &State) -> Vec<Change> {
+    let mut changes = Vec::new();
+    for link in s.uplinks(1) {
+        let received = s.record(s.word(link.at + 2)).received;
+        changes.extend(each([
+            Word::State(link.at + 3, s.word(link.at + 3) ^ 1),
+            Word::State(link.at + 4, s.word(link.at + 4) ^ 1),
+            Word::State(link.at + 4, u32::MAX.into()),
+        ]));
+        if 0 < received {
+            let at = s.record(s.word(link.at + 2)).word(2);
+            changes.push(vec![Word::Table(at, received - 1)]);
+        }
+    }
+    changes
+}
+
+/// 32-bit sums of these are the file's bytes.
+pub(super) fn upload_bytes_wrapped(s: &State) -> Vec<Change> {
+    let wrapped = |link: &Link| {
+        let received = s.record(s.word(link.at + 2)).received;
+        vec![
+            Word::State(link.at + 3, u32::MAX.into()),
+            Word::State(link.at + 4, u64::from(received) + 1),
+        ]
+    };
+    s.uplinks(1).iter().map(wrapped).collect()
+}
+
+/// Another session uploads the file that one is uploading.
+pub(super) fn upload_twice(s: &State) -> Vec<Change> {
+    let mut changes = Vec::new();
+    for one in s.uplinks(1) {
+        for other in s.links().iter().filter(|other| other.index != one.index) {
+            changes.push(
+                (1..5)
+                    .map(|word| Word::State(other.at + word, s.word(one.at + word)))
+                    .collect(),
+            );
+        }
+    }
+    changes
+}
+
+// ---- downloads
+
+/// Places of a download's file that is not complete.
+fn not_complete(s: &State, case: u64) -> Vec<Change> {
+    let partial = s.partial().into_iter().map(|file| file.place as u64);
+    let places: Vec<u64> = partial.chain(s.nowhere()).collect();
+    let links = s.downlinks(case);
+    each(
+        links
+            .iter()
+            .flat_map(|link| places.iter().map(|&place| Word::State(link.at + 6, place))),
+    )
+}
+
+pub(super) fn sending_of_none(s: &State) -> Vec<Change> {
+    not_complete(s, 1)
+}
+
+pub(super) fn ended_of_none(s: &State) -> Vec<Change> {
+    not_complete(s, 2)
+}
+
+pub(super) fn aborting_of_none(s: &State) -> Vec<Change> {
+    not_complete(s, 3)
+}
+
+pub(super) fn download_beyond(s: &State) -> Vec<Change> {
+    let beyond = |link: &Link| {
+        let size = u64::from(s.record(s.word(link.at + 6)).size);
+        let (offset, sent) = (s.word(link.at + 7), s.word(link.at + 8));
+        [
+            Word::State(link.at + 7, size - sent + 1),
+            Word::State(link.at + 8, size - offset + 1),
+        ]
+    };
+    each(s.downlinks(1).iter().flat_map(beyond))
+}
+
+/// 32-bit sums of these are 0.
+pub(super) fn download_wrapped(s: &State) -> Vec<Change> {
+    let wrapped = |link: &Link| {
+        vec![
+            Word::State(link.at + 7, u32::MAX.into()),
+            Word::State(link.at + 8, 1),
+        ]
+    };
+    s.downlinks(1).iter().map(wrapped).collect()
+}
+
+// ---- selections
+
+pub(super) fn count_beyond(s: &State) -> Vec<Change> {
+    let counts = [s.most as u64 + 1, u64::MAX];
+    each(
+        s.links()
+            .iter()
+            .flat_map(|link| counts.map(|count| Word::State(link.at + 10, count))),
+    )
+}
+
+pub(super) fn next_beyond(s: &State) -> Vec<Change> {
+    let beyond = |link: &Link| {
+        [s.word(link.at + 10) + 1, u64::MAX].map(|next| Word::State(link.at + 11, next))
+    };
+    each(s.links().iter().flat_map(beyond))
+}
+
+pub(super) fn selected_of_none(s: &State) -> Vec<Change> {
+    let mut wrong = vec![0];
+    wrong.extend(s.partial().iter().map(|file| file.number));
+    wrong.extend(s.last_number.checked_add(1));
+    let mut changes = Vec::new();
+    for link in s.links() {
+        let first = link.index * s.most;
+        for at in first..first + s.word(link.at + 10) as usize {
+            changes.extend(each(wrong.iter().map(|&number| Word::Selected(at, number))));
+        }
+    }
+    changes
+}
+
+// ---- unfinished packets
+
+fn announced(part: &[u8]) -> u64 {
+    u64::from(part[0]) + 256 * u64::from(part[1] / 32)
+}
+
+fn part<'a>(s: &State<'a>, link: &Link) -> &'a [u8] {
+    &s.lent.held[PART * link.index..][..PART]
+}
+
+/// As many bytes as the packet has, or more.
+pub(super) fn held_beyond(s: &State) -> Vec<Change> {
+    let beyond = |link: &Link| {
+        let whole = 2 + announced(part(s, link));
+        [whole, 259, u64::MAX].map(|held| Word::State(link.at + 9, held))
+    };
+    each(s.links().iter().flat_map(beyond))
+}
+
+pub(super) fn held_too_long(s: &State) -> Vec<Change> {
+    let begun = s
+        .links()
+        .into_iter()
+        .filter(|link| 2 <= s.word(link.at + 9));
+    let long = |link: &Link| Word::Held(PART * link.index + 1, part(s, link)[1] | 0xe0);
+    each(begun.map(|link| long(&link)))
+}
+
+// ---- words
+
+pub(super) fn session_beyond(s: &State) -> Vec<Change> {
+    each((s.sessions..4).map(|index| Word::State(HEAD + SESSION * index, 1)))
+}
+
+pub(super) fn no_such_case(s: &State) -> Vec<Change> {
+    let mut changes = each([
+        Word::State(4, s.word(4) + (1 << 32)),
+        Word::State(5, s.word(5) + (1 << 32)),
+    ]);
+    for at in (0..4).map(|index| HEAD + SESSION * index) {
+        changes.extend(each([
+            Word::State(at, 2),
+            Word::State(at, u64::MAX),
+            Word::State(at + 1, 3),
+            Word::State(at + 1, s.word(at + 1) + (1 << 32)),
+            Word::State(at + 3, s.word(at + 3) + (1 << 32)),
+            Word::State(at + 4, s.word(at + 4) + (1 << 32)),
+            Word::State(at + 5, 4),
+            Word::State(at + 7, s.word(at + 7) + (1 << 32)),
+            Word::State(at + 8, s.word(at + 8) + (1 << 32)),
+        ]));
+    }
+    changes
+}
+
+pub(super) fn unused_word(s: &State) -> Vec<Change> {
+    let mut changes = Vec::new();
+    for at in (0..4).map(|index| HEAD + SESSION * index) {
+        if s.word(at + 1) != 1 {
+            changes.extend(each((at + 2..at + 5).map(|word| Word::State(word, 1))));
+        }
+        let unused = match s.word(at + 5) {
+            0 => at + 6..at + 9,
+            1 => at + 9..at + 9,
+            _ => at + 7..at + 9,
+        };
+        changes.extend(each(unused.map(|word| Word::State(word, 1))));
+    }
+    changes
+}

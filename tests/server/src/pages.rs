@@ -1,0 +1,273 @@
+//! Clients that ask for new files page by page, while files are uploaded between the pages and the clock runs as it likes.
+use crate::call::{Act, Call};
+use crate::packets::{ack, data, data_end, download, select, upload};
+use crate::pair::{Pair, Start};
+use crate::proved::Answer;
+use reference::draft::Draft;
+use reference::header;
+use reference::packet::{number, Type};
+use reference::random::Random;
+use reference::server::{Sizes, OUTPUT};
+
+/// The kinds of file that equations ask for, as file_type.
+const KINDS: u8 = 3;
+
+/// A file that a session has begun to upload.
+struct Begun {
+    number: u32,
+    kind: u8,
+    bytes: Vec<u8>,
+}
+
+/// A complete file.
+#[derive(Clone, Copy, Debug, PartialEq, Eq)]
+struct Complete {
+    number: u32,
+    kind: u8,
+}
+
+/// The servers, the uploads of each session, and the files in the order of their completion.
+struct World {
+    pair: Pair,
+    random: Random,
+    begun: [Option<Begun>; 4],
+    complete: Vec<Complete>,
+}
+
+impl World {
+    fn new(sizes: Sizes, random: Random) -> World {
+        let mut world = World {
+            pair: Pair::new(Start::new(sizes)),
+            random,
+            begun: Default::default(),
+            complete: Vec::new(),
+        };
+        for session in 1..=sizes.sessions {
+            world.call(session, Act::Open);
+        }
+        world
+    }
+
+    /// A call at any clock: forwards, backwards, or as before.
+    fn call(&mut self, session: usize, act: Act) -> Answer {
+        let call = Call {
+            session,
+            clock: self.random.below(400) as u32,
+            room: OUTPUT,
+            act,
+        };
+        let answer = self.pair.call(&call);
+        answer.unwrap_or_else(|what| panic!("{call}: {what}"))
+    }
+
+    /// A call that must send a packet of this type; its information.
+    fn sent(&mut self, session: usize, act: Act, kind: Type) -> Vec<u8> {
+        match self.call(session, act) {
+            Answer::Sent(_, packet) if packet[1] % 32 == kind.number() => packet[2..].to_vec(),
+            answer => panic!("{kind:?} is not sent: {answer:?}"),
+        }
+    }
+
+    /// Begins an upload or ends the one begun: so files complete in another order than that of their numbers.
+    fn upload(&mut self, session: usize) {
+        match self.begun[session - 1].take() {
+            None => self.begin(session),
+            Some(begun) => self.end(session, begun),
+        }
+    }
+
+    fn begin(&mut self, session: usize) {
+        if self.pair.second.store.places.iter().all(Option::is_some) {
+            return;
+        }
+        let kind = self.random.below(KINDS.into()) as u8;
+        let length = self.random.below(30);
+        let mut draft = Draft::new().with_body(&self.random.bytes(length));
+        draft.set(header::FILE_TYPE, &[kind]);
+        let bytes = draft.bytes();
+        let command = upload(0, bytes.len() as u32);
+        let go = self.sent(session, Act::Receive(command), Type::UlGoResp);
+        self.begun[session - 1] = Some(Begun {
+            number: number(&go[..4]),
+            kind,
+            bytes,
+        });
+    }
+
+    fn end(&mut self, session: usize, begun: Begun) {
+        for part in begun.bytes.chunks(256) {
+            assert!(matches!(
+                self.call(session, Act::Receive(data(part))),
+                Answer::Quiet(_)
+            ));
+        }
+        self.sent(session, Act::Receive(data_end()), Type::UlAckResp);
+        self.complete.push(Complete {
+            number: begun.number,
+            kind: begun.kind,
+        });
+    }
+}
+
+/// A file as a client got it.
+#[derive(Clone, Copy, Debug, PartialEq, Eq)]
+struct Given {
+    number: u32,
+    kind: u8,
+    time: u32,
+}
+
+/// What a client wants: all kinds of file, or one.
+#[derive(Clone, Copy, Debug)]
+enum Wanted {
+    All,
+    Kind(u8),
+}
+
+impl Wanted {
+    fn equation(self) -> Vec<u8> {
+        match self {
+            Wanted::All => vec![0x83, 0x02, 0x00, 0x01, b'*'],
+            Wanted::Kind(kind) => vec![0x80, 0x08, 0x00, 0x01, kind],
+        }
+    }
+
+    fn has(self, kind: u8) -> bool {
+        match self {
+            Wanted::All => true,
+            Wanted::Kind(wanted) => wanted == kind,
+        }
+    }
+}
+
+struct Client {
+    session: usize,
+    wanted: Wanted,
+    given: Vec<Given>,
+    /// How many files of the page are still to be read, and whether it is the last page.
+    left: usize,
+    last: bool,
+    /// The files that were complete at the last SELECT.
+    complete: Vec<Complete>,
+    pages: usize,
+}
+
+impl Client {
+    fn new(session: usize, wanted: Wanted) -> Client {
+        Client {
+            session,
+            wanted,
+            given: Vec::new(),
+            left: 0,
+            last: false,
+            complete: Vec::new(),
+            pages: 0,
+        }
+    }
+
+    fn done(&self) -> bool {
+        self.last && self.left == 0
+    }
+
+    /// Asks for a page, or reads its next file.
+    fn step(&mut self, world: &mut World) {
+        match self.left {
+            0 => self.ask(world),
+            _ => self.read(world),
+        }
+    }
+
+    /// "from upload time 0, then again above each page's newest time .. until a page is shorter than MAXSEL"
+    fn ask(&mut self, world: &mut World) {
+        let newest = self.given.last().map_or(0, |file| file.time);
+        let mut equation = self.wanted.equation();
+        equation.extend([0x90, 0x12, 0x00, 0x04]);
+        equation.extend(newest.to_le_bytes());
+        equation.push(0x01);
+        let count = world.sent(
+            self.session,
+            Act::Receive(select(&equation)),
+            Type::SelectResp,
+        );
+        self.left = number(&count) as usize;
+        self.last = self.left < world.pair.second.sizes.maxsel;
+        self.complete.clone_from(&world.complete);
+        self.pages += 1;
+    }
+
+    /// Downloads the next selected file and learns its number and upload time from it.
+    fn read(&mut self, world: &mut World) {
+        let quiet = world.call(self.session, Act::Receive(download(0, 0, 0)));
+        assert!(matches!(quiet, Answer::Quiet(_)), "{quiet:?}");
+        let file = world.sent(self.session, Act::Request, Type::Data);
+        world.sent(self.session, Act::Request, Type::DataEnd);
+        world.sent(self.session, Act::Receive(ack(0)), Type::DlCompletedResp);
+        let item = |id| number(header::first(&file, id).expect("a mandatory item"));
+        self.given.push(Given {
+            number: item(header::FILE_NUMBER),
+            kind: item(header::FILE_TYPE) as u8,
+            time: item(header::UPLOAD_TIME),
+        });
+        self.left -= 1;
+    }
+
+    /// "has been given every matching file complete by then once, oldest first"
+    fn check(&self) {
+        let matching = self
+            .complete
+            .iter()
+            .filter(|file| self.wanted.has(file.kind));
+        let want: Vec<Complete> = matching.copied().collect();
+        let complete = |file: &Given| Complete {
+            number: file.number,
+            kind: file.kind,
+        };
+        let got: Vec<Complete> = self.given.iter().map(complete).collect();
+        assert_eq!(got, want, "{:?}", self.wanted);
+        assert!(self.given.windows(2).all(|two| two[0].time < two[1].time));
+    }
+}
+
+/// What a run of four clients came to.
+#[derive(Clone, Copy, Debug, Default)]
+pub struct Read {
+    pub pages: usize,
+    pub files: usize,
+    /// files that became complete while a client was reading
+    pub meanwhile: usize,
+}
+
+/// Uploads files up to `first`, then lets four clients read them page by page while the store is filled on.
+pub fn run(maxsel: usize, files: usize, first: usize, random: Random) -> Read {
+    let sizes = Sizes {
+        blocks: files,
+        files,
+        sessions: 4,
+        maxsel,
+    };
+    let mut world = World::new(sizes, random);
+    while world.complete.len() < first {
+        let session = world.random.between(1, 4);
+        world.upload(session);
+    }
+    let wanted = [Wanted::All, Wanted::All, Wanted::Kind(0), Wanted::Kind(2)];
+    let mut clients: Vec<Client> = (1..)
+        .zip(wanted)
+        .map(|(session, wanted)| Client::new(session, wanted))
+        .collect();
+    while clients.iter().any(|client| !client.done()) {
+        let at = world.random.below(4);
+        if world.random.chance(1, 3) {
+            world.upload(at + 1);
+        }
+        if !clients[at].done() {
+            clients[at].step(&mut world);
+        }
+    }
+    clients.iter().for_each(Client::check);
+    Read {
+        pages: clients.iter().map(|client| client.pages).sum(),
+        files: clients.iter().map(|client| client.given.len()).sum(),
+        meanwhile: world.complete.len() - first,
+    }
+}
