@@ -5,3 +5,7 @@ pub mod Unique
 pub mod Cut
 pub mod Feeding
 pub mod Demand2
+pub mod Events
+pub mod Effect
+pub mod Accepted
+pub mod Demand3

@@ -1,0 +1,125 @@
+-- Lists that grow at their end, and sums in which one entry changes.
+use mathlib.Core.Path.{_≡_, refl, sym, ap, _∙_}
+use mathlib.Core.List.{List, [], _∷_, _++_}
+use mathlib.Core.Logic.{_⊎_, inl, inr}
+use Prim.Native.Nat.{ℕ, zero, suc, _+_, _≤_, _<_}
+use native.Mathlib.Omega.{arith}
+use lib.ListN.{length, getD, length-append, List·getD-append}
+use lib.Seq.{getD-append-seam}
+use Rattle.blocks.proofs.Bits.{by-eq, by-lt, sumTo, count-ext}
+use Rattle.demands.specs.Accepted.{total, fromOne, Completion, completion, lastFrom, times}
+use Rattle.demands.specs.Demand3.{Rising, Listed}
+
+-- ---- at the end of a list
+
+module _ {A : Type 0} (d : A) (xs : List A) (x : A) where
+  pub snoc-length : length (xs ++ x ∷ []) ≡ length xs + 1
+  snoc-length = length-append xs (x ∷ [])
+
+  pub snoc-old : (i : ℕ) → i < length xs → getD (xs ++ x ∷ []) i d ≡ getD xs i d
+  snoc-old i h = List·getD-append xs (x ∷ []) d i h
+
+  pub snoc-new : (i : ℕ) → i < length (xs ++ x ∷ []) → length xs ≤ i → (i ≡ length xs) × (getD (xs ++ x ∷ []) i d ≡ x)
+  snoc-new i h k =
+      let e : i ≡ length xs = omega (arith, snoc-length) in
+      (e, ap (λ (j : ℕ). getD (xs ++ x ∷ []) j d) e ∙ getD-append-seam xs x [] d)
+
+-- ---- rising lists
+
+abbrev pub Bounded : ℕ → List ℕ → Type 0
+Bounded b xs = (i : ℕ) → i < length xs → getD xs i 0 ≤ b
+
+pub rising-snoc : (b x : ℕ) (xs : List ℕ) → Rising xs → Bounded b xs → b < x → Rising (xs ++ x ∷ [])
+rising-snoc b x xs r u h i j l k =
+    by-lt j (length xs)
+    (λ w. rw (snoc-old 0 xs x i (omega arith), snoc-old 0 xs x j w) (r i j l w))
+    (λ w.
+    let e = snoc-new 0 xs x j k w in
+    rw (e .1, snoc-old 0 xs x i (omega (arith, e .0))) (omega (arith, u i (omega (arith, e .0)))))
+
+pub bounded-snoc : (b x : ℕ) (xs : List ℕ) → Bounded b xs → b ≤ x → Bounded x (xs ++ x ∷ [])
+bounded-snoc b x xs u h i k =
+    by-lt i (length xs)
+    (λ w. rw (snoc-old 0 xs x i w) (omega (arith, u i w)))
+    (λ w. rw (snoc-new 0 xs x i k w .1) (omega arith))
+
+-- ---- 1, 2, 3 and so on
+
+pub from-one-length : (n : ℕ) → length (fromOne n) ≡ n
+unfolding fromOne
+from-one-length zero = refl
+from-one-length (suc n) = omega (arith, snoc-length 0 (fromOne n) (suc n), from-one-length n)
+
+pub from-one-rising : (n : ℕ) → Rising (fromOne n) × Bounded n (fromOne n)
+unfolding fromOne
+from-one-rising zero = ((λ i j l h. absurd (omega arith)), (λ i h. absurd (omega arith)))
+from-one-rising (suc n) =
+    let r = from-one-rising n in
+    (rising-snoc n (suc n) (fromOne n) (r .0) (r .1) (omega arith), bounded-snoc n (suc n) (fromOne n) (r .1) (omega arith))
+
+-- ---- completions
+
+pub times-snoc : (cs : List Completion) (c : Completion) → times (cs ++ c ∷ []) ≡ times cs ++ c .time ∷ []
+times-snoc [] c = refl
+times-snoc (x ∷ cs) c = ap (λ (ts : List ℕ). x .time ∷ ts) (times-snoc cs c)
+
+pub last-snoc : (t : ℕ) (cs : List Completion) (c : Completion) → lastFrom t (cs ++ c ∷ []) ≡ c .time
+unfolding lastFrom
+last-snoc t [] c = refl
+last-snoc t (x ∷ cs) c = last-snoc (x .time) cs c
+
+pub listed-old : (c x : Completion) (cs : List Completion) → Listed c cs → Listed c (cs ++ x ∷ [])
+listed-old c x cs l =
+    record {
+      index = l .index;
+      below = omega (arith, snoc-length (completion 0 0) cs x, l .below);
+      is = snoc-old (completion 0 0) cs x (l .index) (l .below) ∙ l .is;
+    }
+
+pub listed-new : (x : Completion) (cs : List Completion) → Listed x (cs ++ x ∷ [])
+listed-new x cs =
+    record {
+      index = length cs;
+      below = omega (arith, snoc-length (completion 0 0) cs x);
+      is = getD-append-seam cs x [] (completion 0 0);
+    }
+
+pub listed-split : (c x : Completion) (cs : List Completion) → Listed c (cs ++ x ∷ []) → Listed c cs ⊎ (x ≡ c)
+listed-split c x cs l =
+    by-lt (l .index) (length cs)
+    (λ w. inl (record { index = l .index; below = w; is = sym (snoc-old (completion 0 0) cs x (l .index) w) ∙ l .is }))
+    (λ w. inr (sym (snoc-new (completion 0 0) cs x (l .index) (l .below) w .1) ∙ l .is))
+
+-- ---- sums
+
+-- one entry changes
+pub sum-moves : (n : ℕ) (f g : ℕ → ℕ) (p : ℕ) → p < n → ((q : ℕ) → (q ≡ p → ⊥) → g q ≡ f q) → sumTo n g + f p ≡ sumTo n f + g p
+unfolding sumTo
+sum-moves zero f g p h e = absurd (omega arith)
+sum-moves (suc n) f g zero h e =
+    omega (arith, count-ext n (λ i. g (suc i)) (λ i. f (suc i)) (λ i l. e (suc i) (λ z. omega arith)))
+sum-moves (suc n) f g (suc p) h e =
+    omega (arith, e 0 (λ z. omega arith), sum-moves n (λ i. f (suc i)) (λ i. g (suc i)) p (omega arith) (λ q z. e (suc q) (λ y. z (omega arith))))
+
+pub sum-same : (n : ℕ) (f g : ℕ → ℕ) → ((q : ℕ) → g q ≡ f q) → sumTo n g ≡ sumTo n f
+sum-same n f g e = count-ext n g f (λ i l. e i)
+
+pub sum-zero : (n : ℕ) (f : ℕ → ℕ) → ((q : ℕ) → f q ≡ 0) → sumTo n f ≡ 0
+unfolding sumTo
+sum-zero zero f e = refl
+sum-zero (suc n) f e = omega (arith, e 0, sum-zero n (λ i. f (suc i)) (λ q. e (suc q)))
+
+pub total-same : (n : ℕ) (f g : ℕ → ℕ) → ((k : ℕ) → k ≤ n → g k ≡ f k) → total n g ≡ total n f
+unfolding total
+total-same zero f g e = refl
+total-same (suc n) f g e = omega (arith, total-same n f g (λ k h. e k (omega arith)), e (suc n) (omega arith))
+
+pub total-moves : (n : ℕ) (f g : ℕ → ℕ) (k : ℕ) → 1 ≤ k → k ≤ n → ((j : ℕ) → (j ≡ k → ⊥) → g j ≡ f j) → total n g + f k ≡ total n f + g k
+unfolding total
+total-moves zero f g k a b e = absurd (omega arith)
+total-moves (suc n) f g k a b e =
+    by-eq k (suc n)
+    (λ z.
+    let t = total-same n f g (λ j h. e j (λ y. omega arith)) in
+    rw z (omega arith))
+    (λ z. omega (arith, total-moves n f g k a (omega arith) e, e (suc n) (λ y. z (sym y))))
