@@ -1,2 +1,4 @@
 pub mod Doing
 pub mod Calling
+pub mod Printing
+pub mod Day
