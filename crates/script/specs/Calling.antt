@@ -7,7 +7,7 @@ use Rattle.server.specs.State.{Lent, lent, Outcome, outcome, doneWith}
 use Rattle.server.specs.Calls.{Opened, Lost, loginOf, receiveOf, requestOf, loseOf}
 use Rattle.script.specs.declared.doing.Doing.{Doing}
 use Rattle.script.specs.declared.doing.Doing.the-variants as doing
-use Rattle.script.specs.Doing.{bytesFrom}
+use Rattle.script.specs.Parts.{bytesFrom}
 
 -- "`rx`, session and hex bytes"
 unfoldable pub hearOf : Server → ℕ → ℕ → ℕ → ℕ → List ℕ → Lent → List ℕ → Outcome

@@ -1,13 +1,19 @@
 -- What a script is doing on a line, and what it does after an answer of the server (document 01, "The script program"). Assumes nothing.
 use mathlib.Core.Bool.{Bool, true, false, cond}
-use mathlib.Core.List.{List}
-use Prim.Native.Nat.{ℕ, _+_, _-_}
+use Prim.Native.Nat.{ℕ, _+_}
 use lib.Dec.{ltb}
-use lib.ListN.{take, drop}
 use Rattle.session.specs.declared.reply.Answer.{Answer}
 use Rattle.session.specs.declared.reply.Answer.the-variants as answer
 use Rattle.script.specs.declared.doing.Doing.{Doing}
 use Rattle.script.specs.declared.doing.Doing.the-variants as doing
+use Rattle.script.specs.Parts.{restOf}
+
+unfoldable pub restsOf : Doing → Bool
+restsOf doing.Rest = true
+restsOf (doing.Opening session) = false
+restsOf (doing.Dropping session) = false
+restsOf (doing.Hearing session at n) = false
+restsOf (doing.Pumping session) = false
 
 unfoldable pub sessionOf : Doing → ℕ
 sessionOf doing.Rest = 0
@@ -15,14 +21,6 @@ sessionOf (doing.Opening session) = session
 sessionOf (doing.Dropping session) = session
 sessionOf (doing.Hearing session at n) = session
 sessionOf (doing.Pumping session) = session
-
--- the line's bytes from a place on: n bytes are the line's, in a slice that may be longer, or shorter
-abbrev pub bytesFrom : ℕ → ℕ → List ℕ → List ℕ
-bytesFrom at n bytes = take (n - at) (drop at bytes)
-
--- how many these are, of `size` bytes lent
-unfoldable pub restOf : ℕ → ℕ → ℕ → ℕ
-restOf at n size = cond (ltb n size) (n - at) (size - at)
 
 -- a call takes one packet at most, so the line's other bytes follow in further calls; "It pumps downloads dry after each `rx`."
 unfoldable pub goesOn : ℕ → ℕ → ℕ → ℕ → ℕ → Doing

@@ -1,3 +1,5 @@
+pub mod Parts
+pub mod Input
 pub mod Doing
 pub mod Calling
 pub mod Printing

@@ -1,25 +1,12 @@
 // The server's call for what a script is doing.
 use crate::doing::Doing;
+use crate::parts::least;
 use server::Done;
 use server::Server;
 use session::reply::Answer;
 ghost use mathlib.Core.Path.{_≡_};
-ghost use mathlib.Core.Bool.{cond};
-ghost use Prim.Native.Nat.{_≤_};
-ghost use lib.Dec.{ltb};
 ghost use Rattle.server.specs.State.{lent, outcome};
-ghost use Rattle.script.specs.Doing.{bytesFrom};
 ghost use Rattle.script.specs.Calling.{hearOf, callOf};
-
-// The smaller of two numbers.
-fn least(a: usize, b: usize) -> usize
-    ensures { λ r. ⌜ (r ≤ a) × (r ≤ b) × (r ≡ cond (ltb a b) a b) ⌝ }
-{
-    if a < b {
-        return a;
-    }
-    b
-}
 
 // The line's bytes from a place on are handed over.
 fn hear(

@@ -1,7 +1,8 @@
 // What a script is doing on a line, and what it does after an answer of the server.
+use crate::parts::rest;
 use session::reply::Answer;
 ghost use mathlib.Core.Path.{_≡_};
-ghost use Rattle.script.specs.Doing.{sessionOf, restOf, goesOn, heardOn, pumpedOn, afterOf};
+ghost use Rattle.script.specs.Doing.{sessionOf, restsOf, goesOn, heardOn, pumpedOn, afterOf};
 
 // Nothing; or opening or dropping a session's link, handing over the bytes of a line from a place to their number, or asking for what is due.
 pub enum Doing {
@@ -10,6 +11,19 @@ pub enum Doing {
     Dropping(u32),
     Hearing(u32, usize, usize),
     Pumping(u32),
+}
+
+// Whether nothing is being done.
+pub fn rests(doing: Doing) -> bool
+    ensures { λ r. ⌜ r ≡ restsOf doing ⌝ }
+{
+    match doing {
+        Doing::Rest => true,
+        Doing::Opening(_) => false,
+        Doing::Dropping(_) => false,
+        Doing::Hearing(_, _, _) => false,
+        Doing::Pumping(_) => false,
+    }
 }
 
 // The session that it is done for, 0 for none.
@@ -23,22 +37,6 @@ pub fn session_of(doing: Doing) -> u32
         Doing::Hearing(session, _, _) => session,
         Doing::Pumping(session) => session,
     }
-}
-
-// How many of the line's bytes are left from a place on, of `size` bytes lent.
-pub fn rest(at: usize, n: usize, size: usize) -> usize
-    ensures { λ r. ⌜ r ≡ restOf at n size ⌝ }
-{
-    if n < size {
-        if at < n {
-            return n - at;
-        }
-        return 0;
-    }
-    if at < size {
-        return size - at;
-    }
-    0
 }
 
 // The next bytes of the line, or, with none left, what is due.

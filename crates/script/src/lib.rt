@@ -4,6 +4,8 @@
 // answer, whatever it is handed; the contracts say what the call was, what it left and what was printed.
 mod calling;
 pub mod doing;
+pub mod input;
+pub mod parts;
 mod printing;
 
 use doing::Doing;

@@ -4,9 +4,9 @@ use Rattle.script.proofs.calling.hear.Statement.{statement}
 use Rattle.script.proofs.calling.hear.Tie as tie
 use Rattle.script.proofs.calling.hear.Reads as reads
 use Rattle.script.proofs.calling.hear.Lts as lts
-use Rattle.script.proofs.calling.least.Reads as least-reads
+use Rattle.script.proofs.parts.least.Reads as least-reads
 use Rattle.server.proofs.receive.Reads as receive-reads
-use Rattle.script.proofs.Parts.{hear-part}
+use Rattle.script.proofs.PartLaws.{hear-part}
 
 -- src/calling.rt:43:9
 least-requires : tie.Need-least-requires

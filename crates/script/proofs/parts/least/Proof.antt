@@ -1,7 +1,7 @@
-use Rattle.script.proofs.calling.least.Statement.{statement}
-use Rattle.script.proofs.calling.least.Tie as tie
-use Rattle.script.proofs.calling.least.Reads as reads
-use Rattle.script.proofs.calling.least.Lts as lts
+use Rattle.script.proofs.parts.least.Statement.{statement}
+use Rattle.script.proofs.parts.least.Tie as tie
+use Rattle.script.proofs.parts.least.Reads as reads
+use Rattle.script.proofs.parts.least.Lts as lts
 use native.Mathlib.Omega.{arith}
 use borrow.Author.Tests.{lt-ltb, le-ltb}
 

@@ -1,11 +1,11 @@
 use borrow.Author.Needs.{needs}
-use Rattle.script.proofs.doing.rest.Statement.{statement}
-use Rattle.script.proofs.doing.rest.Tie as tie
-use Rattle.script.proofs.doing.rest.Reads as reads
-use Rattle.script.proofs.doing.rest.Lts as lts
+use Rattle.script.proofs.parts.rest.Statement.{statement}
+use Rattle.script.proofs.parts.rest.Tie as tie
+use Rattle.script.proofs.parts.rest.Reads as reads
+use Rattle.script.proofs.parts.rest.Lts as lts
 use native.Mathlib.Omega.{arith}
 use borrow.Author.Tests.{lt-ltb, le-ltb}
-use Rattle.script.specs.Doing.{restOf}
+use Rattle.script.specs.Parts.{restOf}
 
 -- src/doing.rt:34:20
 sub-result : tie.Need-sub-result

@@ -6,12 +6,12 @@ use mathlib.Core.List.{List, []}
 use Prim.Native.Nat.{ℕ, _+_, _-_, _≤_, _<_}
 use lib.Dec.{ltb}
 use lib.ListN.{length, take, drop, length-drop, drop-of-length-le}
-use lib.Seq.{take-all, take-nil, drop-length}
+use lib.Seq.{take-all, take-nil, drop-length, length-take-le}
 use borrow.Author.Tests.{ltb-true, ltb-false}
 use Rattle.server.specs.declared.Server.{Server}
 use Rattle.server.specs.State.{Lent}
 use Rattle.server.specs.Calls.{receiveOf}
-use Rattle.script.specs.Doing.{restOf, bytesFrom}
+use Rattle.script.specs.Parts.{restOf, bytesFrom}
 use Rattle.script.specs.Calling.{hearOf}
 
 -- a part of the rest ends before the line's bytes do
@@ -54,3 +54,46 @@ pub hear-part : (sv : Server) (clock session at n : ℕ) (bytes : List ℕ) (l :
     → receiveOf sv l out session clock (take (e - a) (drop a bytes)) ≡ hearOf sv clock session at n bytes l out
 unfolding hearOf
 hear-part sv clock session at n bytes l out e a p q = ap (λ (b : List ℕ). receiveOf sv l out session clock b) (bytes-part bytes at n e a p q)
+
+-- the same part by its beginning and its size
+pub rest-room : (bytes : List ℕ) (at end r a : ℕ) → r ≡ restOf at end (length bytes) → a ≡ cond (ltb at (length bytes)) at (length bytes)
+    → a + r ≤ length bytes
+unfolding restOf
+rest-room bytes at end r a p q = go (ltb end (length bytes)) refl p (ltb at (length bytes)) refl q
+  where
+    go : (t : Bool) → ltb end (length bytes) ≡ t → r ≡ cond t (end - at) (length bytes - at) → (u : Bool) → ltb at (length bytes) ≡ u
+        → a ≡ cond u at (length bytes) → a + r ≤ length bytes
+    go true f g true i j = omega (arith, ltb-true end (length bytes) f, ltb-true at (length bytes) i)
+    go true f g false i j = omega (arith, ltb-true end (length bytes) f, ltb-false at (length bytes) i)
+    go false f g true i j = omega (arith, ltb-false end (length bytes) f, ltb-true at (length bytes) i)
+    go false f g false i j = omega (arith, ltb-false end (length bytes) f, ltb-false at (length bytes) i)
+
+pub rest-part : (bytes : List ℕ) (at end r a : ℕ) → r ≡ restOf at end (length bytes) → a ≡ cond (ltb at (length bytes)) at (length bytes)
+    → take r (drop a bytes) ≡ bytesFrom at end bytes
+unfolding restOf
+rest-part bytes at end r a p q = go (ltb end (length bytes)) refl p (ltb at (length bytes)) refl q
+  where
+    go : (t : Bool) → ltb end (length bytes) ≡ t → r ≡ cond t (end - at) (length bytes - at) → (u : Bool) → ltb at (length bytes) ≡ u
+        → a ≡ cond u at (length bytes) → take r (drop a bytes) ≡ bytesFrom at end bytes
+    go true f g true i j = rw (g, j)
+    go true f g false i j = rw j (past-end r (end - at) at bytes (ltb-false at (length bytes) i))
+    go false f g true i j =
+        rw j (take-past r (end - at) at bytes (omega (arith, ltb-true at (length bytes) i)) (omega (arith, ltb-false end (length bytes) f)))
+    go false f g false i j = rw j (past-end r (end - at) at bytes (ltb-false at (length bytes) i))
+
+pub rest-length : (bytes : List ℕ) (at end r a : ℕ) → r ≡ restOf at end (length bytes) → a ≡ cond (ltb at (length bytes)) at (length bytes)
+    → length (bytesFrom at end bytes) ≡ r
+rest-length bytes at end r a p q =
+    ap (λ (l : List ℕ). length l) (sym (rest-part bytes at end r a p q))
+    ∙ length-take-le r (drop a bytes) (omega (arith, length-drop a bytes, rest-room bytes at end r a p q))
+
+-- the size of a part whose places are cut to what is lent
+pub part-length : (bytes : List ℕ) (at n e a : ℕ) → e ≡ cond (ltb n (length bytes)) n (length bytes) → a ≡ cond (ltb at e) at e
+    → e - a ≡ length (bytesFrom at n bytes)
+part-length bytes at n e a p q =
+    sym (length-take-le (e - a) (drop a bytes) (omega (arith, length-drop a bytes, ends (ltb n (length bytes)) refl p)))
+    ∙ ap (λ (l : List ℕ). length l) (bytes-part bytes at n e a p q)
+  where
+    ends : (t : Bool) → ltb n (length bytes) ≡ t → e ≡ cond t n (length bytes) → e ≤ length bytes
+    ends true f g = omega (arith, ltb-true n (length bytes) f)
+    ends false f g = omega arith
