@@ -9,7 +9,7 @@ pub mod parts;
 mod printing;
 
 use doing::Doing;
-use lines::Command;
+use lines::read::Command;
 use server::Server;
 ghost use mathlib.Core.Path.{_≡_};
 ghost use Prim.Native.Nat.{_≤_};
