@@ -1,0 +1,5 @@
+pub mod TextLaws
+pub mod Writing
+pub mod LineLaws
+pub mod NumeralLaws
+pub mod FieldLaws

@@ -1,0 +1,71 @@
+use borrow.Author.Needs.{needs}
+use Rattle.lines.proofs.print.error_line.Statement.{statement}
+use Rattle.lines.proofs.print.error_line.Tie as tie
+use Rattle.lines.proofs.print.error_line.Reads as reads
+use Rattle.lines.proofs.print.error_line.Lts as lts
+use Rattle.lines.proofs.write.put_decimal.Reads as put-decimal-reads
+use Rattle.lines.proofs.write.width.Reads as width-reads
+use Rattle.packet.proofs.bytes.store.Reads as store-reads
+use native.Mathlib.Omega.{arith}
+use mathlib.Core.Path.{_≡_, refl, ap, sym, _∙_}
+use lib.ListN.{length, length-set}
+use Rattle.packet.specs.Names.{bytesOf}
+use Rattle.lines.proofs.TextLaws.{digits-most}
+use Rattle.lines.proofs.Writing.{printed-none}
+use Rattle.lines.proofs.LineLaws.{error-size, error-written}
+
+-- src/print.rt:51:9
+width-requires : tie.Need-width-requires
+width-requires c κs = search needs
+
+-- src/print.rt:52:16
+add-size : tie.Need-add-size
+add-size c = omega (arith, digits-most (c .before .before .args .number) (omega arith))
+
+-- src/print.rt:54:9
+returns : tie.Need-returns
+returns c = printed-none _ (c .before .before .before .args .text .now) (omega (arith, error-size (c .before .before .before .args .number)))
+
+-- src/print.rt:56:20
+slice-aggregate-store : tie.Need-slice-aggregate-store
+slice-aggregate-store c = search needs
+
+-- src/print.rt:56:5
+store-requires : tie.Need-store-requires
+store-requires c κs = search needs
+
+-- src/print.rt:57:5
+put-decimal-requires : tie.Need-put-decimal-requires
+put-decimal-requires c κs = search needs
+
+-- src/print.rt:58:10
+sub-text : tie.Need-sub-text
+sub-text c = search needs
+
+-- src/print.rt:58:5
+slice-write-text : tie.Need-slice-write-text
+slice-write-text c = search needs
+
+-- src/print.rt:48:1
+same-length : tie.Need-same-length
+same-length c = simp length-set (omega (arith, c .before .before .put-decimal .kept .0, c .before .before .before .before .before .before .store .kept .0))
+
+-- src/print.rt:48:1
+returns-2 : tie.Need-returns-2
+unfolding bytesOf
+returns-2 c = error-written (c .before .before .before .before .before .before .before .before .before .before .before .before .args .number) (c .before .before .before .before .before .before .before .before .before .before .width .result) (c .before .before .before .before .before .before .before .before .before .before .before .before .args .text .now) _ (c .before .before .put-decimal .last .0) (omega arith) (omega arith) (c .before .before .before .before .before .before .store .ensures .1) (c .before .before .put-decimal .ensures)
+
+pub error-line-spec : {M : Type 1} → statement M
+error-line-spec =
+    tie.close
+    (tie.spec
+    width-requires
+    add-size
+    returns
+    slice-aggregate-store
+    store-requires
+    put-decimal-requires
+    sub-text
+    slice-write-text
+    same-length
+    returns-2)

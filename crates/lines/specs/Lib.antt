@@ -1,0 +1,5 @@
+pub mod Text
+pub mod Lines
+pub mod Numerals
+pub mod Commands
+pub mod Reading

@@ -1,0 +1,134 @@
+// Decimal and hex numbers read at a place of a line.
+ghost use mathlib.Core.Path.{_≡_};
+ghost use mathlib.Core.Bool.{true};
+ghost use Prim.Native.Nat.{_≤_, _<_};
+ghost use lib.ListN.{length, drop};
+ghost use lib.Dec.{eqb};
+ghost use mathlib.Core.Bool.{cond};
+ghost use lib.Seq.{sets};
+ghost use Rattle.lines.specs.Numerals.{digit, decimalAt, hexValue, isHex, bytesIn, hexRead, hexIn};
+
+// A decimal number that was read: its value and the place behind its last digit. Bad where no digit stands there or 32 bits are passed.
+pub enum Digits {
+    Bad,
+    Value(u32, usize),
+}
+
+// How many bytes were read from hex. Bad where other than pairs of digits stand there, or the bytes do not fit.
+pub enum Pairs {
+    Bad,
+    Bytes(usize),
+}
+
+// A byte is a decimal digit.
+fn is_digit(b: u8) -> bool
+    ensures { λ r. ⌜ r ≡ digit b ⌝ }
+{
+    if b < 48 { false } else { b < 58 }
+}
+
+// A value with the place behind its digits, which began at `at`.
+fn ended(value: u64, at: usize, end: usize) -> Digits
+    requires { ⌜ value ≤ 4294967295 ⌝ }
+    ensures { λ r. ⌜ r ≡ cond (eqb at end) Digits.Bad (Digits.Value value end) ⌝ }
+{
+    if at == end {
+        Digits::Bad
+    } else {
+        Digits::Value(value as u32, end)
+    }
+}
+
+// The decimal number at a place: as many digits as stand there.
+pub fn decimal(line: &[u8], at: usize) -> Digits
+    ensures { λ r. ⌜ r ≡ decimalAt (now (line .entry)) at ⌝ }
+{
+    let mut value: u64 = 0;
+    let mut i = at;
+    while i < line.len() {
+        let b = line[i];
+        if is_digit(b) {
+            value = 10 * value + (b - 48) as u64;
+            if 4294967295 < value {
+                return Digits::Bad;
+            }
+            i += 1;
+        } else {
+            return ended(value, at, i);
+        }
+    }
+    ended(value, at, i)
+}
+
+// The value of a lower-case hex digit, 16 for any other byte.
+fn hex_value(b: u8) -> u8
+    ensures { λ r. ⌜ r ≡ hexValue b ⌝ }
+{
+    if b < 48 {
+        return 16;
+    }
+    if b < 58 {
+        return b - 48;
+    }
+    if b < 97 {
+        return 16;
+    }
+    if b < 103 {
+        return b - 87;
+    }
+    16
+}
+
+// From a place to the end of the line stand pairs of hex digits.
+fn has_pairs(line: &[u8], at: usize) -> bool
+    ensures { λ r. ⌜ r ≡ isHex (drop at (now (line .entry))) ⌝ }
+{
+    let mut i = at;
+    while i < line.len() {
+        if line.len() - i < 2 {
+            return false;
+        }
+        if 15 < hex_value(line[i]) {
+            return false;
+        }
+        if 15 < hex_value(line[i + 1]) {
+            return false;
+        }
+        i += 2;
+    }
+    true
+}
+
+// Writes the bytes of the pairs of hex digits from a place on to the front of `bytes`.
+fn put_pairs(line: &[u8], at: usize, bytes: &mut [u8])
+    requires { ⌜ isHex (drop at (now line)) ≡ true ⌝ }
+    requires { ⌜ length (bytesIn (drop at (now line))) ≤ length (now bytes) ⌝ }
+    ensures { λ _. ⌜ now (bytes .exit) ≡ sets (now (bytes .entry)) 0 (bytesIn (drop at (now (line .entry)))) ⌝ }
+{
+    let mut i = at;
+    let mut k = 0;
+    while i < line.len() {
+        bytes[k] = 16 * hex_value(line[i]) + hex_value(line[i + 1]);
+        i += 2;
+        k += 1;
+    }
+}
+
+// Reads the pairs of hex digits from a place to the end of the line: their bytes stand at the front of `bytes`, or nothing has changed.
+pub fn hex(line: &[u8], at: usize, bytes: &mut [u8]) -> Pairs
+    ensures { λ r. ⌜ hexRead r (now (bytes .exit)) ≡ hexIn (drop at (now (line .entry))) (now (bytes .entry)) ⌝ }
+{
+    if line.len() <= at {
+        return Pairs::Bytes(0);
+    }
+    let count = (line.len() - at) / 2;
+    if bytes.len() < count {
+        return Pairs::Bad;
+    }
+    if has_pairs(line, at) {
+        put_pairs(line, at, bytes);
+        Pairs::Bytes(count)
+    } else {
+        Pairs::Bad
+    }
+}
