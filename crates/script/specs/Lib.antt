@@ -4,3 +4,4 @@ pub mod Doing
 pub mod Calling
 pub mod Printing
 pub mod Day
+pub mod Line

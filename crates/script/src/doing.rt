@@ -27,7 +27,7 @@ pub fn rests(doing: Doing) -> bool
 }
 
 // The session that it is done for, 0 for none.
-pub fn session_of(doing: Doing) -> u32
+pub(crate) fn session_of(doing: Doing) -> u32
     ensures { λ r. ⌜ r ≡ sessionOf doing ⌝ }
 {
     match doing {
@@ -74,7 +74,7 @@ fn pumped_on(session: u32, answer: Answer) -> Doing
 }
 
 // What is done after an answer, with `size` bytes lent.
-pub fn after(doing: Doing, answer: Answer, size: usize) -> Doing
+pub(crate) fn after(doing: Doing, answer: Answer, size: usize) -> Doing
     ensures { λ r. ⌜ r ≡ afterOf doing answer size ⌝ }
 {
     match doing {

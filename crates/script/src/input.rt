@@ -66,9 +66,9 @@ pub fn find_line(input: &[u8], from: usize, end: usize, ended: bool) -> Found
 pub fn read_line(input: &[u8], from: usize, end: usize, bytes: &mut [u8]) -> Command
     ensures { λ r. ⌜ reads r (now (bytes .exit)) ≡ readOf (bytesFrom from end (now (input .entry))) (now (bytes .entry)) ⌝ }
 {
-    let e = least(end, input.len());
-    let a = least(from, e);
-    lines::read::read(&input[a..e], bytes)
+    let stop = least(end, input.len());
+    let start = least(from, stop);
+    lines::read::read(&input[start..stop], bytes)
 }
 
 // Moves n bytes from a place to the front.

@@ -144,5 +144,7 @@ pub fn step(
 pub fn blocks(map: &[u64], owner: &[u16], text: &mut [u8]) -> usize
     ensures { λ r. ⌜ printed r (now (text .exit)) ≡ printedIn (blocksLine (freeCount (take 64 (now (map .entry)))) (heldCount (now (owner .entry)))) (now (text .entry)) ⌝ }
 {
-    lines::print::blocks_line(blocks::free_count(map), blocks::held_count(owner), text)
+    let free = blocks::free_count(map);
+    let held = blocks::held_count(owner);
+    lines::print::blocks_line(free, held, text)
 }
