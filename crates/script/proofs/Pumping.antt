@@ -97,9 +97,15 @@ pub file-most : (sv : Server) (l : Lent) (place : ℕ) → soundParts sv (l .map
 unfolding soundParts
 file-most sv l place e p q n =
     let s = sound-facts (take (words (sv .blocks)) (l .map)) (take (sv .blocks) (l .owner)) (take (4 * sv .files) (l .table)) (sv .last .number)
-      (sv .last .time) (sound-both _ _ e .0) in
-    omega (arith, file-room (take (words (sv .blocks)) (l .map)) (take (sv .blocks) (l .owner)) (take (4 * sv .files) (l .table)) (sv .last .number)
-      (sv .last .time) s place n, blocks-le (place + 1) (take (sv .blocks) (l .owner)), length-take-le (sv .blocks) (l .owner) q, p)
+    (sv .last .time) (sound-both _ _ e .0) in
+    omega (
+      arith,
+      file-room (take (words (sv .blocks)) (l .map)) (take (sv .blocks) (l .owner)) (take (4 * sv .files) (l .table)) (sv .last .number)
+          (sv .last .time) s place n,
+      blocks-le (place + 1) (take (sv .blocks) (l .owner)),
+      length-take-le (sv .blocks) (l .owner) q,
+      p,
+    )
 
 -- ---- what is left to send
 
@@ -180,7 +186,7 @@ down-most (down.Aborting place) fs c = omega arith
 abbrev pub leftIn : Server → Lent → ℕ → ℕ
 leftIn sv l session = leftOf (files (tablePart sv l)) (linkOf sv (session - 1) .down)
 
-in-open : (linked : Bool) → inState true linked ≡ true → linked ≡ true
+pub in-open : (linked : Bool) → inState true linked ≡ true → linked ≡ true
 unfolding inState
 in-open linked e = e
 
@@ -201,21 +207,21 @@ countable sv l session i out e =
     let f = link-facts sv l i (t .sound) (p .index) (in-open (linkOf sv i .linked) (t .state)) in
     record {
       counted = λ place offset sent q. file-most sv l place (t .sound) (p .sizes .blocks) (p .room .owner)
-        (f .sending place offset sent q .complete .number);
+          (f .sending place offset sent q .complete .number);
     }
 
 less-link : (sv : Server) (l : Lent) (session i : ℕ) (s : Session) → i ≡ session - 1 → i < length (sv .links)
     → leftOf (files (tablePart sv l)) (s .down) < leftOf (files (tablePart sv l)) (linkOf sv i .down) → leftIn (withLink sv i s) l session < leftIn sv l session
 less-link sv l session i s e p q =
     let a : linkOf (withLink sv i s) (session - 1) ≡ s
-      = ap (λ (k : ℕ). getD (set (sv .links) i s) k closedSession) (sym e) ∙ getD-set-same (sv .links) i s closedSession p in
+    = ap (λ (k : ℕ). getD (set (sv .links) i s) k closedSession) (sym e) ∙ getD-set-same (sv .links) i s closedSession p in
     let b : leftIn (withLink sv i s) l session ≡ leftOf (files (tablePart sv l)) (s .down)
-      = ap (λ (x : Session). leftOf (files (tablePart sv l)) (x .down)) a in
+    = ap (λ (x : Session). leftOf (files (tablePart sv l)) (x .down)) a in
     let d : leftIn sv l session ≡ leftOf (files (tablePart sv l)) (linkOf sv i .down)
-      = ap (λ (k : ℕ). leftOf (files (tablePart sv l)) (linkOf sv k .down)) (sym e) in
+    = ap (λ (k : ℕ). leftOf (files (tablePart sv l)) (linkOf sv k .down)) (sym e) in
     omega (arith, b, d, q)
 
-request-less : (sv : Server) (l : Lent) (out : List ℕ) (session : ℕ) (c : Check) → checkOf sv l session true (length out) ≡ c → (t n : ℕ)
+pub request-less : (sv : Server) (l : Lent) (out : List ℕ) (session : ℕ) (c : Check) → checkOf sv l session true (length out) ≡ c → (t n : ℕ)
     → onRequest c sv l out .done .answer ≡ answer.Sent t n → leftIn (onRequest c sv l out .done .server) l session < leftIn sv l session
 unfolding onRequest dueAs
 request-less sv l out session (Refuse k) e t n f = let z : _≡_ {A = ℕ} 0 1 = cc in absurd (omega arith)
@@ -231,5 +237,5 @@ pub left-most : (sv : Server) (l : Lent) (session i out : ℕ) → checkOf sv l 
 left-most sv l session i out e =
     let c = countable sv l session i out e in
     let d : leftIn sv l session ≡ leftOf (files (tablePart sv l)) (linkOf sv i .down)
-      = ap (λ (k : ℕ). leftOf (files (tablePart sv l)) (linkOf sv k .down)) (sym (through sv l session out i true e .index)) in
+    = ap (λ (k : ℕ). leftOf (files (tablePart sv l)) (linkOf sv k .down)) (sym (through sv l session out i true e .index)) in
     omega (arith, d, down-most (linkOf sv i .down) (files (tablePart sv l)) c)
