@@ -6,7 +6,8 @@ use Rattle.script.proofs.printing.show.Lts as lts
 use Rattle.lines.proofs.print.closed_line.Reads as closed-line-reads
 use Rattle.lines.proofs.print.refused_line.Reads as refused-line-reads
 use Rattle.script.proofs.printing.show_packet.Reads as show-packet-reads
-use Rattle.script.specs.Printing.{showOf}
+use Rattle.script.specs.Printing.{lineFor, showOf}
+use Rattle.script.proofs.Written.{no-line}
 
 -- src/printing.rt:23:29
 enum-told : tie.Need-enum-told
@@ -38,8 +39,8 @@ refused-line-requires c κs = search needs
 
 -- src/printing.rt:19:1
 returns : tie.Need-returns
-unfolding showOf
-returns c = rw (c .enum-told .given .1)
+unfolding showOf lineFor
+returns c = rw (c .enum-told .given .1) (no-line _)
 
 -- src/printing.rt:19:1
 same-length : tie.Need-same-length
@@ -47,7 +48,7 @@ same-length c = search needs
 
 -- src/printing.rt:19:1
 returns-2 : tie.Need-returns-2
-unfolding showOf
+unfolding showOf lineFor
 returns-2 c = rw (c .before .before .before .before .before .answer .given .1) (c .before .before .show-packet .ensures)
 
 -- src/printing.rt:19:1
@@ -56,7 +57,7 @@ same-length-2 c = search needs
 
 -- src/printing.rt:19:1
 returns-3 : tie.Need-returns-3
-unfolding showOf
+unfolding showOf lineFor
 returns-3 c = rw (c .before .before .before .before .enum-told2 .given .1) (c .before .before .closed-line .ensures)
 
 -- src/printing.rt:19:1
@@ -65,7 +66,7 @@ same-length-3 c = search needs
 
 -- src/printing.rt:19:1
 returns-4 : tie.Need-returns-4
-unfolding showOf
+unfolding showOf lineFor
 returns-4 c = rw (c .before .before .before .before .before .answer2 .given .1) (c .before .before .refused-line .ensures)
 
 pub show-spec : {M : Type 1} → statement M
