@@ -5,4 +5,3 @@ pub mod Calling
 pub mod Printing
 pub mod Day
 pub mod Line
-pub mod Script
