@@ -14,12 +14,13 @@ use Rattle.lines.specs.declared.numeral.Digits.{Digits}
 use Rattle.lines.specs.declared.numeral.Digits.the-variants as decimal
 use Rattle.lines.specs.declared.numeral.Pairs.{Pairs}
 use Rattle.lines.specs.declared.numeral.Pairs.the-variants as hex
-use Rattle.lines.specs.declared.read.Number.{Number}
-use Rattle.lines.specs.declared.read.Number.the-variants as number
-use Rattle.lines.specs.declared.read.Command.{Command}
-use Rattle.lines.specs.declared.read.Command.the-variants.{Unreadable, Time, Open, Drop, Rx}
+use Rattle.lines.specs.declared.commands.Number.{Number}
+use Rattle.lines.specs.declared.commands.Number.the-variants as number
+use Rattle.lines.specs.declared.commands.Command.{Command}
+use Rattle.lines.specs.declared.commands.Command.the-variants.{Unreadable, Time, Open, Drop, Rx}
 use Rattle.lines.specs.Numerals.{digit, digits, valueFrom, decimalBy, decimalAt, hexValue, isHex, bytesIn, HexRead, hexRead, hexIn}
-use Rattle.lines.specs.Commands.{onto, fieldsOf, same, endsAt, numberIn, commandOfTwo, commandOfThree, commandOfFields, commandOf, rxBytes, Reads, reads, readBy, readOf}
+use Rattle.lines.specs.Commands.{onto, fieldsOf, same, endsAt, numberIn, commandOfTwo, commandOfThree, commandOfFields}
+use Rattle.lines.specs.Commands.{commandOf, rxBytes, Reads, reads, readBy, readOf}
 use Rattle.lines.specs.Reading.{field, fieldEnd, rxBy, rxRead}
 
 -- ---- the end of a field, byte by byte
@@ -40,7 +41,8 @@ module _ (line : List ℕ) (i : ℕ) where
 -- ---- two texts, byte by byte
 
 module _ (x y : List ℕ) (i : ℕ) where
-  pub same-next : i < length x → i < length y → getD x i 0 ≡ getD y i 0 → same (drop (i + 1) x) (drop (i + 1) y) ≡ same (drop i x) (drop i y)
+  pub same-next : i < length x → i < length y → getD x i 0 ≡ getD y i 0
+      → same (drop (i + 1) x) (drop (i + 1) y) ≡ same (drop i x) (drop i y)
   unfolding same
   same-next h k e = rw (add-one i, drop-cons x i 0 h, drop-cons y i 0 k, eq-eqb (getD x i 0) (getD y i 0) e)
 
@@ -52,7 +54,7 @@ module _ (x y : List ℕ) (i : ℕ) where
   unfolding same
   same-end h k = rw (drop-of-length-le x h, drop-of-length-le y k)
 
-either : {A : Type 0} (t : Bool) (a : A) → cond t a a ≡ a
+pub either : {A : Type 0} (t : Bool) (a : A) → cond t a a ≡ a
 either true a = refl
 either false a = refl
 
@@ -63,10 +65,27 @@ same-lengths [] (y ∷ ys) ne = refl
 same-lengths (x ∷ xs) [] ne = refl
 same-lengths (x ∷ xs) (y ∷ ys) ne = rw (same-lengths xs ys (λ e. ne (ap suc e))) (either (eqb x y) false)
 
+-- texts are the same exactly where they are equal
+pub same-equal : (x y : List ℕ) → same x y ≡ true → x ≡ y
+unfolding same
+same-equal [] [] e = refl
+same-equal [] (y ∷ ys) e = let z : _≡_ {A = ℕ} 0 1 = cc in absurd (omega arith)
+same-equal (x ∷ xs) [] e = let z : _≡_ {A = ℕ} 0 1 = cc in absurd (omega arith)
+same-equal (x ∷ xs) (y ∷ ys) e = go (λ (k : same xs ys ≡ true). same-equal xs ys k) (eqb x y) refl e
+  where
+    go : (same xs ys ≡ true → xs ≡ ys) → (t : Bool) → eqb x y ≡ t → cond t (same xs ys) false ≡ true → x ∷ xs ≡ y ∷ ys
+    go others true p e = rw (eqb-true x y p, others e)
+    go others false p e = let z : _≡_ {A = ℕ} 0 1 = cc in absurd (omega arith)
+
+pub same-itself : (x : List ℕ) → same x x ≡ true
+unfolding same
+same-itself [] = refl
+same-itself (x ∷ xs) = rw (eq-eqb x x refl) (same-itself xs)
+
 -- ---- fields
 
 -- where no TAB is left, the rest is the last field
-last-field : (l : List ℕ) → length l ≤ length (field l) → fieldsOf l ≡ l ∷ []
+pub last-field : (l : List ℕ) → length l ≤ length (field l) → fieldsOf l ≡ l ∷ []
 unfolding fieldsOf field onto
 last-field [] h = refl
 last-field (b ∷ bs) h = go (λ (k : length bs ≤ length (field bs)). last-field bs k) (eqb b 9) h
@@ -77,7 +96,7 @@ last-field (b ∷ bs) h = go (λ (k : length bs ≤ length (field bs)). last-fie
     go others true h = absurd (omega arith)
     go others false h = rw (others (omega arith))
 
-more-fields : (l : List ℕ) → length (field l) < length l → fieldsOf l ≡ field l ∷ fieldsOf (drop (length (field l) + 1) l)
+pub more-fields : (l : List ℕ) → length (field l) < length l → fieldsOf l ≡ field l ∷ fieldsOf (drop (length (field l) + 1) l)
 unfolding fieldsOf field onto
 more-fields [] h = absurd (omega arith)
 more-fields (b ∷ bs) h = go (λ (k : length (field bs) < length bs). more-fields bs k) (eqb b 9) h
@@ -97,7 +116,8 @@ unfolding field
 field-front [] = refl
 field-front (b ∷ bs) = go (field-front bs) (eqb b 9)
   where
-    go : take (length (field bs)) bs ≡ field bs → (t : Bool) → take (length (cond t [] (b ∷ field bs))) (b ∷ bs) ≡ cond t [] (b ∷ field bs)
+    go : take (length (field bs)) bs ≡ field bs
+        → (t : Bool) → take (length (cond t [] (b ∷ field bs))) (b ∷ bs) ≡ cond t [] (b ∷ field bs)
     go others true = refl
     go others false = rw others
 
@@ -151,7 +171,7 @@ number-field line at =
 -- ---- hex
 
 -- TAB is no hex digit
-tab-no-hex : (l : List ℕ) → length (field l) < length l → isHex l ≡ false
+pub tab-no-hex : (l : List ℕ) → length (field l) < length l → isHex l ≡ false
 unfolding field isHex hexValue
 tab-no-hex [] h = absurd (omega arith)
 tab-no-hex (a ∷ []) h = refl
@@ -195,7 +215,10 @@ unfolding rxRead rxBy hexIn commandOfThree readBy
 three-read name v rest bytes = go (same name (bytesOf "rx")) (isHex rest) (leb (length (bytesIn rest)) (length bytes)) refl
   where
     found : Bool → Bool → HexRead
-    found u w = cond u (cond w (hexRead (hex.Bytes (length (bytesIn rest))) (bytesIn rest ++ drop (length (bytesIn rest)) bytes)) (hexRead hex.Bad bytes)) (hexRead hex.Bad bytes)
+    found u w =
+        cond u
+        (cond w (hexRead (hex.Bytes (length (bytesIn rest))) (bytesIn rest ++ drop (length (bytesIn rest)) bytes)) (hexRead hex.Bad bytes))
+        (hexRead hex.Bad bytes)
 
     go : (t u w : Bool) → leb (length (bytesIn rest)) (length bytes) ≡ w
         → cond t (rxBy v (found u w .answer) (found u w .left)) (reads Unreadable bytes)

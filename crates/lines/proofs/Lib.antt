@@ -3,3 +3,5 @@ pub mod Writing
 pub mod LineLaws
 pub mod NumeralLaws
 pub mod FieldLaws
+pub mod RoundTrip
+pub mod Examples

@@ -15,7 +15,7 @@ use Rattle.packet.specs.Numbers.{storedAt}
 use Rattle.packet.proofs.NumberLaws.{stored-at}
 use Rattle.lines.specs.Text.{decimalOf, hexOf}
 use Rattle.lines.specs.Lines.{Printed, printed, printedIn, sentLine, packetLine, closedLine, refusedLine, errorLine, blocksLine}
-use Rattle.lines.proofs.TextLaws.{hex-length}
+use Rattle.lines.proofs.TextLaws.{hex-length, digits-most, digits-most-32, digits-most-8}
 use Rattle.lines.proofs.Writing.{joined, printed-whole, printed-none}
 
 -- ---- one piece behind those that stand at the front of the text
@@ -156,7 +156,8 @@ sent-written session kind digits letters info text t₁ t₂ t₃ d₁ d₂ room
     let n₁ = length-append ds (9 ∷ []) in
     let w₂ = stored-behind text _ t₂ (ds ++ (9 ∷ [])) name (digits + 1) w₁ (omega arith) (omega arith) e₂ in
     let n₂ = length-append (ds ++ (9 ∷ [])) name in
-    let w₂′ = behind text t₂ (set t₂ (digits + letters + 2 - 1) 9) ((ds ++ (9 ∷ [])) ++ name) (9 ∷ []) (digits + letters + 2 - 1) w₂ (omega arith) refl in
+    let w₂′ = behind text t₂ (set t₂ (digits + letters + 2 - 1) 9) ((ds ++ (9 ∷ [])) ++ name) (9 ∷ []) (digits + letters + 2 - 1) w₂
+    (omega arith) refl in
     let n₂′ = length-append ((ds ++ (9 ∷ [])) ++ name) (9 ∷ []) in
     let w₃ = behind text _ t₃ (((ds ++ (9 ∷ [])) ++ name) ++ (9 ∷ [])) hs (digits + letters + 2) w₂′ (omega arith) e₃ in
     let n₃ = length-append (((ds ++ (9 ∷ [])) ++ name) ++ (9 ∷ [])) hs in
@@ -215,9 +216,11 @@ module _ (session : ℕ) (packet text : List ℕ) where
 
   module _ (least : 2 ≤ length packet) (most : length packet ≤ 258) where
     pub no-type : 17 < getD packet 1 0 % 32 → printed 0 text ≡ printedIn (packetLine session packet) text
-    no-type h = no-line (unfold packetLine in rw (le-leb 2 (length packet) least, le-leb (length packet) 258 most, lt-leb (getD packet 1 0 % 32) 17 h))
+    no-type h =
+        no-line (unfold packetLine in rw (le-leb 2 (length packet) least, le-leb (length packet) 258 most, lt-leb (getD packet 1 0 % 32) 17 h))
 
-    pub has-line : getD packet 1 0 % 32 ≤ 17 → sentLine session (getD packet 1 0 % 32) (take (length packet - 2) (drop 2 packet)) ≡ packetLine session packet
+    pub has-line : getD packet 1 0 % 32 ≤ 17
+        → sentLine session (getD packet 1 0 % 32) (take (length packet - 2) (drop 2 packet)) ≡ packetLine session packet
     has-line h =
         unfold packetLine in
         rw (
@@ -226,3 +229,42 @@ module _ (session : ℕ) (packet text : List ℕ) where
           le-leb (getD packet 1 0 % 32) 17 h,
           take-all (length packet - 2) (drop 2 packet) (omega (arith, length-drop 2 packet)),
         )
+
+-- ---- no line is longer than 542 bytes
+
+pub packet-most : (session : ℕ) (packet : List ℕ) → session < 4294967296 → length (packetLine session packet) ≤ 542
+unfolding packetLine
+packet-most session packet h = go (leb 2 (length packet)) (leb (length packet) 258) refl (leb (getD packet 1 0 % 32) 17)
+  where
+    go : (t u : Bool) → leb (length packet) 258 ≡ u → (w : Bool)
+        → length (cond t (cond u (cond w (sentLine session (getD packet 1 0 % 32) (drop 2 packet)) []) []) []) ≤ 542
+    go true true e true =
+        let most = leb-true (length packet) 258 e in
+        omega (arith, sent-size session (getD packet 1 0 % 32) (drop 2 packet), length-drop 2 packet, digits-most-32 session h, letters-most (getD packet 1 0 % 32))
+    go true true e false = omega arith
+    go true false e w = omega arith
+    go false u e w = omega arith
+
+pub closed-most : (session : ℕ) → session < 4294967296 → length (closedLine session) ≤ 18
+closed-most session h = omega (arith, closed-size session, digits-most-32 session h)
+
+pub refused-most : (session number : ℕ) → session < 4294967296 → number < 256 → length (refusedLine session number) ≤ 23
+refused-most session number h k = omega (arith, refused-size session number, digits-most-32 session h, digits-most-8 number k)
+
+pub error-most : (number : ℕ) → number < 18446744073709551616 → length (errorLine number) ≤ 27
+error-most number h = omega (arith, error-size number, digits-most number h)
+
+pub blocks-most : (free held : ℕ) → free < 18446744073709551616 → held < 18446744073709551616 → length (blocksLine free held) ≤ 49
+blocks-most free held h k = omega (arith, blocks-size free held, digits-most free h, digits-most held k)
+
+-- what writing a line leaves is as long as it was
+pub printed-length : (line text : List ℕ) → length (printedIn line text .text) ≡ length text
+unfolding printedIn
+printed-length line text = go (leb (length line) (length text)) refl
+  where
+    go : (t : Bool) → leb (length line) (length text) ≡ t
+        → length (cond t (printed (length line) (line ++ drop (length line) text)) (printed 0 text) .text) ≡ length text
+    go true e =
+        let h = leb-true (length line) (length text) e in
+        omega (arith, length-append line (drop (length line) text), length-drop (length line) text)
+    go false e = refl

@@ -100,7 +100,8 @@ module _ (line : List ℕ) (i : ℕ) where
       rw (drop-cons line i 0 (omega arith), ← add-one i, e, drop-cons line (i + 1) 0 h)
 
   pub hex-pair : i + 1 < length line
-      → isHex (drop i line) ≡ cond (ltb (hexValue (getD line i 0)) 16) (cond (ltb (hexValue (getD line (i + 1) 0)) 16) (isHex (drop (i + 2) line)) false) false
+      → isHex (drop i line)
+      ≡ cond (ltb (hexValue (getD line i 0)) 16) (cond (ltb (hexValue (getD line (i + 1) 0)) 16) (isHex (drop (i + 2) line)) false) false
   unfolding isHex
   hex-pair h = rw (pair h)
 
@@ -140,7 +141,8 @@ module _ (line : List ℕ) (i : ℕ) where
       clash : false ≡ true → Pair
       clash z = let y : _≡_ {A = ℕ} 0 1 = cc in absurd (omega arith)
 
-      low-by : i + 1 < length line → hexValue (getD line i 0) < 16 → (u : Bool) → ltb (hexValue (getD line (i + 1) 0)) 16 ≡ u → cond u (isHex (drop (i + 2) line)) false ≡ true → Pair
+      low-by : i + 1 < length line → hexValue (getD line i 0) < 16 → (u : Bool) → ltb (hexValue (getD line (i + 1) 0)) 16 ≡ u
+          → cond u (isHex (drop (i + 2) line)) false ≡ true → Pair
       low-by r a true p q = record { room = r; high = a; low = ltb-true _ 16 p; more = q }
       low-by r a false p q = clash q
 
@@ -196,7 +198,13 @@ module _ (line : List ℕ) (at : ℕ) (bytes : List ℕ) where
     unfolding hexIn
     hex-whole e h =
         let z : 0 + length (bytesIn (drop at line)) ≡ length (bytesIn (drop at line)) = omega arith in
-        rw (e, le-leb (length (bytesIn (drop at line))) (length bytes) (omega arith), sets-eq (bytesIn (drop at line)) bytes 0 (omega arith), z, ← count)
+        rw (
+          e,
+          le-leb (length (bytesIn (drop at line))) (length bytes) (omega arith),
+          sets-eq (bytesIn (drop at line)) bytes 0 (omega arith),
+          z,
+          ← count,
+        )
 
   pub hex-bad : isHex (drop at line) ≡ false → hexRead hex.Bad bytes ≡ hexIn (drop at line) bytes
   unfolding hexIn

@@ -13,23 +13,38 @@ use Rattle.lines.specs.Text.{digitsWithin, decimalOf, hexDigit, hexOf}
 
 -- ---- decimal
 
+-- by the test whether there is one digit
+pub opened : (m n : ℕ) → digitsWithin (suc m) n ≡ cond (ltb n 10) ((48 + n) ∷ []) (digitsWithin m (n / 10) ++ ((48 + n % 10) ∷ []))
+unfolding digitsWithin
+opened m n = go (ltb n 10)
+  where
+    go : (t : Bool)
+        → elim t as (λ s. List ℕ) [ true ↦ (48 + n) ∷ [] | false ↦ digitsWithin m (n / 10) ++ ((48 + n % 10) ∷ []) ]
+        ≡ cond t ((48 + n) ∷ []) (digitsWithin m (n / 10) ++ ((48 + n % 10) ∷ []))
+    go true = refl
+    go false = refl
+
+pub none : (n : ℕ) → digitsWithin 0 n ≡ (48 + n) ∷ []
+unfolding digitsWithin
+none n = refl
+
 -- more room than a number needs changes nothing
 within : (m k n : ℕ) → n ≤ m → n ≤ k → digitsWithin m n ≡ digitsWithin k n
-unfolding digitsWithin
 within zero zero n a b = refl
-within zero (suc k) n a b = rw (lt-ltb n 10 (omega arith))
-within (suc m) zero n a b = rw (lt-ltb n 10 (omega arith))
-within (suc m) (suc k) n a b = rw (within m k (n / 10) (omega arith) (omega arith))
+within zero (suc k) n a b = rw (opened k n, lt-ltb n 10 (omega arith), none n)
+within (suc m) zero n a b = rw (opened m n, lt-ltb n 10 (omega arith), none n)
+within (suc m) (suc k) n a b = rw (opened m n, opened k n, within m k (n / 10) (omega arith) (omega arith))
 
 pub one-digit : (n : ℕ) → n < 10 → decimalOf n ≡ (48 + n) ∷ []
-unfolding decimalOf digitsWithin
-one-digit zero h = refl
-one-digit (suc n) h = rw (lt-ltb (suc n) 10 h)
+unfolding decimalOf
+one-digit zero h = none 0
+one-digit (suc n) h = rw (opened n (suc n), lt-ltb (suc n) 10 h)
 
 pub more-digits : (n : ℕ) → 9 < n → decimalOf n ≡ decimalOf (n / 10) ++ ((48 + n % 10) ∷ [])
-unfolding decimalOf digitsWithin
+unfolding decimalOf
 more-digits zero h = absurd (omega arith)
-more-digits (suc n) h = rw (le-ltb (suc n) 10 (omega arith), within n (suc n / 10) (suc n / 10) (omega arith) (omega arith))
+more-digits (suc n) h =
+    rw (opened n (suc n), le-ltb (suc n) 10 (omega arith), within n (suc n / 10) (suc n / 10) (omega arith) (omega arith))
 
 pub digits-more : (n : ℕ) → 9 < n → length (decimalOf n) ≡ length (decimalOf (n / 10)) + 1
 digits-more n h = rw (more-digits n h, length-append (decimalOf (n / 10)) ((48 + n % 10) ∷ []))
@@ -48,17 +63,23 @@ digits-some n = go (ltb n 10) refl
 tenth : (n p : ℕ) → n < 10 * p → n / 10 < p
 tenth n p h = omega arith
 
-digits-below : (k n : ℕ) → n < 10 ^ k → length (decimalOf n) ≤ k + 1
+digits-below : (k n : ℕ) → n < 10 ^ suc k → length (decimalOf n) ≤ suc k
 digits-below zero n h = omega (arith, digits-one n (omega arith))
-digits-below (suc k) n h = go (ltb n 10) refl (digits-below k (n / 10) (tenth n (10 ^ k) (rw pow-succ' at h)))
+digits-below (suc k) n h = go (ltb n 10) refl (digits-below k (n / 10) (tenth n (10 ^ suc k) (rw pow-succ' at h)))
   where
-    go : (t : Bool) → ltb n 10 ≡ t → length (decimalOf (n / 10)) ≤ k + 1 → length (decimalOf n) ≤ suc k + 1
+    go : (t : Bool) → ltb n 10 ≡ t → length (decimalOf (n / 10)) ≤ suc k → length (decimalOf n) ≤ suc (suc k)
     go true e m = omega (arith, digits-one n (ltb-true n 10 e))
     go false e m = omega (arith, digits-more n (ltb-false n 10 e))
 
--- a number of 64 bits has at most 21 digits
-pub digits-most : (n : ℕ) → n < 18446744073709551616 → length (decimalOf n) ≤ 21
-digits-most n h = digits-below 20 n (omega arith)
+-- a number of 64 bits has at most 20 digits, one of 32 bits 10, one of 8 bits 3
+pub digits-most : (n : ℕ) → n < 18446744073709551616 → length (decimalOf n) ≤ 20
+digits-most n h = digits-below 19 n (omega arith)
+
+pub digits-most-32 : (n : ℕ) → n < 4294967296 → length (decimalOf n) ≤ 10
+digits-most-32 n h = digits-below 9 n (omega arith)
+
+pub digits-most-8 : (n : ℕ) → n < 256 → length (decimalOf n) ≤ 3
+digits-most-8 n h = digits-below 2 n (omega arith)
 
 -- ---- hex
 

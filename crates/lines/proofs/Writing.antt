@@ -59,7 +59,8 @@ decimal-end text at i rest whole h e w =
 pub hex-step : (text : List ℕ) (to i : ℕ) (bytes whole : List ℕ)
     → i < length bytes
     → sets text to (hexOf (drop i bytes)) ≡ whole
-    → sets (set (set text to (hexDigit (getD bytes i 0 / 16))) (to + 1) (hexDigit (getD bytes i 0 % 16))) (to + 2) (hexOf (drop (i + 1) bytes)) ≡ whole
+    → sets (set (set text to (hexDigit (getD bytes i 0 / 16))) (to + 1) (hexDigit (getD bytes i 0 % 16))) (to + 2) (hexOf (drop (i + 1) bytes))
+    ≡ whole
 hex-step text to i bytes whole h w =
     let e : to + 2 ≡ suc (suc to) = omega arith in
     rw (add-one to, add-one i, e) (rw (hex-next bytes i h) at w)

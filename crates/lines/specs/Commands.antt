@@ -8,10 +8,10 @@ use lib.ListN.{length, drop, getD}
 use Rattle.packet.specs.Names.{bytesOf}
 use Rattle.lines.specs.declared.numeral.Digits.{Digits}
 use Rattle.lines.specs.declared.numeral.Digits.the-variants as decimal
-use Rattle.lines.specs.declared.read.Number.{Number}
-use Rattle.lines.specs.declared.read.Number.the-variants as number
-use Rattle.lines.specs.declared.read.Command.{Command}
-use Rattle.lines.specs.declared.read.Command.the-variants.{Unreadable, Time, Open, Drop, Rx}
+use Rattle.lines.specs.declared.commands.Number.{Number}
+use Rattle.lines.specs.declared.commands.Number.the-variants as number
+use Rattle.lines.specs.declared.commands.Command.{Command}
+use Rattle.lines.specs.declared.commands.Command.the-variants.{Unreadable, Time, Open, Drop, Rx}
 use Rattle.lines.specs.Numerals.{decimalAt, isHex, bytesIn}
 
 -- ---- "tab-parted lines"; TAB is 9

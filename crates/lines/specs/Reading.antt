@@ -7,7 +7,7 @@ use lib.ListN.{length, drop}
 use Rattle.packet.specs.Names.{bytesOf}
 use Rattle.lines.specs.declared.numeral.Pairs.{Pairs}
 use Rattle.lines.specs.declared.numeral.Pairs.the-variants as hex
-use Rattle.lines.specs.declared.read.Command.the-variants.{Unreadable, Rx}
+use Rattle.lines.specs.declared.commands.Command.the-variants.{Unreadable, Rx}
 use Rattle.lines.specs.Numerals.{hexIn}
 use Rattle.lines.specs.Commands.{same, Reads, reads}
 

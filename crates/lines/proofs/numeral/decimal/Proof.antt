@@ -17,70 +17,73 @@ use mathlib.Core.List.{_∷_}
 use mathlib.Core.Path.{ap}
 
 abbrev Inv-loop : tie.InvT-loop
-Inv-loop line at value₀ i₀ value i = (at ≤ i) × (value ≤ 4294967295) × (i + length (digits (drop i line)) ≡ at + length (digits (drop at line))) × (decimalBy value i (digits (drop i line)) ≡ decimalBy 0 at (digits (drop at line)))
+Inv-loop line at value₀ i₀ value i =
+    (at ≤ i)
+    × (value ≤ 4294967295)
+    × (i + length (digits (drop i line)) ≡ at + length (digits (drop at line)))
+    × (decimalBy value i (digits (drop i line)) ≡ decimalBy 0 at (digits (drop at line)))
 
 abbrev μ-loop : tie.MeasureT-loop
 μ-loop line at value₀ i₀ value i = length line - i
 
--- src/numeral.rt:48:5
 loop-holds : tie.Need-loop-holds Inv-loop μ-loop
 loop-holds c = (omega arith, omega arith, refl, refl)
 
--- src/numeral.rt:49:17
 shared-slice-read-b : tie.Need-shared-slice-read-b Inv-loop μ-loop
 shared-slice-read-b c = omega arith
 
--- src/numeral.rt:50:12
 is-digit-requires : tie.Need-is-digit-requires Inv-loop μ-loop
 is-digit-requires c κs = search needs
 
--- src/numeral.rt:51:21
 mul-value : tie.Need-mul-value Inv-loop μ-loop
 mul-value c = omega arith
 
--- src/numeral.rt:51:35
 sub-value : tie.Need-sub-value Inv-loop μ-loop
 sub-value c = digit-least _ (sym (c .before .is-digit .ensures) ∙ c .if1 .taken)
 
--- src/numeral.rt:51:34
 cast-value : tie.Need-cast-value Inv-loop μ-loop
 cast-value c = omega (arith, c .before .before .shared-slice-known2 .given (c .before .before .before .before .loop .i))
 
--- src/numeral.rt:51:21
 add-value : tie.Need-add-value Inv-loop μ-loop
 add-value c = omega (arith, c .before .before .shared-slice-known2 .given (c .before .before .before .before .loop .i))
 
--- src/numeral.rt:53:17
 returns : tie.Need-returns Inv-loop μ-loop
-returns c = let l = c .before .before .before .before .before .loop in decimal-passed (c .before .before .before .before .before .before .before .args .line .now) (c .before .before .before .before .before .before .before .args .at) (l .value) (l .i) (l .inv .3) (omega arith) (sym (c .before .before .is-digit .ensures) ∙ c .before .if1 .taken) (omega arith)
+returns c = let l = c .before .before .before .before .before .loop in decimal-passed (c .before .before .before .before .before .before
+    .before .args .line .now) (c .before .before .before .before .before .before .before .args .at) (l .value) (l .i) (l .inv .3) (omega
+    arith) (sym (c .before .before .is-digit .ensures) ∙ c .before .if1 .taken) (omega arith)
 
--- src/numeral.rt:55:13
 add-i : tie.Need-add-i Inv-loop μ-loop
 add-i c = omega arith
 
--- src/numeral.rt:48:5
 loop-less : tie.Need-loop-less Inv-loop μ-loop
 loop-less c = omega arith
 
--- src/numeral.rt:48:5
 loop-again : tie.Need-loop-again Inv-loop μ-loop
-loop-again c = let l = c .before .before .before .before .before .loop in let line = c .before .before .before .before .before .before .before .args .line .now in let e = sym (c .before .before .is-digit .ensures) ∙ c .before .if1 .taken in (omega arith, omega arith, omega (arith, ap length (digits-next line (l .i) (omega arith) e)), sym (decimal-next line (l .i) (l .value) (omega arith) e) ∙ l .inv .3)
+loop-again c = let l = c .before .before .before .before .before .loop in let line = c .before .before .before .before .before .before
+    .before .args .line .now in let e = sym (c .before .before .is-digit .ensures) ∙ c .before .if1 .taken in (
+      omega arith,
+      omega arith,
+      omega (arith, ap length (digits-next line (l .i) (omega arith) e)),
+      sym (decimal-next line (l .i) (l .value) (omega arith) e) ∙ l .inv
+          .3,
+    )
 
--- src/numeral.rt:57:13
 ended-requires : tie.Need-ended-requires Inv-loop μ-loop
 ended-requires c κs = omega arith
 
--- src/numeral.rt:57:13
 returns-2 : tie.Need-returns-2 Inv-loop μ-loop
-returns-2 c = let l = c .before .before .before .before .before .loop in let line = c .before .before .before .before .before .before .before .args .line .now in c .ended .ensures ∙ decimal-stop line (c .before .before .before .before .before .before .before .args .at) (l .value) (l .i) (l .inv .3) (omega arith) (omega arith) (l .inv .2) (digits-stop line (l .i) (omega arith) (sym (c .before .before .is-digit .ensures) ∙ c .before .if1 .left))
+returns-2 c = let l = c .before .before .before .before .before .loop in let line = c .before .before .before .before .before .before
+    .before .args .line .now in c .ended .ensures ∙ decimal-stop line (c .before .before .before .before .before .before .before .args .at)
+    (l .value) (l .i) (l .inv .3) (omega arith) (omega arith) (l .inv .2) (digits-stop line (l .i) (omega arith) (sym (c .before .before
+    .is-digit .ensures) ∙ c .before .if1 .left))
 
--- src/numeral.rt:60:5
 ended-requires-2 : tie.Need-ended-requires-2 Inv-loop μ-loop
 ended-requires-2 c κs = omega arith
 
--- src/numeral.rt:43:1
 returns-3 : tie.Need-returns-3 Inv-loop μ-loop
-returns-3 c = let l = c .before .before .loop in let line = c .before .before .before .before .args .line .now in c .ended2 .ensures ∙ decimal-stop line (c .before .before .before .before .args .at) (l .value) (l .i) (l .inv .3) (omega arith) (omega arith) (l .inv .2) (digits-end line (l .i) (omega arith))
+returns-3 c = let l = c .before .before .loop in let line = c .before .before .before .before .args .line .now in c .ended2 .ensures ∙
+    decimal-stop line (c .before .before .before .before .args .at) (l .value) (l .i) (l .inv .3) (omega arith) (omega arith) (l .inv .2)
+    (digits-end line (l .i) (omega arith))
 
 pub decimal-spec : {M : Type 1} → statement M
 decimal-spec =

@@ -18,59 +18,51 @@ Inv-loop line at i₀ i = isHex (drop i line) ≡ isHex (drop at line)
 abbrev μ-loop : tie.MeasureT-loop
 μ-loop line at i₀ i = length line - i
 
--- src/numeral.rt:87:5
 loop-holds : tie.Need-loop-holds Inv-loop μ-loop
 loop-holds c = refl
 
--- src/numeral.rt:88:12
 sub-if1 : tie.Need-sub-if1 Inv-loop μ-loop
 sub-if1 c = omega arith
 
--- src/numeral.rt:89:13
 returns : tie.Need-returns Inv-loop μ-loop
-returns c = let l = c .before .before .loop in sym (hex-one (c .before .before .before .before .args .line .now) (l .i) (omega arith) (omega arith)) ∙ l .inv
+returns c = let l = c .before .before .loop in sym (hex-one (c .before .before .before .before .args .line .now) (l .i) (omega arith) (omega
+    arith)) ∙ l .inv
 
--- src/numeral.rt:91:27
 shared-slice-read-hex-value : tie.Need-shared-slice-read-hex-value Inv-loop μ-loop
 shared-slice-read-hex-value c = omega arith
 
--- src/numeral.rt:91:17
 hex-value-requires : tie.Need-hex-value-requires Inv-loop μ-loop
 hex-value-requires c κs = search needs
 
--- src/numeral.rt:92:13
 returns-2 : tie.Need-returns-2 Inv-loop μ-loop
-returns-2 c = let l = c .before .before .before .before .before .loop in sym (hex-high (c .before .before .before .before .before .before .before .args .line .now) (l .i) (omega arith) (rw (c .before .hex-value .ensures) at (c .if2 .taken))) ∙ l .inv
+returns-2 c = let l = c .before .before .before .before .before .loop in sym (hex-high (c .before .before .before .before .before .before
+    .before .args .line .now) (l .i) (omega arith) (rw (c .before .hex-value .ensures) at (c .if2 .taken))) ∙ l .inv
 
--- src/numeral.rt:94:32
 add-hex-value : tie.Need-add-hex-value Inv-loop μ-loop
 add-hex-value c = omega arith
 
--- src/numeral.rt:94:27
 shared-slice-read-hex-value-2 : tie.Need-shared-slice-read-hex-value-2 Inv-loop μ-loop
 shared-slice-read-hex-value-2 c = omega arith
 
--- src/numeral.rt:94:17
 hex-value-requires-2 : tie.Need-hex-value-requires-2 Inv-loop μ-loop
 hex-value-requires-2 c κs = search needs
 
--- src/numeral.rt:95:13
 returns-3 : tie.Need-returns-3 Inv-loop μ-loop
-returns-3 c = let l = c .before .before .before .before .before .before .before .before .loop in sym (hex-low (c .before .before .before .before .before .before .before .before .before .before .args .line .now) (l .i) (omega arith) (rw (c .before .before .before .before .hex-value .ensures) at (c .before .before .before .if2 .left)) (rw (c .before .hex-value2 .ensures) at (c .if3 .taken))) ∙ l .inv
+returns-3 c = let l = c .before .before .before .before .before .before .before .before .loop in sym (hex-low (c .before .before .before
+    .before .before .before .before .before .before .before .args .line .now) (l .i) (omega arith) (rw (c .before .before .before .before
+    .hex-value .ensures) at (c .before .before .before .if2 .left)) (rw (c .before .hex-value2 .ensures) at (c .if3 .taken))) ∙ l .inv
 
--- src/numeral.rt:97:9
 add-i : tie.Need-add-i Inv-loop μ-loop
 add-i c = omega arith
 
--- src/numeral.rt:87:5
 loop-less : tie.Need-loop-less Inv-loop μ-loop
 loop-less c = omega arith
 
--- src/numeral.rt:87:5
 loop-again : tie.Need-loop-again Inv-loop μ-loop
-loop-again c = let l = c .before .before .before .before .before .before .before .before .loop in sym (hex-on (c .before .before .before .before .before .before .before .before .before .before .args .line .now) (l .i) (omega arith) (rw (c .before .before .before .before .hex-value .ensures) at (c .before .before .before .if2 .left)) (rw (c .before .hex-value2 .ensures) at (c .if3 .left))) ∙ l .inv
+loop-again c = let l = c .before .before .before .before .before .before .before .before .loop in sym (hex-on (c .before .before .before
+    .before .before .before .before .before .before .before .args .line .now) (l .i) (omega arith) (rw (c .before .before .before .before
+    .hex-value .ensures) at (c .before .before .before .if2 .left)) (rw (c .before .hex-value2 .ensures) at (c .if3 .left))) ∙ l .inv
 
--- src/numeral.rt:83:1
 returns-4 : tie.Need-returns-4 Inv-loop μ-loop
 returns-4 c = let l = c .before .loop in sym (hex-end (c .before .before .before .args .line .now) (l .i) (omega arith)) ∙ l .inv
 

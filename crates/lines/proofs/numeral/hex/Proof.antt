@@ -9,37 +9,38 @@ use native.Mathlib.Omega.{arith}
 use mathlib.Core.Path.{_≡_, sym, _∙_}
 use Rattle.lines.proofs.NumeralLaws.{hex-empty, hex-short, hex-whole, hex-bad, bytes-of}
 
--- src/numeral.rt:122:9
 returns : tie.Need-returns
-returns c = hex-empty (c .before .before .before .args .line .now) (c .before .before .before .args .at) (c .before .before .before .args .bytes .now) (omega arith)
+returns c = hex-empty (c .before .before .before .args .line .now) (c .before .before .before .args .at) (c .before .before .before .args
+    .bytes .now) (omega arith)
 
--- src/numeral.rt:124:18
 sub-count : tie.Need-sub-count
 sub-count c = search needs
 
--- src/numeral.rt:126:9
 returns-2 : tie.Need-returns-2
-returns-2 c = let e = c .before .before .before .before .args in hex-short (e .line .now) (e .at) (e .bytes .now) (bytes-of (e .line .now) (e .at) (e .bytes .now)) (omega arith)
+returns-2 c = let e = c .before .before .before .before .args in hex-short (e .line .now) (e .at) (e .bytes .now) (bytes-of (e .line .now)
+    (e .at) (e .bytes .now)) (omega arith)
 
--- src/numeral.rt:128:8
 has-pairs-requires : tie.Need-has-pairs-requires
 has-pairs-requires c κs = search needs
 
--- src/numeral.rt:129:9
 put-pairs-requires : tie.Need-put-pairs-requires
-put-pairs-requires c κs = let e = c .before .before .before .before .before .before .before .args in (sym (c .before .before .has-pairs .ensures) ∙ c .before .if3 .taken, omega (arith, bytes-of (e .line .now) (e .at) (e .bytes .now)))
+put-pairs-requires c κs = let e = c .before .before .before .before .before .before .before .args in (
+  sym (c .before .before .has-pairs
+      .ensures) ∙ c .before .if3 .taken,
+  omega (arith, bytes-of (e .line .now) (e .at) (e .bytes .now)),
+)
 
--- src/numeral.rt:118:1
 same-length : tie.Need-same-length
 same-length c = search needs
 
--- src/numeral.rt:118:1
 returns-3 : tie.Need-returns-3
-returns-3 c = let e = c .before .before .before .before .before .before .before .before .before .before .args in rw (c .before .before .put-pairs .ensures) (hex-whole (e .line .now) (e .at) (e .bytes .now) (bytes-of (e .line .now) (e .at) (e .bytes .now)) (sym (c .before .before .before .before .before .has-pairs .ensures) ∙ c .before .before .before .before .if3 .taken) (omega arith))
+returns-3 c = let e = c .before .before .before .before .before .before .before .before .before .before .args in rw (c .before .before
+    .put-pairs .ensures) (hex-whole (e .line .now) (e .at) (e .bytes .now) (bytes-of (e .line .now) (e .at) (e .bytes .now)) (sym (c .before
+    .before .before .before .before .has-pairs .ensures) ∙ c .before .before .before .before .if3 .taken) (omega arith))
 
--- src/numeral.rt:118:1
 returns-4 : tie.Need-returns-4
-returns-4 c = let e = c .before .before .before .before .before .before .args in hex-bad (e .line .now) (e .at) (e .bytes .now) (sym (c .before .has-pairs .ensures) ∙ c .if3 .left)
+returns-4 c = let e = c .before .before .before .before .before .before .args in hex-bad (e .line .now) (e .at) (e .bytes .now) (sym (c
+    .before .has-pairs .ensures) ∙ c .if3 .left)
 
 pub hex-spec : {M : Type 1} → statement M
 hex-spec =

@@ -16,70 +16,86 @@ use Rattle.lines.proofs.NumeralLaws.{next-pair, bytes-pair, pairs-step,
 use mathlib.Core.Path.{ap}
 
 abbrev Inv-loop : tie.InvT-loop
-Inv-loop line at bytes₀ i₀ k₀ bytes i k = (isHex (drop i line) ≡ true) × (length bytes ≡ length bytes₀) × (k + length (bytesIn (drop i line)) ≤ length bytes₀) × (sets bytes k (bytesIn (drop i line)) ≡ sets bytes₀ 0 (bytesIn (drop at line)))
+Inv-loop line at bytes₀ i₀ k₀ bytes i k =
+    (isHex (drop i line) ≡ true)
+    × (length bytes ≡ length bytes₀)
+    × (k + length (bytesIn (drop i line)) ≤ length bytes₀)
+    × (sets bytes k (bytesIn (drop i line)) ≡ sets bytes₀ 0 (bytesIn (drop at line)))
 
 abbrev μ-loop : tie.MeasureT-loop
 μ-loop line at bytes₀ i₀ k₀ bytes i k = length line - i
 
--- src/numeral.rt:110:5
 loop-holds : tie.Need-loop-holds Inv-loop μ-loop
 loop-holds c = (c .before .before .pre .0, refl, omega arith, refl)
 
--- src/numeral.rt:111:35
 shared-slice-read-hex-value : tie.Need-shared-slice-read-hex-value Inv-loop μ-loop
 shared-slice-read-hex-value c = omega arith
 
--- src/numeral.rt:111:25
 hex-value-requires : tie.Need-hex-value-requires Inv-loop μ-loop
 hex-value-requires c κs = search needs
 
--- src/numeral.rt:111:20
 mul-bytes : tie.Need-mul-bytes Inv-loop μ-loop
-mul-bytes c = let l = c .before .before .before .loop in let p = next-pair (c .before .before .before .before .before .before .args .line .now) (l .i) (omega arith) (l .inv .0) in rw (c .hex-value .ensures) (omega (arith, p .high))
+mul-bytes c = let l = c .before .before .before .loop in let p = next-pair (c .before .before .before .before .before .before .args .line
+    .now) (l .i) (omega arith) (l .inv .0) in rw (c .hex-value .ensures) (omega (arith, p .high))
 
--- src/numeral.rt:111:61
 add-hex-value : tie.Need-add-hex-value Inv-loop μ-loop
 add-hex-value c = omega arith
 
--- src/numeral.rt:111:56
 shared-slice-read-hex-value-2 : tie.Need-shared-slice-read-hex-value-2 Inv-loop μ-loop
-shared-slice-read-hex-value-2 c = let l = c .before .before .before .before .loop in next-pair (c .before .before .before .before .before .before .before .args .line .now) (l .i) (omega arith) (l .inv .0) .room
+shared-slice-read-hex-value-2 c = let l = c .before .before .before .before .loop in next-pair (c .before .before .before .before .before
+    .before .before .args .line .now) (l .i) (omega arith) (l .inv .0) .room
 
--- src/numeral.rt:111:46
 hex-value-requires-2 : tie.Need-hex-value-requires-2 Inv-loop μ-loop
 hex-value-requires-2 c κs = search needs
 
--- src/numeral.rt:111:20
 add-bytes : tie.Need-add-bytes Inv-loop μ-loop
-add-bytes c = let l = c .before .before .before .before .before .loop in let p = next-pair (c .before .before .before .before .before .before .before .before .args .line .now) (l .i) (omega arith) (l .inv .0) in rw (c .before .before .hex-value .ensures, c .hex-value2 .ensures) (omega (arith, p .high, p .low))
+add-bytes c = let l = c .before .before .before .before .before .loop in let p = next-pair (c .before .before .before .before .before
+    .before .before .before .args .line .now) (l .i) (omega arith) (l .inv .0) in rw (
+      c .before .before .hex-value .ensures,
+      c .hex-value2
+          .ensures,
+    ) (omega (arith, p .high, p .low))
 
--- src/numeral.rt:111:9
 slice-write-bytes : tie.Need-slice-write-bytes Inv-loop μ-loop
-slice-write-bytes c = let l = c .before .before .before .before .before .loop in let p = next-pair (c .before .before .before .before .before .before .before .before .args .line .now) (l .i) (omega arith) (l .inv .0) in omega (arith, ap length (bytes-pair (c .before .before .before .before .before .before .before .before .args .line .now) (l .i) (p .room)))
+slice-write-bytes c = let l = c .before .before .before .before .before .loop in let p = next-pair (c .before .before .before .before
+    .before .before .before .before .args .line .now) (l .i) (omega arith) (l .inv .0) in omega (
+      arith,
+      ap length (bytes-pair (c .before
+          .before .before .before .before .before .before .before .args .line .now) (l .i) (p .room)),
+    )
 
--- src/numeral.rt:112:9
 add-i : tie.Need-add-i Inv-loop μ-loop
-add-i c = let l = c .before .before .before .before .before .loop in let p = next-pair (c .before .before .before .before .before .before .before .before .args .line .now) (l .i) (omega arith) (l .inv .0) in omega (arith, p .room)
+add-i c = let l = c .before .before .before .before .before .loop in let p = next-pair (c .before .before .before .before .before .before
+    .before .before .args .line .now) (l .i) (omega arith) (l .inv .0) in omega (arith, p .room)
 
--- src/numeral.rt:113:9
 add-k : tie.Need-add-k Inv-loop μ-loop
-add-k c = let l = c .before .before .before .before .before .loop in let p = next-pair (c .before .before .before .before .before .before .before .before .args .line .now) (l .i) (omega arith) (l .inv .0) in omega (arith, ap length (bytes-pair (c .before .before .before .before .before .before .before .before .args .line .now) (l .i) (p .room)))
+add-k c = let l = c .before .before .before .before .before .loop in let p = next-pair (c .before .before .before .before .before .before
+    .before .before .args .line .now) (l .i) (omega arith) (l .inv .0) in omega (
+      arith,
+      ap length (bytes-pair (c .before .before .before
+          .before .before .before .before .before .args .line .now) (l .i) (p .room)),
+    )
 
--- src/numeral.rt:110:5
 loop-less : tie.Need-loop-less Inv-loop μ-loop
 loop-less c = omega arith
 
--- src/numeral.rt:110:5
 loop-again : tie.Need-loop-again Inv-loop μ-loop
-loop-again c = let l = c .before .before .before .before .before .loop in let line = c .before .before .before .before .before .before .before .before .args .line .now in let p = next-pair line (l .i) (omega arith) (l .inv .0) in let n = ap length (bytes-pair line (l .i) (p .room)) in (p .more, simp length-set (omega arith), omega arith, rw (c .before .before .hex-value .ensures, c .hex-value2 .ensures) (pairs-step (l .bytes) (l .k) line (l .i) _ (p .room) (l .inv .3)))
+loop-again c = let l = c .before .before .before .before .before .loop in let line = c .before .before .before .before .before .before
+    .before .before .args .line .now in let p = next-pair line (l .i) (omega arith) (l .inv .0) in let n = ap length (bytes-pair line (l .i)
+    (p .room)) in (
+      p .more,
+      simp length-set (omega arith),
+      omega arith,
+      rw (c .before .before .hex-value .ensures, c .hex-value2 .ensures)
+          (pairs-step (l .bytes) (l .k) line (l .i) _ (p .room) (l .inv .3)),
+    )
 
--- src/numeral.rt:103:1
 same-length : tie.Need-same-length Inv-loop μ-loop
 same-length c = omega arith
 
--- src/numeral.rt:103:1
 returns : tie.Need-returns Inv-loop μ-loop
-returns c = let l = c .before .loop in pairs-end (l .bytes) (l .k) (c .before .before .before .before .args .line .now) (l .i) _ (omega arith) (l .inv .3)
+returns c = let l = c .before .loop in pairs-end (l .bytes) (l .k) (c .before .before .before .before .args .line .now) (l .i) _ (omega
+    arith) (l .inv .3)
 
 pub put-pairs-spec : {M : Type 1} → statement M
 put-pairs-spec =

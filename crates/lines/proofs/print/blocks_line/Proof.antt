@@ -14,70 +14,99 @@ use Rattle.lines.proofs.TextLaws.{digits-most}
 use Rattle.lines.proofs.Writing.{printed-none}
 use Rattle.lines.proofs.LineLaws.{blocks-size, blocks-written}
 
--- src/print.rt:66:9
 width-requires : tie.Need-width-requires
 width-requires c κs = search needs
 
--- src/print.rt:67:9
 width-requires-2 : tie.Need-width-requires-2
 width-requires-2 c κs = search needs
 
--- src/print.rt:68:14
 add-at : tie.Need-add-at
 add-at c = omega (arith, digits-most (c .before .before .before .args .free) (omega arith))
 
--- src/print.rt:69:16
 add-size : tie.Need-add-size
-add-size c = omega (arith, digits-most (c .before .before .before .args .free) (omega arith), digits-most (c .before .before .before .args .held) (omega arith))
+add-size c = omega (
+  arith,
+  digits-most (c .before .before .before .args .free) (omega arith),
+  digits-most (c .before .before .before .args
+      .held) (omega arith),
+)
 
--- src/print.rt:69:16
 add-size-2 : tie.Need-add-size-2
-add-size-2 c = omega (arith, digits-most (c .before .before .before .args .free) (omega arith), digits-most (c .before .before .before .args .held) (omega arith))
+add-size-2 c = omega (
+  arith,
+  digits-most (c .before .before .before .args .free) (omega arith),
+  digits-most (c .before .before .before .args
+      .held) (omega arith),
+)
 
--- src/print.rt:71:9
 returns : tie.Need-returns
-returns c = printed-none _ (c .before .before .before .before .args .text .now) (omega (arith, blocks-size (c .before .before .before .before .args .free) (c .before .before .before .before .args .held)))
+returns c = printed-none _ (c .before .before .before .before .args .text .now) (omega (
+  arith,
+  blocks-size (c .before .before .before
+      .before .args .free) (c .before .before .before .before .args .held),
+))
 
--- src/print.rt:73:20
 slice-aggregate-store : tie.Need-slice-aggregate-store
 slice-aggregate-store c = search needs
 
--- src/print.rt:73:5
 store-requires : tie.Need-store-requires
 store-requires c κs = search needs
 
--- src/print.rt:74:5
 put-decimal-requires : tie.Need-put-decimal-requires
 put-decimal-requires c κs = search needs
 
--- src/print.rt:75:10
 sub-text : tie.Need-sub-text
 sub-text c = search needs
 
--- src/print.rt:75:5
 slice-write-text : tie.Need-slice-write-text
 slice-write-text c = search needs
 
--- src/print.rt:76:5
 put-decimal-requires-2 : tie.Need-put-decimal-requires-2
-put-decimal-requires-2 c κs = (omega arith, simp length-set (omega (arith, c .before .before .before .put-decimal .kept .0, c .before .before .before .before .before .before .before .store .kept .0)))
+put-decimal-requires-2 c κs = (
+  omega arith,
+  simp length-set (omega (
+    arith,
+    c .before .before .before .put-decimal .kept .0,
+    c .before
+        .before .before .before .before .before .before .store .kept .0,
+  )),
+)
 
--- src/print.rt:77:10
 sub-text-2 : tie.Need-sub-text-2
 sub-text-2 c = search needs
 
--- src/print.rt:77:5
 slice-write-text-2 : tie.Need-slice-write-text-2
-slice-write-text-2 c = (omega (arith, simp length-set at (c .before .before .put-decimal2 .kept .0), c .before .before .before .before .before .before .put-decimal .kept .0, c .before .before .before .before .before .before .before .before .before .before .store .kept .0))
+slice-write-text-2 c = (omega (
+  arith,
+  simp length-set at (c .before .before .put-decimal2 .kept .0),
+  c .before .before .before .before
+      .before .before .put-decimal .kept .0,
+  c .before .before .before .before .before .before .before .before .before .before .store .kept
+      .0,
+))
 
--- src/print.rt:63:1
 same-length : tie.Need-same-length
-same-length c = simp length-set (omega (arith, simp length-set at (c .before .before .put-decimal2 .kept .0), c .before .before .before .before .before .before .put-decimal .kept .0, c .before .before .before .before .before .before .before .before .before .before .store .kept .0))
+same-length c = simp length-set (omega (
+  arith,
+  simp length-set at (c .before .before .put-decimal2 .kept .0),
+  c .before .before .before
+      .before .before .before .put-decimal .kept .0,
+  c .before .before .before .before .before .before .before .before .before .before .store
+      .kept .0,
+))
 
--- src/print.rt:63:1
 returns-2 : tie.Need-returns-2
 unfolding bytesOf
-returns-2 c = blocks-written (c .before .before .before .before .before .before .before .before .before .before .before .before .before .before .before .before .before .args .free) (c .before .before .before .before .before .before .before .before .before .before .before .before .before .before .before .before .before .args .held) (c .before .before .before .before .before .before .before .before .before .before .before .before .before .before .before .width .result) (c .before .before .before .before .before .before .before .before .before .before .before .before .before .before .width2 .result) (c .before .before .before .before .before .before .before .before .before .before .before .before .before .before .before .before .before .args .text .now) _ (c .before .before .before .before .before .before .put-decimal .last .0) (c .before .before .put-decimal2 .last .0) (omega arith) (omega arith) (omega arith) (c .before .before .before .before .before .before .before .before .before .before .store .ensures .1) (c .before .before .before .before .before .before .put-decimal .ensures) (c .before .before .put-decimal2 .ensures)
+returns-2 c = blocks-written (c .before .before .before .before .before .before .before .before .before .before .before .before .before
+    .before .before .before .before .args .free) (c .before .before .before .before .before .before .before .before .before .before .before
+    .before .before .before .before .before .before .args .held) (c .before .before .before .before .before .before .before .before .before
+    .before .before .before .before .before .before .width .result) (c .before .before .before .before .before .before .before .before
+    .before .before .before .before .before .before .width2 .result) (c .before .before .before .before .before .before .before .before
+    .before .before .before .before .before .before .before .before .before .args .text .now) (c .before .before .before .before .before
+    .before .before .before .before .before .store .last .0) (c .before .before .before .before .before .before .put-decimal .last .0) (c
+    .before .before .put-decimal2 .last .0) (omega arith) (omega arith) (omega arith) (c .before .before .before .before .before .before
+    .before .before .before .before .store .ensures .1) (c .before .before .before .before .before .before .put-decimal .ensures) (c .before
+    .before .put-decimal2 .ensures)
 
 pub blocks-line-spec : {M : Type 1} → statement M
 blocks-line-spec =

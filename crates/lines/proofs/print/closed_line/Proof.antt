@@ -14,38 +14,33 @@ use Rattle.lines.proofs.TextLaws.{digits-most}
 use Rattle.lines.proofs.Writing.{printed-none}
 use Rattle.lines.proofs.LineLaws.{closed-size, closed-written}
 
--- src/print.rt:13:9
 width-requires : tie.Need-width-requires
 width-requires c κs = search needs
 
--- src/print.rt:14:16
 add-size : tie.Need-add-size
 add-size c = omega (arith, digits-most (c .before .before .args .session) (omega arith))
 
--- src/print.rt:16:9
 returns : tie.Need-returns
 returns c = printed-none _ (c .before .before .before .args .text .now) (omega (arith, closed-size (c .before .before .before .args .session)))
 
--- src/print.rt:18:5
 put-decimal-requires : tie.Need-put-decimal-requires
 put-decimal-requires c κs = search needs
 
--- src/print.rt:19:25
 slice-aggregate-store : tie.Need-slice-aggregate-store
 slice-aggregate-store c = search needs
 
--- src/print.rt:19:5
 store-requires : tie.Need-store-requires
 store-requires c κs = search needs
 
--- src/print.rt:9:1
 same-length : tie.Need-same-length
 same-length c = search needs
 
--- src/print.rt:9:1
 returns-2 : tie.Need-returns-2
 unfolding bytesOf
-returns-2 c = closed-written (c .before .before .before .before .before .before .before .before .before .before .before .before .args .session) (c .before .before .before .before .before .before .before .before .before .before .width .result) (c .before .before .before .before .before .before .before .before .before .before .before .before .args .text .now) _ _ (omega arith) (omega arith) (c .before .before .before .before .before .before .before .put-decimal .ensures) (c .before .before .store .ensures .1)
+returns-2 c = closed-written (c .before .before .before .before .before .before .before .before .before .before .before .before .args
+    .session) (c .before .before .before .before .before .before .before .before .before .before .width .result) (c .before .before .before
+    .before .before .before .before .before .before .before .before .before .args .text .now) _ _ (omega arith) (omega arith) (c .before
+    .before .before .before .before .before .before .put-decimal .ensures) (c .before .before .store .ensures .1)
 
 pub closed-line-spec : {M : Type 1} → statement M
 closed-line-spec =

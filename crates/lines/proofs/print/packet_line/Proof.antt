@@ -12,45 +12,40 @@ use mathlib.Core.List.{List}
 use Prim.Native.Nat.{ℕ}
 use Rattle.lines.specs.Lines.{printedIn}
 
--- src/print.rt:86:9
 returns : tie.Need-returns
-returns c = no-head (c .before .before .before .args .session) (c .before .before .before .args .packet .now) (c .before .before .before .args .text .now) (omega arith)
+returns c = no-head (c .before .before .before .args .session) (c .before .before .before .args .packet .now) (c .before .before .before
+    .args .text .now) (omega arith)
 
--- src/print.rt:89:9
 returns-2 : tie.Need-returns-2
-returns-2 c = too-long (c .before .before .before .before .args .session) (c .before .before .before .before .args .packet .now) (c .before .before .before .before .args .text .now) (omega arith)
+returns-2 c = too-long (c .before .before .before .before .args .session) (c .before .before .before .before .args .packet .now) (c .before
+    .before .before .before .args .text .now) (omega arith)
 
--- src/print.rt:91:16
 shared-slice-read-kind : tie.Need-shared-slice-read-kind
 shared-slice-read-kind c = search needs
 
--- src/print.rt:93:9
 returns-3 : tie.Need-returns-3
-returns-3 c = no-type (c .before .before .before .before .before .before .args .session) (c .before .before .before .before .before .before .args .packet .now) (c .before .before .before .before .before .before .args .text .now) (omega arith) (omega arith) (omega arith)
+returns-3 c = no-type (c .before .before .before .before .before .before .args .session) (c .before .before .before .before .before .before
+    .args .packet .now) (c .before .before .before .before .before .before .args .text .now) (omega arith) (omega arith) (omega arith)
 
--- src/print.rt:95:30
 sub-sent-line : tie.Need-sub-sent-line
 sub-sent-line c = search needs
 
--- src/print.rt:95:30
 part-sent-line-start : tie.Need-part-sent-line-start
 part-sent-line-start c = search needs
 
--- src/print.rt:95:30
 part-sent-line-end : tie.Need-part-sent-line-end
 part-sent-line-end c = search needs
 
--- src/print.rt:95:5
 sent-line-requires : tie.Need-sent-line-requires
 sent-line-requires c κs = search needs
 
--- src/print.rt:82:1
 same-length : tie.Need-same-length
 same-length c = search needs
 
--- src/print.rt:82:1
 returns-4 : tie.Need-returns-4
-returns-4 c = let e = c .before .before .before .before .before .before .before .before .before .before .before in c .before .before .sent-line .ensures ∙ ap (λ (line : List ℕ). printedIn line (e .args .text .now)) (has-line (e .args .session) (e .args .packet .now) (e .args .text .now) (omega arith) (omega arith) (omega arith))
+returns-4 c = let e = c .before .before .before .before .before .before .before .before .before .before .before in c .before .before
+    .sent-line .ensures ∙ ap (λ (line : List ℕ). printedIn line (e .args .text .now)) (has-line (e .args .session) (e .args .packet .now) (e
+    .args .text .now) (omega arith) (omega arith) (omega arith))
 
 pub packet-line-spec : {M : Type 1} → statement M
 packet-line-spec =

@@ -14,62 +14,76 @@ use Rattle.lines.proofs.TextLaws.{digits-most}
 use Rattle.lines.proofs.Writing.{printed-none}
 use Rattle.lines.proofs.LineLaws.{refused-size, refused-written}
 
--- src/print.rt:33:9
 width-requires : tie.Need-width-requires
 width-requires c κs = search needs
 
--- src/print.rt:34:9
 width-requires-2 : tie.Need-width-requires-2
 width-requires-2 c κs = search needs
 
--- src/print.rt:35:14
 add-at : tie.Need-add-at
 add-at c = omega (arith, digits-most (c .before .before .before .args .session) (omega arith))
 
--- src/print.rt:36:16
 add-size : tie.Need-add-size
-add-size c = omega (arith, digits-most (c .before .before .before .args .session) (omega arith), digits-most (c .before .before .before .args .number) (omega arith))
+add-size c = omega (
+  arith,
+  digits-most (c .before .before .before .args .session) (omega arith),
+  digits-most (c .before .before .before
+      .args .number) (omega arith),
+)
 
--- src/print.rt:36:16
 add-size-2 : tie.Need-add-size-2
-add-size-2 c = omega (arith, digits-most (c .before .before .before .args .session) (omega arith), digits-most (c .before .before .before .args .number) (omega arith))
+add-size-2 c = omega (
+  arith,
+  digits-most (c .before .before .before .args .session) (omega arith),
+  digits-most (c .before .before .before
+      .args .number) (omega arith),
+)
 
--- src/print.rt:38:9
 returns : tie.Need-returns
-returns c = printed-none _ (c .before .before .before .before .args .text .now) (omega (arith, refused-size (c .before .before .before .before .args .session) (c .before .before .before .before .args .number)))
+returns c = printed-none _ (c .before .before .before .before .args .text .now) (omega (
+  arith,
+  refused-size (c .before .before .before
+      .before .args .session) (c .before .before .before .before .args .number),
+))
 
--- src/print.rt:40:5
 put-decimal-requires : tie.Need-put-decimal-requires
 put-decimal-requires c κs = search needs
 
--- src/print.rt:41:24
 slice-aggregate-store : tie.Need-slice-aggregate-store
 slice-aggregate-store c = search needs
 
--- src/print.rt:41:5
 store-requires : tie.Need-store-requires
 store-requires c κs = search needs
 
--- src/print.rt:42:5
 put-decimal-requires-2 : tie.Need-put-decimal-requires-2
 put-decimal-requires-2 c κs = search needs
 
--- src/print.rt:43:10
 sub-text : tie.Need-sub-text
 sub-text c = search needs
 
--- src/print.rt:43:5
 slice-write-text : tie.Need-slice-write-text
 slice-write-text c = search needs
 
--- src/print.rt:28:1
 same-length : tie.Need-same-length
-same-length c = simp length-set (omega (arith, c .before .before .put-decimal2 .kept .0, c .before .before .before .before .before .before .store .kept .0, c .before .before .before .before .before .before .before .before .before .before .before .put-decimal .kept .0))
+same-length c = simp length-set (omega (
+  arith,
+  c .before .before .put-decimal2 .kept .0,
+  c .before .before .before .before .before .before
+      .store .kept .0,
+  c .before .before .before .before .before .before .before .before .before .before .before .put-decimal .kept .0,
+))
 
--- src/print.rt:28:1
 returns-2 : tie.Need-returns-2
 unfolding bytesOf
-returns-2 c = refused-written (c .before .before .before .before .before .before .before .before .before .before .before .before .before .before .before .before .before .args .session) (c .before .before .before .before .before .before .before .before .before .before .before .before .before .before .before .before .before .args .number) (c .before .before .before .before .before .before .before .before .before .before .before .before .before .before .before .width .result) (c .before .before .before .before .before .before .before .before .before .before .before .before .before .before .width2 .result) (c .before .before .before .before .before .before .before .before .before .before .before .before .before .before .before .before .before .args .text .now) _ _ (c .before .before .put-decimal2 .last .0) (omega arith) (omega arith) (omega arith) (c .before .before .before .before .before .before .before .before .before .before .before .put-decimal .ensures) (c .before .before .before .before .before .before .store .ensures .1) (c .before .before .put-decimal2 .ensures)
+returns-2 c = refused-written (c .before .before .before .before .before .before .before .before .before .before .before .before .before
+    .before .before .before .before .args .session) (c .before .before .before .before .before .before .before .before .before .before
+    .before .before .before .before .before .before .before .args .number) (c .before .before .before .before .before .before .before
+    .before .before .before .before .before .before .before .before .width .result) (c .before .before .before .before .before .before
+    .before .before .before .before .before .before .before .before .width2 .result) (c .before .before .before .before .before .before
+    .before .before .before .before .before .before .before .before .before .before .before .args .text .now) _ _ (c .before .before
+    .put-decimal2 .last .0) (omega arith) (omega arith) (omega arith) (c .before .before .before .before .before .before .before .before
+    .before .before .before .put-decimal .ensures) (c .before .before .before .before .before .before .store .ensures .1) (c .before .before
+    .put-decimal2 .ensures)
 
 pub refused-line-spec : {M : Type 1} → statement M
 refused-line-spec =

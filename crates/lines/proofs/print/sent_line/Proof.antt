@@ -16,89 +16,133 @@ use Rattle.lines.proofs.TextLaws.{digits-most}
 use Rattle.lines.proofs.Writing.{printed-none}
 use Rattle.lines.proofs.LineLaws.{sent-size, sent-written, letters, letters-size, letters-most, letters-within}
 
--- src/print.rt:104:9
 width-requires : tie.Need-width-requires
 width-requires c κs = search needs
 
--- src/print.rt:105:9
 name-of-requires : tie.Need-name-of-requires
 name-of-requires c κs = search needs
 
--- src/print.rt:107:14
 add-at : tie.Need-add-at
-add-at c = omega (arith, digits-most (c .before .before .before .before .args .session) (omega arith), letters-size (c .before .before .before .before .args .kind) _ (c .name-of .ensures), letters-most (c .before .before .before .before .args .kind))
+add-at c = omega (
+  arith,
+  digits-most (c .before .before .before .before .args .session) (omega arith),
+  letters-size (c .before .before
+      .before .before .args .kind) _ (c .name-of .ensures),
+  letters-most (c .before .before .before .before .args .kind),
+)
 
--- src/print.rt:107:14
 add-at-2 : tie.Need-add-at-2
-add-at-2 c = omega (arith, digits-most (c .before .before .before .before .args .session) (omega arith), letters-size (c .before .before .before .before .args .kind) _ (c .name-of .ensures), letters-most (c .before .before .before .before .args .kind))
+add-at-2 c = omega (
+  arith,
+  digits-most (c .before .before .before .before .args .session) (omega arith),
+  letters-size (c .before .before
+      .before .before .args .kind) _ (c .name-of .ensures),
+  letters-most (c .before .before .before .before .args .kind),
+)
 
--- src/print.rt:108:21
 mul-size : tie.Need-mul-size
 mul-size c = search needs
 
--- src/print.rt:108:16
 add-size : tie.Need-add-size
-add-size c = omega (arith, digits-most (c .before .before .before .before .args .session) (omega arith), letters-size (c .before .before .before .before .args .kind) _ (c .name-of .ensures), letters-most (c .before .before .before .before .args .kind))
+add-size c = omega (
+  arith,
+  digits-most (c .before .before .before .before .args .session) (omega arith),
+  letters-size (c .before .before
+      .before .before .args .kind) _ (c .name-of .ensures),
+  letters-most (c .before .before .before .before .args .kind),
+)
 
--- src/print.rt:108:16
 add-size-2 : tie.Need-add-size-2
-add-size-2 c = omega (arith, digits-most (c .before .before .before .before .args .session) (omega arith), letters-size (c .before .before .before .before .args .kind) _ (c .name-of .ensures), letters-most (c .before .before .before .before .args .kind))
+add-size-2 c = omega (
+  arith,
+  digits-most (c .before .before .before .before .args .session) (omega arith),
+  letters-size (c .before .before
+      .before .before .args .kind) _ (c .name-of .ensures),
+  letters-most (c .before .before .before .before .args .kind),
+)
 
--- src/print.rt:110:9
 returns : tie.Need-returns
-returns c = printed-none _ (c .before .before .before .before .before .args .text .now) (omega (arith, letters-size (c .before .before .before .before .before .args .kind) _ (c .before .name-of .ensures), sent-size (c .before .before .before .before .before .args .session) (c .before .before .before .before .before .args .kind) (c .before .before .before .before .before .args .info .now)))
+returns c = printed-none _ (c .before .before .before .before .before .args .text .now) (omega (
+  arith,
+  letters-size (c .before .before
+      .before .before .before .args .kind) _ (c .before .name-of .ensures),
+  sent-size (c .before .before .before .before .before .args
+      .session) (c .before .before .before .before .before .args .kind) (c .before .before .before .before .before .args .info .now),
+))
 
--- src/print.rt:112:5
 put-decimal-requires : tie.Need-put-decimal-requires
 put-decimal-requires c κs = search needs
 
--- src/print.rt:113:5
 slice-write-text : tie.Need-slice-write-text
 slice-write-text c = search needs
 
--- src/print.rt:115:17
 add-store : tie.Need-add-store
 add-store c = search needs
 
--- src/print.rt:115:29
 array-share-prefix-bytes : tie.Need-array-share-prefix-bytes
-array-share-prefix-bytes c = letters-within (c .before .before .before .before .before .before .before .before .before .before .before .args .kind) _ (c .before .before .before .before .before .before .before .name-of .ensures)
+array-share-prefix-bytes c = letters-within (c .before .before .before .before .before .before .before .before .before .before .before .args
+    .kind) _ (c .before .before .before .before .before .before .before .name-of .ensures)
 
--- src/print.rt:115:29
 slice-aggregate-store : tie.Need-slice-aggregate-store
-slice-aggregate-store c = sym (length-take-le _ (c .before .before .before .before .before .before .before .before .name-of .result .bytes) (letters-within (c .before .before .before .before .before .before .before .before .before .before .before .before .args .kind) _ (c .before .before .before .before .before .before .before .before .name-of .ensures)))
+slice-aggregate-store c = sym (length-take-le _ (c .before .before .before .before .before .before .before .before .name-of .result .bytes)
+    (letters-within (c .before .before .before .before .before .before .before .before .before .before .before .before .args .kind) _ (c
+    .before .before .before .before .before .before .before .before .name-of .ensures)))
 
--- src/print.rt:115:5
 store-requires : tie.Need-store-requires
 store-requires c κs = search needs
 
--- src/print.rt:116:10
 sub-text : tie.Need-sub-text
 sub-text c = search needs
 
--- src/print.rt:116:5
 slice-write-text-2 : tie.Need-slice-write-text-2
-slice-write-text-2 c = omega (arith, simp length-set at (c .before .before .store .kept .0), c .before .before .before .before .before .before .before .before .put-decimal .kept .0)
+slice-write-text-2 c = omega (
+  arith,
+  simp length-set at (c .before .before .store .kept .0),
+  c .before .before .before .before .before
+      .before .before .before .put-decimal .kept .0,
+)
 
--- src/print.rt:117:5
 put-hex-requires : tie.Need-put-hex-requires
-put-hex-requires c κs = simp length-set (omega (arith, simp length-set at (c .before .before .before .store .kept .0), c .before .before .before .before .before .before .before .before .before .put-decimal .kept .0))
+put-hex-requires c κs = simp length-set (omega (
+  arith,
+  simp length-set at (c .before .before .before .store .kept .0),
+  c .before .before
+      .before .before .before .before .before .before .before .put-decimal .kept .0,
+))
 
--- src/print.rt:118:10
 sub-text-2 : tie.Need-sub-text-2
 sub-text-2 c = search needs
 
--- src/print.rt:118:5
 slice-write-text-3 : tie.Need-slice-write-text-3
-slice-write-text-3 c = omega (arith, simp length-set at (c .before .before .put-hex .kept .0), simp length-set at (c .before .before .before .before .before .before .store .kept .0), c .before .before .before .before .before .before .before .before .before .before .before .before .put-decimal .kept .0)
+slice-write-text-3 c = omega (
+  arith,
+  simp length-set at (c .before .before .put-hex .kept .0),
+  simp length-set at (c .before .before .before
+      .before .before .before .store .kept .0),
+  c .before .before .before .before .before .before .before .before .before .before .before
+      .before .put-decimal .kept .0,
+)
 
--- src/print.rt:99:1
 same-length : tie.Need-same-length
-same-length c = simp length-set (omega (arith, simp length-set at (c .before .before .put-hex .kept .0), simp length-set at (c .before .before .before .before .before .before .store .kept .0), c .before .before .before .before .before .before .before .before .before .before .before .before .put-decimal .kept .0))
+same-length c = simp length-set (omega (
+  arith,
+  simp length-set at (c .before .before .put-hex .kept .0),
+  simp length-set at (c .before
+      .before .before .before .before .before .store .kept .0),
+  c .before .before .before .before .before .before .before .before .before
+      .before .before .before .put-decimal .kept .0,
+))
 
--- src/print.rt:99:1
 returns-2 : tie.Need-returns-2
-returns-2 c = let e = c .before .before .before .before .before .before .before .before .before .before .before .before .before .before .before .before .before .before .before in let name = c .before .before .before .before .before .before .before .before .before .before .before .before .before .before .before .name-of in sent-written (e .args .session) (e .args .kind) (c .before .before .before .before .before .before .before .before .before .before .before .before .before .before .before .before .width .result) (name .result .size) (e .args .info .now) (e .args .text .now) (c .before .before .before .before .before .before .before .before .before .before .before .before .put-decimal .last .0) (c .before .before .before .before .before .before .store .last .0) (c .before .before .put-hex .last .0) (omega arith) (letters-size (e .args .kind) (name .result) (name .ensures)) (omega arith) (c .before .before .before .before .before .before .before .before .before .before .before .before .put-decimal .ensures) (rw (letters (e .args .kind) (name .result) (name .ensures)) at (c .before .before .before .before .before .before .store .ensures .1)) (c .before .before .put-hex .ensures)
+returns-2 c = let e = c .before .before .before .before .before .before .before .before .before .before .before .before .before .before
+    .before .before .before .before .before in let name = c .before .before .before .before .before .before .before .before .before .before
+    .before .before .before .before .before .name-of in sent-written (e .args .session) (e .args .kind) (c .before .before .before .before
+    .before .before .before .before .before .before .before .before .before .before .before .before .width .result) (name .result .size) (e
+    .args .info .now) (e .args .text .now) (c .before .before .before .before .before .before .before .before .before .before .before
+    .before .put-decimal .last .0) (c .before .before .before .before .before .before .store .last .0) (c .before .before .put-hex .last .0)
+    (omega arith) (letters-size (e .args .kind) (name .result) (name .ensures)) (omega arith) (c .before .before .before .before .before
+    .before .before .before .before .before .before .before .put-decimal .ensures) (rw (letters (e .args .kind) (name .result) (name
+    .ensures)) at (c .before .before .before .before .before .before .store .ensures .1)) (c .before .before .put-hex .ensures)
 
 pub sent-line-spec : {M : Type 1} → statement M
 sent-line-spec =

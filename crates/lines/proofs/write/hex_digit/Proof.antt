@@ -7,20 +7,16 @@ use Rattle.lines.specs.Text.{hexDigit}
 use borrow.Author.Tests.{lt-ltb, le-ltb}
 use native.Mathlib.Omega.{arith}
 
--- src/write.rt:42:17
 add-result : tie.Need-add-result
 add-result c = search needs
 
--- src/write.rt:42:33
 add-result-2 : tie.Need-add-result-2
 add-result-2 c = search needs
 
--- src/write.rt:38:1
 returns : tie.Need-returns
 unfolding hexDigit
 returns c = rw (lt-ltb (c .before .args .n) 10 (omega arith))
 
--- src/write.rt:38:1
 returns-2 : tie.Need-returns-2
 unfolding hexDigit
 returns-2 c = rw (le-ltb (c .before .args .n) 10 (omega arith))

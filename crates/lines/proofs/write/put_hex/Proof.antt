@@ -13,62 +13,64 @@ use Rattle.lines.specs.Text.{hexOf}
 use Rattle.lines.proofs.Writing.{hex-step, hex-end}
 
 abbrev Inv-loop : tie.InvT-loop
-Inv-loop text₀ at bytes to₀ i₀ text to i = (i ≤ length bytes) × (length text ≡ length text₀) × (to ≡ at + 2 * i) × (sets text to (hexOf (drop i bytes)) ≡ sets text₀ at (hexOf bytes))
+Inv-loop text₀ at bytes to₀ i₀ text to i =
+    (i ≤ length bytes)
+    × (length text ≡ length text₀)
+    × (to ≡ at + 2 * i)
+    × (sets text to (hexOf (drop i bytes)) ≡ sets text₀ at (hexOf bytes))
 
 abbrev μ-loop : tie.MeasureT-loop
 μ-loop text₀ at bytes to₀ i₀ text to i = length bytes - i
 
--- src/write.rt:52:5
 loop-holds : tie.Need-loop-holds Inv-loop μ-loop
 loop-holds c = (omega arith, refl, omega arith, refl)
 
--- src/write.rt:53:17
 shared-slice-read-b : tie.Need-shared-slice-read-b Inv-loop μ-loop
 shared-slice-read-b c = omega arith
 
--- src/write.rt:54:20
 hex-digit-requires : tie.Need-hex-digit-requires Inv-loop μ-loop
 hex-digit-requires c κs = omega (arith, c .shared-slice-known2 .given (c .before .before .loop .i))
 
--- src/write.rt:54:9
 slice-write-text : tie.Need-slice-write-text Inv-loop μ-loop
 slice-write-text c = omega arith
 
--- src/write.rt:55:24
 hex-digit-requires-2 : tie.Need-hex-digit-requires-2 Inv-loop μ-loop
 hex-digit-requires-2 c κs = omega arith
 
--- src/write.rt:55:14
 add-text : tie.Need-add-text Inv-loop μ-loop
 add-text c = omega arith
 
--- src/write.rt:55:9
 slice-write-text-2 : tie.Need-slice-write-text-2 Inv-loop μ-loop
 slice-write-text-2 c = simp length-set (omega arith)
 
--- src/write.rt:56:9
 add-to : tie.Need-add-to Inv-loop μ-loop
 add-to c = omega arith
 
--- src/write.rt:57:9
 add-i : tie.Need-add-i Inv-loop μ-loop
 add-i c = omega arith
 
--- src/write.rt:52:5
 loop-less : tie.Need-loop-less Inv-loop μ-loop
 loop-less c = omega arith
 
--- src/write.rt:52:5
 loop-again : tie.Need-loop-again Inv-loop μ-loop
-loop-again c = let l = c .before .before .before .before .loop in (omega arith, simp length-set (omega arith), omega arith, rw (c .before .hex-digit .ensures, c .hex-digit2 .ensures) (hex-step (l .text) (l .to) (l .i) (c .before .before .before .before .before .before .before .args .bytes .now) _ (omega arith) (l .inv .3)))
+loop-again c = let l = c .before .before .before .before .loop in (
+  omega arith,
+  simp length-set (omega arith),
+  omega arith,
+  rw (
+    c .before
+        .hex-digit .ensures,
+    c .hex-digit2 .ensures,
+  ) (hex-step (l .text) (l .to) (l .i) (c .before .before .before .before .before .before
+      .before .args .bytes .now) _ (omega arith) (l .inv .3)),
+)
 
--- src/write.rt:46:1
 same-length : tie.Need-same-length Inv-loop μ-loop
 same-length c = omega arith
 
--- src/write.rt:46:1
 returns : tie.Need-returns Inv-loop μ-loop
-returns c = let l = c .before .loop in hex-end (l .text) (l .to) (l .i) (c .before .before .before .before .args .bytes .now) _ (omega arith) (l .inv .3)
+returns c = let l = c .before .loop in hex-end (l .text) (l .to) (l .i) (c .before .before .before .before .args .bytes .now) _ (omega
+    arith) (l .inv .3)
 
 pub put-hex-spec : {M : Type 1} → statement M
 put-hex-spec =

@@ -16,23 +16,18 @@ Inv-loop n digits₀ rest₀ digits rest = (digits + length (decimalOf rest) ≡
 abbrev μ-loop : tie.MeasureT-loop
 μ-loop n digits₀ rest₀ digits rest = rest
 
--- src/write.rt:14:5
 loop-holds : tie.Need-loop-holds Inv-loop μ-loop
 loop-holds c = omega arith
 
--- src/write.rt:16:9
 add-digits : tie.Need-add-digits Inv-loop μ-loop
 add-digits c = omega (arith, digits-most (c .before .before .args .n) (omega arith), digits-some (c .before .loop .rest))
 
--- src/write.rt:14:5
 loop-less : tie.Need-loop-less Inv-loop μ-loop
 loop-less c = omega arith
 
--- src/write.rt:14:5
 loop-again : tie.Need-loop-again Inv-loop μ-loop
 loop-again c = omega (arith, digits-more (c .before .loop .rest) (omega arith))
 
--- src/write.rt:9:1
 returns : tie.Need-returns Inv-loop μ-loop
 returns c = omega (arith, digits-one (c .before .loop .rest) (omega arith))
 

@@ -1,7 +1,7 @@
-use Rattle.lines.proofs.read.field_end.Statement.{statement}
-use Rattle.lines.proofs.read.field_end.Tie as tie
-use Rattle.lines.proofs.read.field_end.Reads as reads
-use Rattle.lines.proofs.read.field_end.Lts as lts
+use Rattle.lines.proofs.commands.field_end.Statement.{statement}
+use Rattle.lines.proofs.commands.field_end.Tie as tie
+use Rattle.lines.proofs.commands.field_end.Reads as reads
+use Rattle.lines.proofs.commands.field_end.Lts as lts
 use native.Mathlib.Omega.{arith}
 use mathlib.Core.Path.{_≡_, refl, sym, _∙_}
 use Prim.Native.Nat.{_≤_, _-_, _+_}
@@ -16,31 +16,26 @@ Inv-loop line at i₀ i = fieldEnd line i ≡ fieldEnd line at
 abbrev μ-loop : tie.MeasureT-loop
 μ-loop line at i₀ i = length line - i
 
--- src/read.rt:50:5
 loop-holds : tie.Need-loop-holds Inv-loop μ-loop
 loop-holds c = refl
 
--- src/read.rt:51:12
 shared-slice-read-if1 : tie.Need-shared-slice-read-if1 Inv-loop μ-loop
 shared-slice-read-if1 c = omega arith
 
--- src/read.rt:52:13
 returns : tie.Need-returns Inv-loop μ-loop
-returns c = let l = c .before .before .before .loop in sym (end-tab (c .before .before .before .before .args .line .now) (l .i) (omega arith) (c .if1 .taken)) ∙ l .inv
+returns c = let l = c .before .before .before .loop in sym (end-tab (c .before .before .before .before .args .line .now) (l .i) (omega
+    arith) (c .if1 .taken)) ∙ l .inv
 
--- src/read.rt:54:9
 add-i : tie.Need-add-i Inv-loop μ-loop
 add-i c = omega arith
 
--- src/read.rt:50:5
 loop-less : tie.Need-loop-less Inv-loop μ-loop
 loop-less c = omega arith
 
--- src/read.rt:50:5
 loop-again : tie.Need-loop-again Inv-loop μ-loop
-loop-again c = let l = c .before .before .before .loop in end-next (c .before .before .before .before .args .line .now) (l .i) (omega arith) (c .if1 .left) ∙ l .inv
+loop-again c = let l = c .before .before .before .loop in end-next (c .before .before .before .before .args .line .now) (l .i) (omega arith)
+    (c .if1 .left) ∙ l .inv
 
--- src/read.rt:46:1
 returns-2 : tie.Need-returns-2 Inv-loop μ-loop
 returns-2 c = let l = c .before .loop in sym (end-line (c .before .before .args .line .now) (l .i) (omega arith)) ∙ l .inv
 

@@ -1,7 +1,7 @@
-use Rattle.lines.proofs.read.same_text.Statement.{statement}
-use Rattle.lines.proofs.read.same_text.Tie as tie
-use Rattle.lines.proofs.read.same_text.Reads as reads
-use Rattle.lines.proofs.read.same_text.Lts as lts
+use Rattle.lines.proofs.commands.same_text.Statement.{statement}
+use Rattle.lines.proofs.commands.same_text.Tie as tie
+use Rattle.lines.proofs.commands.same_text.Reads as reads
+use Rattle.lines.proofs.commands.same_text.Lts as lts
 use native.Mathlib.Omega.{arith}
 use mathlib.Core.Path.{_≡_, refl, sym, _∙_}
 use Prim.Native.Nat.{_≤_, _-_, _+_}
@@ -16,41 +16,40 @@ Inv-loop x y i₀ i = (i ≤ length x) × (length x ≡ length y) × (same (drop
 abbrev μ-loop : tie.MeasureT-loop
 μ-loop x y i₀ i = length x - i
 
--- src/read.rt:32:9
 returns : tie.Need-returns Inv-loop μ-loop
 returns c = sym (same-lengths (c .before .args .x .now) (c .before .args .y .now) (c .if1 .taken))
 
--- src/read.rt:35:5
 loop-holds : tie.Need-loop-holds Inv-loop μ-loop
 loop-holds c = (omega arith, c .if1 .left, refl)
 
--- src/read.rt:36:12
 shared-slice-read-if2 : tie.Need-shared-slice-read-if2 Inv-loop μ-loop
 shared-slice-read-if2 c = omega arith
 
--- src/read.rt:36:20
 shared-slice-read-if2-2 : tie.Need-shared-slice-read-if2-2 Inv-loop μ-loop
 shared-slice-read-if2-2 c = omega arith
 
--- src/read.rt:37:13
 add-i : tie.Need-add-i Inv-loop μ-loop
 add-i c = omega arith
 
--- src/read.rt:35:5
 loop-less : tie.Need-loop-less Inv-loop μ-loop
 loop-less c = omega arith
 
--- src/read.rt:35:5
 loop-again : tie.Need-loop-again Inv-loop μ-loop
-loop-again c = let l = c .before .before .before .before .loop in (omega arith, l .inv .1, same-next (c .before .before .before .before .before .before .args .x .now) (c .before .before .before .before .before .before .args .y .now) (l .i) (omega arith) (omega arith) (c .if2 .taken) ∙ l .inv .2)
+loop-again c = let l = c .before .before .before .before .loop in (
+  omega arith,
+  l .inv .1,
+  same-next (c .before .before .before .before
+      .before .before .args .x .now) (c .before .before .before .before .before .before .args .y .now) (l .i) (omega arith) (omega arith) (c
+      .if2 .taken) ∙ l .inv .2,
+)
 
--- src/read.rt:39:13
 returns-2 : tie.Need-returns-2 Inv-loop μ-loop
-returns-2 c = let l = c .before .before .before .before .loop in sym (same-stop (c .before .before .before .before .before .before .args .x .now) (c .before .before .before .before .before .before .args .y .now) (l .i) (omega arith) (omega arith) (c .if2 .left)) ∙ l .inv .2
+returns-2 c = let l = c .before .before .before .before .loop in sym (same-stop (c .before .before .before .before .before .before .args .x
+    .now) (c .before .before .before .before .before .before .args .y .now) (l .i) (omega arith) (omega arith) (c .if2 .left)) ∙ l .inv .2
 
--- src/read.rt:28:1
 returns-3 : tie.Need-returns-3 Inv-loop μ-loop
-returns-3 c = let l = c .before .loop in sym (same-end (c .before .before .before .args .x .now) (c .before .before .before .args .y .now) (l .i) (omega arith) (omega arith)) ∙ l .inv .2
+returns-3 c = let l = c .before .loop in sym (same-end (c .before .before .before .args .x .now) (c .before .before .before .args .y .now)
+    (l .i) (omega arith) (omega arith)) ∙ l .inv .2
 
 pub same-text-spec : {M : Type 1} → statement M
 same-text-spec =
