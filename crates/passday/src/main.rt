@@ -1,0 +1,81 @@
+// The script program: reads a script's lines from standard input, runs them against a server of 128 blocks, 32 files, 4 sessions and MAXSEL 50, and
+// prints what it answers. All but reading and writing is done by the crate script.
+mod pass;
+
+use libc::STDOUT_FILENO;
+use pass::Pass;
+
+// Turns of the program. Nothing says that the input ends, so they are counted down from a number that no run uses up.
+fn play(
+    start: Pass,
+    disk: &mut [u8],
+    map: &mut [u64],
+    owner: &mut [u16],
+    table: &mut [u32],
+    selected: &mut [u32],
+    held: &mut [u8],
+    input: &mut [u8],
+    bytes: &mut [u8],
+    text: &mut [u8],
+) -> Pass {
+    let mut pass = start;
+    let mut turns = u64::MAX;
+    while 0 < turns {
+        pass = pass::turn(
+            pass,
+            disk,
+            map,
+            owner,
+            table,
+            selected,
+            held,
+            input,
+            bytes,
+            text,
+        );
+        if pass::is_over(pass) {
+            return pass;
+        }
+        turns -= 1;
+    }
+    pass
+}
+
+fn main() {
+    io::write_all(STDOUT_FILENO, b"session\tpacket\tinformation\n");
+    let mut disk = [0u8; 32768];
+    let mut map = [0u64; 2];
+    let mut owner = [0u16; 128];
+    let mut table = [0u32; 128];
+    let mut selected = [0u32; 200];
+    let mut held = [0u8; 1032];
+    let made = server::make(
+        128,
+        32,
+        4,
+        50,
+        &disk,
+        &mut map,
+        &mut owner,
+        &mut table,
+        &mut selected,
+        &mut held,
+    );
+    let mut input = [0u8; 262144];
+    let mut bytes = [0u8; 65536];
+    let mut text = [0u8; 65536];
+    let server = made.server;
+    let end = play(
+        pass::new_pass(server),
+        &mut disk,
+        &mut map,
+        &mut owner,
+        &mut table,
+        &mut selected,
+        &mut held,
+        &mut input,
+        &mut bytes,
+        &mut text,
+    );
+    pass::finish(end, &map, &owner, &mut text);
+}

@@ -1,0 +1,30 @@
+-- The server's call for what a script is doing (document 01, "The script program"). Assumes nothing.
+use mathlib.Core.List.{List}
+use Prim.Native.Nat.{ℕ}
+use Rattle.session.specs.declared.reply.Answer.the-variants as answer
+use Rattle.server.specs.declared.Server.{Server}
+use Rattle.server.specs.State.{Lent, lent, Outcome, outcome, doneWith}
+use Rattle.server.specs.Calls.{Opened, Lost, loginOf, receiveOf, requestOf, loseOf}
+use Rattle.script.specs.declared.doing.Doing.{Doing}
+use Rattle.script.specs.declared.doing.Doing.the-variants as doing
+use Rattle.script.specs.Parts.{bytesFrom}
+
+-- "`rx`, session and hex bytes"
+unfoldable pub hearOf : Server → ℕ → ℕ → ℕ → ℕ → List ℕ → Lent → List ℕ → Outcome
+hearOf sv clock session at n bytes l out = receiveOf sv l out session clock (bytesFrom at n bytes)
+
+-- a call that changes the server and the output alone
+abbrev pub onlyOut : Lent → Opened → Outcome
+onlyOut l o = outcome (o .done) l (o .out)
+
+-- a call that leaves the store and the output as they are
+abbrev pub onlyLinks : Lent → List ℕ → Lost → Outcome
+onlyLinks l out o = outcome (o .done) (lent (l .disk) (l .map) (l .owner) (l .table) (o .selected) (o .held)) out
+
+-- "`open` and a session, `drop` and a session, `rx`, session and hex bytes"; requests follow an `rx`; while resting nothing happens
+unfoldable pub callOf : Server → ℕ → Doing → List ℕ → Lent → List ℕ → Outcome
+callOf sv clock doing.Rest bytes l out = outcome (doneWith sv (answer.Quiet 0)) l out
+callOf sv clock (doing.Opening session) bytes l out = onlyOut l (loginOf sv l out session clock)
+callOf sv clock (doing.Dropping session) bytes l out = onlyLinks l out (loseOf sv l session)
+callOf sv clock (doing.Hearing session at n) bytes l out = hearOf sv clock session at n bytes l out
+callOf sv clock (doing.Pumping session) bytes l out = onlyOut l (requestOf sv l out session)

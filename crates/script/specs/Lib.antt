@@ -1,0 +1,7 @@
+pub mod Parts
+pub mod Input
+pub mod Doing
+pub mod Calling
+pub mod Printing
+pub mod Day
+pub mod Line

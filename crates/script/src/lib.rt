@@ -1,0 +1,150 @@
+// A script's line run against the server, one call of the server at a time.
+//
+// A line is begun, then stepped until the script rests: each step is one call of the server and at most one printed line. Every step has an
+// answer, whatever it is handed; the contracts say what the call was, what it left and what was printed.
+mod calling;
+pub mod doing;
+pub mod input;
+pub mod parts;
+mod printing;
+
+use doing::Doing;
+use lines::read::Command;
+use server::Server;
+ghost use mathlib.Core.Path.{_≡_};
+ghost use Prim.Native.Nat.{_≤_};
+ghost use lib.ListN.{length, take};
+ghost use Rattle.blocks.specs.FreeMap.{freeCount};
+ghost use Rattle.blocks.specs.Owners.{heldCount};
+ghost use Rattle.server.specs.State.{lent};
+ghost use Rattle.lines.specs.Lines.{printed, printedIn, blocksLine};
+ghost use Rattle.script.specs.Day.{beginOf, stepping, turnOf, stepOf};
+
+// The script between two calls: the server, the clock, and what is being done.
+pub struct Day {
+    pub server: Server,
+    pub clock: u32,
+    pub doing: Doing,
+}
+
+// The script after a step, and how many bytes were printed.
+pub struct Stepped {
+    pub day: Day,
+    pub written: usize,
+}
+
+// A text of so many bytes has room for any line that is printed.
+pub const ROOM: usize = 560;
+
+// A command that was read is begun. A line that can't be read does nothing.
+pub fn begin(day: Day, command: Command) -> Day
+    ensures { λ r. ⌜ r ≡ beginOf day command ⌝ }
+{
+    let server = day.server;
+    let clock = day.clock;
+    match command {
+        Command::Unreadable => day,
+        Command::Time(now) => Day {
+            server: server,
+            clock: now,
+            doing: Doing::Rest,
+        },
+        Command::Open(session) => Day {
+            server: server,
+            clock: clock,
+            doing: Doing::Opening(session),
+        },
+        Command::Drop(session) => Day {
+            server: server,
+            clock: clock,
+            doing: Doing::Dropping(session),
+        },
+        Command::Rx(session, n) => Day {
+            server: server,
+            clock: clock,
+            doing: Doing::Hearing(session, 0, n),
+        },
+    }
+}
+
+// One call of the server, and its line.
+fn turn(
+    day: Day,
+    disk: &mut [u8],
+    map: &mut [u64],
+    owner: &mut [u16],
+    table: &mut [u32],
+    selected: &mut [u32],
+    held: &mut [u8],
+    bytes: &[u8],
+    text: &mut [u8],
+) -> Stepped
+    ensures { λ r. ⌜ stepping r (lent (now (disk .exit)) (now (map .exit)) (now (owner .exit)) (now (table .exit)) (now (selected .exit)) (now (held .exit))) (now (text .exit))
+        ≡ turnOf day (lent (now (disk .entry)) (now (map .entry)) (now (owner .entry)) (now (table .entry)) (now (selected .entry)) (now (held .entry))) (now (bytes .entry)) (now (text .entry)) ⌝ }
+{
+    let mut out = [0u8; 258];
+    let server = day.server;
+    let clock = day.clock;
+    let doing = day.doing;
+    let done = calling::call(
+        server,
+        clock,
+        doing,
+        bytes,
+        disk,
+        map,
+        owner,
+        table,
+        selected,
+        held,
+        &mut out,
+    );
+    let answer = done.answer;
+    let written = printing::show(doing::session_of(doing), answer, &out, text);
+    let next = done.server;
+    let then = doing::after(doing, answer, bytes.len());
+    let after = Day {
+        server: next,
+        clock: clock,
+        doing: then,
+    };
+    Stepped {
+        day: after,
+        written: written,
+    }
+}
+
+// One call of the server for what is being done, and its line, if it has one, at the front of the text. Where the text is shorter than any line
+// can be, nothing happens at all, so that the caller can empty it and go on.
+pub fn step(
+    day: Day,
+    disk: &mut [u8],
+    map: &mut [u64],
+    owner: &mut [u16],
+    table: &mut [u32],
+    selected: &mut [u32],
+    held: &mut [u8],
+    bytes: &[u8],
+    text: &mut [u8],
+) -> Stepped
+    ensures { λ r. ⌜ stepping r (lent (now (disk .exit)) (now (map .exit)) (now (owner .exit)) (now (table .exit)) (now (selected .exit)) (now (held .exit))) (now (text .exit))
+        ≡ stepOf day (lent (now (disk .entry)) (now (map .entry)) (now (owner .entry)) (now (table .entry)) (now (selected .entry)) (now (held .entry))) (now (bytes .entry)) (now (text .entry)) ⌝ }
+    ensures { λ r. ⌜ r .written ≤ length (now (text .entry)) ⌝ }
+{
+    if text.len() < ROOM {
+        return Stepped {
+            day: day,
+            written: 0,
+        };
+    }
+    turn(day, disk, map, owner, table, selected, held, bytes, text)
+}
+
+// The last line: the blocks free, the one bits of the map, and the blocks held.
+pub fn blocks(map: &[u64], owner: &[u16], text: &mut [u8]) -> usize
+    ensures { λ r. ⌜ printed r (now (text .exit)) ≡ printedIn (blocksLine (freeCount (take 64 (now (map .entry)))) (heldCount (now (owner .entry)))) (now (text .entry)) ⌝ }
+{
+    let free = blocks::free_count(map);
+    let held = blocks::held_count(owner);
+    lines::print::blocks_line(free, held, text)
+}
