@@ -115,7 +115,7 @@ unfolding
     demands-accepted.noneBy demands-accepted.uploadOf packet-frame.judged packet-frame.byte packet-frame.withoutPacket packet-frame.answerBy
     packet-frame.answerOf packet-frame.receiveOf packet-machine.called packet-machine.call packet-numbers.number packet-packet.packetOf
     session-expected.expectedUp session-expected.expected session-reply.tell session-reply.answered table-table.files table-table.putTable
-    table-table.firstFrom table-fit.fileFits table-fit.recordFits table-fit.recordsFitFrom table-fit.shares table-fit.sharesWith
+    table-table.firstFrom table-fit.fileFits table-fit.recordFits table-fit.recordsFitFrom table-fit.among table-fit.apart
     table-fit.distinctOf blocks-freemap.freeCount blocks-freemap.lowest blocks-freemap.reservedMap blocks-owners.blocks blocks-owners.countsFrom
     blocks-owners.nth blocks-owners.reservedOwner blocks-owners.releasedOwner blocks-owners.releasedMap blocks-owners.wordOf blocks-owners.mapOf
     blocks-contents.held blocks-contents.stored blocks-check.within blocks-check.mapIs blocks-check.agreesTest blocks-answers.makeOwner

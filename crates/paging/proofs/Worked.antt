@@ -28,7 +28,7 @@ use Rattle.blocks.specs.Check.{within, mapIs, agreesTest}
 use Rattle.blocks.specs.Answers.{makeOwner, makeMap, reserveMap, reserveOwner, releaseMap, releaseOwner, writeDisk, readOut}
 use Rattle.table.specs.Table.{files, putTable, countOf, firstFrom}
 use Rattle.table.specs.Order.{leastAbove, nextAbove, placesAbove}
-use Rattle.table.specs.Fit.{fileFits, recordFits, recordsFitFrom, shares, sharesWith, distinctOf}
+use Rattle.table.specs.Fit.{fileFits, recordFits, recordsFitFrom, apart, among, distinctOf}
 use Rattle.stored.specs.Answers.{checkAt, headerAt, truthAt, setNumber, setDisk}
 use Rattle.files.specs.Sound.{soundTest}
 use Rattle.files.specs.Uploads.{beginAt, beginIn, begunNumber, placeNumber, roomNumber, appendNumber, appendOf, discardNumber, discardOf}
@@ -68,7 +68,7 @@ unfolding
     equation.bytesOf pushed joined result bind run parse truth numberOf said answer refusal validityOf equationAnswer.isYes freeCount lowest
     reservedMap blocks heldCount countsFrom nextOf nth reservedOwner releasedOwner releasedMap wordOf mapOf held stored within mapIs agreesTest
     makeOwner makeMap reserveMap reserveOwner releaseMap releaseOwner writeDisk readOut files putTable countOf firstFrom leastAbove nextAbove
-    placesAbove fileFits recordFits recordsFitFrom shares sharesWith distinctOf checkAt headerAt truthAt setNumber setDisk soundTest beginAt
+    placesAbove fileFits recordFits recordsFitFrom apart among distinctOf checkAt headerAt truthAt setNumber setDisk soundTest beginAt
     beginIn begunNumber placeNumber roomNumber appendNumber appendOf discardNumber discardOf files.beginWith checkOf completeNumber completeOf
     destinationsAt passing selectNumber selectOf filesSelection.isYes expectedUp expectedDown expected tell answered onContinued onUpload onData
     onEnd onUplink onFound onNumbered onDownload onAck onNak onDownlink onPacket onFrame decideOf uplinkSound downlinkSound namedAt namesSound
