@@ -2,3 +2,6 @@
 pub mod Writing
 pub mod Checked
 pub mod Reading
+pub mod Refusals
+pub mod Progress
+pub mod Lengths
