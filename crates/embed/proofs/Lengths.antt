@@ -145,7 +145,8 @@ module _ (state counts : List ℕ) (l : Lent) (session : ℕ) (out : List ℕ) w
   receive-length clock input =
       by-ready (λ (r : calls.Received). r .told .code) (λ (r : calls.Received). getD (r .told .counts) 1 0) state (length counts)
       (λ (k : Ready). calls.onReceive k state counts l out session clock input) (λ n. refl)
-      (tell-bound _ _ state counts (known (λ (o : Outcome). o .done .answer) _ _ (λ n. refl) (receive-ended (serverAt state) l session out clock input))
+      (tell-bound _ _ state counts (known (λ (o : Outcome). o .done .answer) _ _ (λ n. refl)
+      (receive-ended (serverAt state) l session out clock input))
       (on-receive (serverAt state) l out (checkOf (serverAt state) l session true (length out)) clock input))
 
   pub open-length : (clock : ℕ) → calls.openBy state counts l out session clock .told .code ≤ 2

@@ -108,7 +108,8 @@ session-linked sv session out i e =
     go (eqb session 0) (ltb (sv .sessions) session) (linkOf sv (session - 1) .linked) refl (ltb out 258) e
   where
     go : (a b c : Bool) → linkOf sv (session - 1) .linked ≡ c → (d : Bool)
-        → cond a (check.Refuse 34) (cond b (check.Refuse 34) (cond c (cond d (check.Refuse 32) (check.Go (session - 1))) (check.Refuse 34))) ≡ check.Go i
+        → cond a (check.Refuse 34) (cond b (check.Refuse 34) (cond c (cond d (check.Refuse 32) (check.Go (session - 1))) (check.Refuse 34)))
+        ≡ check.Go i
         → linkOf sv i .linked ≡ true
     go true b c p d e = let z : _≡_ {A = ℕ} 0 1 = cc in absurd (omega arith)
     go false true c p d e = let z : _≡_ {A = ℕ} 0 1 = cc in absurd (omega arith)
@@ -133,13 +134,15 @@ links-sound : (sv : Server) (l : Lent) → soundParts sv (l .map) (l .owner) (l 
     → linksSound (files (take (4 * sv .files) (l .table))) (sv .sessions) (sv .most) (l .selected) (l .held) (sv .links) ≡ true
 unfolding soundParts
 links-sound sv l e =
-    both-true (soundTest (take (words (sv .blocks)) (l .map)) (take (sv .blocks) (l .owner)) (take (4 * sv .files) (l .table)) (sv .last .number) (sv .last .time)) _ e .1
+    both-true (soundTest (take (words (sv .blocks)) (l .map)) (take (sv .blocks) (l .owner)) (take (4 * sv .files) (l .table)) (sv .last .number)
+    (sv .last .time)) _ e .1
 
 -- the bytes held of an unfinished packet are fewer than the longest packet has
 held-below : (sv : Server) (l : Lent) (i : ℕ) → Seen sv l i → i < sv .sessions → linkOf sv i .held < 258
 held-below sv l i s h = go (ltb (linkOf sv i .held) 2) refl
   where
-    facts : LinkFacts (files (take (4 * sv .files) (l .table))) (sv .most) (selectionOf (sv .most) (l .selected) i) (packetOf (l .held) i) (linkOf sv i)
+    facts : LinkFacts (files (take (4 * sv .files) (l .table))) (sv .most) (selectionOf (sv .most) (l .selected) i) (packetOf (l .held) i)
+        (linkOf sv i)
     facts = sound-facts _ _ _ _ _ _ (links-sound sv l (s .sound)) .each i h (s .linked)
 
     go : (t : Bool) → ltb (linkOf sv i .held) 2 ≡ t → linkOf sv i .held < 258
@@ -156,7 +159,8 @@ step-takes : (sv : Server) (session i clock : ℕ) (input : List ℕ) (l : Lent)
 step-takes sv session i clock input l out e =
     let p = check-go sv session true (length out) (length (l .disk)) (l .map) (l .owner) (l .table) (l .selected) (l .held) i e in
     subst (λ (n : ℕ). Takes (length input) n) (sym (step-taken sv i clock input l out (p .out)))
-    (frame-takes (part (i * 258) 258 (l .held)) (linkOf sv i .held) input (part-length (l .held) i (sv .sessions) (p .index) (p .room .held)) (held-below sv l i (check-seen sv l session (length out) i e) (p .index)))
+    (frame-takes (part (i * 258) 258 (l .held)) (linkOf sv i .held) input (part-length (l .held) i (sv .sessions) (p .index) (p .room .held))
+    (held-below sv l i (check-seen sv l session (length out) i e) (p .index)))
 
 -- ---- by the call
 
@@ -182,7 +186,8 @@ module _ (state counts : List ℕ) (l : Lent) (out : List ℕ) (session clock : 
       let sv = serverAt state in
       let p = check-go sv session true (length out) (length (l .disk)) (l .map) (l .owner) (l .table) (l .selected) (l .held) i e in
       subst (λ (n : ℕ). Takes (length input) n)
-      (sym (tell-counts (stepOf sv i clock input l out .done .answer) (stepOf sv i clock input l out .done .server) state counts (step-not sv i clock input l out (p .out))))
+      (sym (tell-counts (stepOf sv i clock input l out .done .answer) (stepOf sv i clock input l out .done .server) state counts
+      (step-not sv i clock input l out (p .out))))
       (step-takes sv session i clock input l out e)
 
   ready-takes : (k : Ready) → Local (readyNumber k)

@@ -18,7 +18,8 @@ use Rattle.session.specs.State.{closedSession}
 use Rattle.server.specs.declared.Server.{Server}
 use Rattle.server.specs.State.{linkOf}
 use Rattle.embed.specs.declared.words.Ready.the-variants.{Go}
-use Rattle.embed.specs.Words.{upWords, downWords, flag, sessionWords, headWords, wordsOf, encodeOf, low, upOf, downOf, sessionAt, serverAt, sameWords, isState, readyOf}
+use Rattle.embed.specs.Words.{upWords, downWords, flag, sessionWords, headWords, wordsOf, encodeOf}
+use Rattle.embed.specs.Words.{low, upOf, downOf, sessionAt, serverAt, sameWords, isState, readyOf}
 use Rattle.embed.specs.Fit.{upOffset, upReceived, downOffset, downSent, SessionFits, ServerFits}
 use Rattle.embed.proofs.Writing.{length-session, length-words}
 
@@ -76,7 +77,8 @@ session-parts l u d h c n rest x y = go (x .a) (x .b) (x .c) (x .d) (x .are) (x 
 session-here : (s : Session) (rest : List ℕ) → SessionFits s → sessionAt (sessionWords s ++ rest) 0 ≡ s
 unfolding sessionWords
 session-here s rest f =
-    session-parts (s .linked) (s .up) (s .down) (s .held) (s .count) (s .next) rest (up-at (s .up) (f .offsetUp) (f .received)) (down-at (s .down) (f .offsetDown) (f .sent))
+    session-parts (s .linked) (s .up) (s .down) (s .held) (s .count) (s .next) rest (up-at (s .up) (f .offsetUp) (f .received))
+    (down-at (s .down) (f .offsetDown) (f .sent))
 
 -- ---- where a session's words stand
 
@@ -84,7 +86,20 @@ at-drop : (l : List ℕ) (at : ℕ) → sessionAt l at ≡ sessionAt (drop at l)
 unfolding sessionAt
 at-drop l at =
     let e0 : getD (drop at l) 0 0 ≡ getD l at 0 = getD-drop at l 0 0 ∙ ap (λ (k : ℕ). getD l k 0) (add-zero at) in
-    rw (e0, getD-drop at l 1 0, getD-drop at l 2 0, getD-drop at l 3 0, getD-drop at l 4 0, getD-drop at l 5 0, getD-drop at l 6 0, getD-drop at l 7 0, getD-drop at l 8 0, getD-drop at l 9 0, getD-drop at l 10 0, getD-drop at l 11 0)
+    rw (
+      e0,
+      getD-drop at l 1 0,
+      getD-drop at l 2 0,
+      getD-drop at l 3 0,
+      getD-drop at l 4 0,
+      getD-drop at l 5 0,
+      getD-drop at l 6 0,
+      getD-drop at l 7 0,
+      getD-drop at l 8 0,
+      getD-drop at l 9 0,
+      getD-drop at l 10 0,
+      getD-drop at l 11 0,
+    )
 
 past : (xs ys : List ℕ) (n : ℕ) → length xs ≡ 12 → drop (12 + n) (xs ++ ys) ≡ drop n ys
 past xs ys n e = subst (λ (k : ℕ). drop (k + n) (xs ++ ys) ≡ drop n ys) e (drop-append-add xs ys n)
@@ -107,14 +122,19 @@ module _ (a b c d : Session) (fa : SessionFits a) (fb : SessionFits b) (fc : Ses
       record {
         first = at-drop l 6 ∙ session-here a w fa;
         second = at-drop l 18 ∙ (ap (λ (k : List ℕ). sessionAt k 0) (past (sessionWords a) w 0 (length-session a)) ∙ session-here b z fb);
-        third = at-drop l 30 ∙ (ap (λ (k : List ℕ). sessionAt k 0) (past (sessionWords a) w 12 (length-session a) ∙ past (sessionWords b) z 0 (length-session b)) ∙ session-here c y fc);
-        fourth = at-drop l 42 ∙ (ap (λ (k : List ℕ). sessionAt k 0) (past (sessionWords a) w 24 (length-session a) ∙ (past (sessionWords b) z 12 (length-session b) ∙ past (sessionWords c) y 0 (length-session c))) ∙ session-here d rest fd);
+        third =
+            at-drop l 30 ∙ (ap (λ (k : List ℕ). sessionAt k 0) (past (sessionWords a) w 12 (length-session a) ∙ past (sessionWords b) z 0
+            (length-session b)) ∙ session-here c y fc);
+        fourth =
+            at-drop l 42 ∙ (ap (λ (k : List ℕ). sessionAt k 0) (past (sessionWords a) w 24 (length-session a) ∙
+            (past (sessionWords b) z 12 (length-session b) ∙ past (sessionWords c) y 0 (length-session c))) ∙ session-here d rest fd);
       }
 
 -- ---- a server's words
 
 regroup : (a b c d r : List ℕ) → (a ++ (b ++ (c ++ d))) ++ r ≡ a ++ (b ++ (c ++ (d ++ r)))
-regroup a b c d r = append-assoc a (b ++ (c ++ d)) r ∙ ap (λ (k : List ℕ). a ++ k) (append-assoc b (c ++ d) r ∙ ap (λ (k : List ℕ). b ++ k) (append-assoc c d r))
+regroup a b c d r =
+    append-assoc a (b ++ (c ++ d)) r ∙ ap (λ (k : List ℕ). a ++ k) (append-assoc b (c ++ d) r ∙ ap (λ (k : List ℕ). b ++ k) (append-assoc c d r))
 
 four-links : (l : List Session) → length l ≡ 4
     → getD l 0 closedSession ∷ getD l 1 closedSession ∷ getD l 2 closedSession ∷ getD l 3 closedSession ∷ [] ≡ l
@@ -134,15 +154,18 @@ server-from sv x f w =
     rw (w .first, w .second, w .third, w .fourth, mod-eq-of-lt (f .number), mod-eq-of-lt (f .time), four-links (sv .links) (f .four))
 
 words-then : (sv : Server) (r : List ℕ) → wordsOf sv ++ r
-    ≡ headWords sv ++ (sessionWords (linkOf sv 0) ++ (sessionWords (linkOf sv 1) ++ (sessionWords (linkOf sv 2) ++ (sessionWords (linkOf sv 3) ++ r))))
+    ≡ headWords sv ++ (sessionWords (linkOf sv 0) ++ (sessionWords (linkOf sv 1) ++
+    (sessionWords (linkOf sv 2) ++ (sessionWords (linkOf sv 3) ++ r))))
 unfolding wordsOf
 words-then sv r =
-    ap (λ (k : List ℕ). headWords sv ++ k) (regroup (sessionWords (linkOf sv 0)) (sessionWords (linkOf sv 1)) (sessionWords (linkOf sv 2)) (sessionWords (linkOf sv 3)) r)
+    ap (λ (k : List ℕ). headWords sv ++ k) (regroup (sessionWords (linkOf sv 0)) (sessionWords (linkOf sv 1)) (sessionWords (linkOf sv 2))
+    (sessionWords (linkOf sv 3)) r)
 
 server-then : (sv : Server) (r : List ℕ) → ServerFits sv → serverAt (wordsOf sv ++ r) ≡ sv
 server-then sv r f =
     ap serverAt (words-then sv r)
-    ∙ server-from sv _ f (four-at (linkOf sv 0) (linkOf sv 1) (linkOf sv 2) (linkOf sv 3) (f .each 0 (omega arith)) (f .each 1 (omega arith)) (f .each 2 (omega arith)) (f .each 3 (omega arith)) r (sv .blocks) (sv .files) (sv .sessions) (sv .most) (sv .last .number) (sv .last .time))
+    ∙ server-from sv _ f (four-at (linkOf sv 0) (linkOf sv 1) (linkOf sv 2) (linkOf sv 3) (f .each 0 (omega arith)) (f .each 1 (omega arith))
+    (f .each 2 (omega arith)) (f .each 3 (omega arith)) r (sv .blocks) (sv .files) (sv .sessions) (sv .most) (sv .last .number) (sv .last .time))
 
 -- a server whose numbers fit their types is read back from its words
 pub read-back : (sv : Server) (state : List ℕ) → ServerFits sv → serverAt (encodeOf sv state) ≡ sv
@@ -211,8 +234,10 @@ unfolding downOf downOffset downSent
 down-fits case place offset sent = go (eqb case 1) (eqb case 2) (eqb case 3)
   where
     go : (a b c : Bool)
-        → (downOffset (cond a (down.Sending place (low offset) (low sent)) (cond b (down.Ended place) (cond c (down.Aborting place) down.Idle))) < 4294967296)
-        × (downSent (cond a (down.Sending place (low offset) (low sent)) (cond b (down.Ended place) (cond c (down.Aborting place) down.Idle))) < 4294967296)
+        → (downOffset (cond a (down.Sending place (low offset) (low sent))
+        (cond b (down.Ended place) (cond c (down.Aborting place) down.Idle))) < 4294967296)
+        × (downSent (cond a (down.Sending place (low offset) (low sent))
+        (cond b (down.Ended place) (cond c (down.Aborting place) down.Idle))) < 4294967296)
     go true b c = (omega arith, omega arith)
     go false true c = (omega arith, omega arith)
     go false false true = (omega arith, omega arith)
@@ -240,5 +265,7 @@ read-fits l =
       number = omega arith;
       time = omega arith;
       four = refl;
-      each = each-fits (sessionAt l 6) (sessionAt l 18) (sessionAt l 30) (sessionAt l 42) (session-fits l 6) (session-fits l 18) (session-fits l 30) (session-fits l 42);
+      each =
+          each-fits (sessionAt l 6) (sessionAt l 18) (sessionAt l 30) (sessionAt l 42) (session-fits l 6) (session-fits l 18) (session-fits l 30)
+          (session-fits l 42);
     }

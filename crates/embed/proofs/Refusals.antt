@@ -24,7 +24,8 @@ use Rattle.server.specs.declared.check.Check.the-variants as check
 use Rattle.server.specs.State.{Lent, linkOf, Outcome, outcome, doneWith}
 use Rattle.server.specs.Check.{soundParts, fits, inState, sessionCheck, checkParts, checkOf}
 use Rattle.server.specs.Sending.{Due, dueOf, sendingOf, dataOf}
-use Rattle.server.specs.Calls.{answeredBy, heardBy, stepOf, onCheck, receiveOf, Opened, opened, onLogin, loginOf, Lost, lost, onLose, loseOf, dueAs, onRequest, requestOf}
+use Rattle.server.specs.Calls.{answeredBy, heardBy, stepOf, onCheck, receiveOf, Opened, opened, onLogin}
+use Rattle.server.specs.Calls.{loginOf, Lost, lost, onLose, loseOf, dueAs, onRequest, requestOf}
 use Rattle.server.specs.Making.{Emptied, emptied, newServer, emptyOf, makes, makeOf}
 use Rattle.server.proofs.CheckLaws.{check-go}
 use Rattle.embed.specs.declared.words.Ready.{Ready}
@@ -45,7 +46,8 @@ session-number sv session wanted out =
     go (eqb session 0) (ltb (sv .sessions) session) (inState wanted (linkOf sv (session - 1) .linked)) (ltb out 258)
   where
     go : (a b c d : Bool)
-        → Local (checkNumber (cond a (check.Refuse 34) (cond b (check.Refuse 34) (cond c (cond d (check.Refuse 32) (check.Go (session - 1))) (check.Refuse 34)))))
+        → Local (checkNumber (cond a (check.Refuse 34) (cond b (check.Refuse 34)
+        (cond c (cond d (check.Refuse 32) (check.Go (session - 1))) (check.Refuse 34)))))
     go true b c d = (omega arith, omega arith)
     go false true c d = (omega arith, omega arith)
     go false false false d = (omega arith, omega arith)
@@ -140,11 +142,14 @@ module _ (sv : Server) (l : Lent) (session : ℕ) where
   by-check : {R : Type 0} (answerOf : R → Answer) (same : ℕ → R) (wanted : Bool) (out : ℕ) (f : Check → R)
       → ((n : ℕ) → f (check.Refuse n) ≡ same n) → ((i : ℕ) → 258 ≤ out → isRefused (answerOf (f (check.Go i))) ≡ false)
       → Ended answerOf same (f (checkOf sv l session wanted out))
-  by-check answerOf same wanted out f kept gone = go (checkOf sv l session wanted out) refl (check-number sv session wanted out (length (l .disk)) (l .map) (l .owner) (l .table) (l .selected) (l .held))
+  by-check answerOf same wanted out f kept gone =
+      go (checkOf sv l session wanted out) refl (check-number sv session wanted out (length (l .disk)) (l .map) (l .owner) (l .table) (l .selected)
+      (l .held))
     where
       go : (k : Check) → checkOf sv l session wanted out ≡ k → Local (checkNumber (checkOf sv l session wanted out)) → Ended answerOf same (f k)
       go (check.Refuse n) e h = refused n (subst (λ (c : Check). Local (checkNumber c)) e h) (kept n)
-      go (check.Go i) e h = through (gone i (check-go sv session wanted out (length (l .disk)) (l .map) (l .owner) (l .table) (l .selected) (l .held) i e .out))
+      go (check.Go i) e h =
+          through (gone i (check-go sv session wanted out (length (l .disk)) (l .map) (l .owner) (l .table) (l .selected) (l .held) i e .out))
 
   pub receive-ended : (out : List ℕ) (clock : ℕ) (input : List ℕ)
       → Ended (λ (o : Outcome). o .done .answer) (λ (n : ℕ). outcome (doneWith sv (answer.Refused n)) l out) (receiveOf sv l out session clock input)
@@ -162,9 +167,11 @@ module _ (sv : Server) (l : Lent) (session : ℕ) where
       → Ended (λ (o : Opened). o .done .answer) (λ (n : ℕ). opened (doneWith sv (answer.Refused n)) out) (requestOf sv l out session)
   unfolding requestOf onRequest dueAs
   request-ended out =
-      by-check _ _ true (length out) (λ (k : Check). onRequest k sv l out) (λ n. refl) (λ i h. due-not (linkOf sv i .down) (linkOf sv i) (l .disk) _ _ out h)
+      by-check _ _ true (length out) (λ (k : Check). onRequest k sv l out) (λ n. refl)
+      (λ i h. due-not (linkOf sv i .down) (linkOf sv i) (l .disk) _ _ out h)
 
-  pub lose-ended : Ended (λ (o : Lost). o .done .answer) (λ (n : ℕ). lost (doneWith sv (answer.Refused n)) (l .selected) (l .held)) (loseOf sv l session)
+  pub lose-ended : Ended (λ (o : Lost). o .done .answer) (λ (n : ℕ). lost (doneWith sv (answer.Refused n)) (l .selected) (l .held))
+      (loseOf sv l session)
   unfolding loseOf onLose
   lose-ended = by-check _ _ true 258 (λ (k : Check). onLose k sv (l .selected) (l .held)) (λ n. refl) (λ i h. refl)
 
@@ -194,7 +201,8 @@ module _ (state counts : List ℕ) (l : Lent) (session : ℕ) where
   receive-go out o (refused n h e) = unchanged n h (ap (calls.receivedBy state counts) e)
 
   pub receive-ends : (out : List ℕ) (clock : ℕ) (input : List ℕ)
-      → Ends (λ (r : calls.Received). r .told .code) (λ (n : ℕ). calls.received (calls.told n state counts) l out) (calls.receiveBy state counts l out session clock input)
+      → Ends (λ (r : calls.Received). r .told .code) (λ (n : ℕ). calls.received (calls.told n state counts) l out)
+      (calls.receiveBy state counts l out session clock input)
   unfolding calls.receiveBy calls.onReceive
   receive-ends out clock input =
       by-ready _ _ state (length counts) (λ (k : Ready). calls.onReceive k state counts l out session clock input) (λ n. refl)
@@ -208,7 +216,8 @@ module _ (state counts : List ℕ) (l : Lent) (session : ℕ) where
   sent-go out o (refused n h e) = unchanged n h (ap (calls.sentBy state counts) e)
 
   pub open-ends : (out : List ℕ) (clock : ℕ)
-      → Ends (λ (r : calls.Sent). r .told .code) (λ (n : ℕ). calls.sent (calls.told n state counts) out) (calls.openBy state counts l out session clock)
+      → Ends (λ (r : calls.Sent). r .told .code) (λ (n : ℕ). calls.sent (calls.told n state counts) out)
+      (calls.openBy state counts l out session clock)
   unfolding calls.openBy calls.onOpen
   open-ends out clock =
       by-ready _ _ state (length counts) (λ (k : Ready). calls.onOpen k state counts l out session clock) (λ n. refl)
@@ -223,13 +232,15 @@ module _ (state counts : List ℕ) (l : Lent) (session : ℕ) where
 
   lose-go : (o : Lost)
       → Ended (λ (o : Lost). o .done .answer) (λ (n : ℕ). lost (doneWith (serverAt state) (answer.Refused n)) (l .selected) (l .held)) o
-      → Ends (λ (r : calls.Gone). r .told .code) (λ (n : ℕ). calls.gone (calls.told n state counts) (l .selected) (l .held)) (calls.goneBy state counts o)
+      → Ends (λ (r : calls.Gone). r .told .code) (λ (n : ℕ). calls.gone (calls.told n state counts) (l .selected) (l .held))
+      (calls.goneBy state counts o)
   unfolding calls.tellOf
   lose-go o (through p) = answered (tell-code (o .done .answer) (o .done .server) state counts p)
   lose-go o (refused n h e) = unchanged n h (ap (calls.goneBy state counts) e)
 
   pub lose-ends :
-      Ends (λ (r : calls.Gone). r .told .code) (λ (n : ℕ). calls.gone (calls.told n state counts) (l .selected) (l .held)) (calls.loseBy state counts l session)
+      Ends (λ (r : calls.Gone). r .told .code) (λ (n : ℕ). calls.gone (calls.told n state counts) (l .selected) (l .held))
+      (calls.loseBy state counts l session)
   unfolding calls.loseBy calls.onLose
   lose-ends =
       by-ready _ _ state (length counts) (λ (k : Ready). calls.onLose k state counts l session) (λ n. refl)
