@@ -2,11 +2,11 @@
 -- nothing."
 use mathlib.Core.Path.{_≡_, refl, ap, subst}
 use mathlib.Core.Bool.{Bool, true, false, cond}
-use mathlib.Core.List.{List}
+use mathlib.Core.List.{List, _++_}
 use Prim.Native.Nat.{ℕ, _+_, _-_, _≤_}
 use native.Mathlib.Omega.{arith}
 use lib.Dec.{eqb, ltb}
-use lib.ListN.{length}
+use lib.ListN.{length, take, drop}
 use borrow.Author.Tests.{le-ltb}
 use Rattle.session.specs.declared.state.Session.{Session}
 use Rattle.session.specs.declared.state.Downlink.{Downlink}
@@ -16,13 +16,14 @@ use Rattle.session.specs.declared.reply.Answer.the-variants as answer
 use Rattle.session.specs.declared.reply.Reply.{Reply}
 use Rattle.session.specs.declared.reply.Reply.the-variants as reply
 use Rattle.session.specs.Reply as replies
+use Rattle.blocks.specs.FreeMap.{freeCount}
 use Rattle.table.specs.declared.File.{File}
 use Rattle.table.specs.Table.{fileAt}
 use Rattle.server.specs.declared.Server.{Server}
 use Rattle.server.specs.declared.check.Check.{Check}
 use Rattle.server.specs.declared.check.Check.the-variants as check
-use Rattle.server.specs.State.{Lent, linkOf, Outcome, outcome, doneWith}
-use Rattle.server.specs.Check.{soundParts, fits, inState, sessionCheck, checkParts, checkOf}
+use Rattle.server.specs.State.{Lent, words, linkOf, Outcome, outcome, doneWith}
+use Rattle.server.specs.Check.{sizesFit, soundParts, fits, inState, sessionCheck, checkParts, checkOf}
 use Rattle.server.specs.Sending.{Due, dueOf, sendingOf, dataOf}
 use Rattle.server.specs.Calls.{answeredBy, heardBy, stepOf, onCheck, receiveOf, Opened, opened, onLogin}
 use Rattle.server.specs.Calls.{loginOf, Lost, lost, onLose, loseOf, dueAs, onRequest, requestOf}
@@ -264,3 +265,37 @@ module _ (blocks files sessions most : ℕ) (state : List ℕ) (disk : ℕ) (l :
       go true b = unchanged 33 (omega arith, omega arith) refl
       go false true = answered (omega arith)
       go false false = unchanged 33 (omega arith, omega arith) refl
+
+-- so do the two calls that only write numbers
+module _ (blocks files sessions most : ℕ) (need : List ℕ) where
+  pub memory-ends : Ends (λ (r : calls.Filled). r .code) (λ (n : ℕ). calls.filled n need) (calls.memoryBy blocks files sessions most need)
+  unfolding calls.memoryBy
+  memory-ends = go (ltb (length need) 7) (sizesFit blocks files sessions most)
+    where
+      go : (a b : Bool)
+          → Ends (λ (r : calls.Filled). r .code) (λ (n : ℕ). calls.filled n need)
+          (cond a (calls.filled 33 need)
+          (cond b (calls.filled 0 (calls.lengthsFor blocks files sessions most ++ drop 7 need)) (calls.filled 33 need)))
+      go true b = unchanged 33 (omega arith, omega arith) refl
+      go false true = answered (omega arith)
+      go false false = unchanged 33 (omega arith, omega arith) refl
+
+module _ (map counts : List ℕ) where
+  free-in-ends : (sv : Server) → Ends (λ (r : calls.Filled). r .code) (λ (n : ℕ). calls.filled n counts) (calls.freeIn sv map counts)
+  unfolding calls.freeIn
+  free-in-ends sv = go (sizesFit (sv .blocks) (sv .files) (sv .sessions) (sv .most)) (ltb (length map) (words (sv .blocks)))
+    where
+      go : (a b : Bool)
+          → Ends (λ (r : calls.Filled). r .code) (λ (n : ℕ). calls.filled n counts)
+          (cond a
+          (cond b (calls.filled 33 counts)
+          (calls.filled 0 (calls.withCounts (freeCount (take (words (sv .blocks)) map)) (sv .blocks) counts)))
+          (calls.filled 33 counts))
+      go false b = unchanged 33 (omega arith, omega arith) refl
+      go true true = unchanged 33 (omega arith, omega arith) refl
+      go true false = answered (omega arith)
+
+  pub free-ends : (state : List ℕ) → Ends (λ (r : calls.Filled). r .code) (λ (n : ℕ). calls.filled n counts) (calls.freeBy state map counts)
+  unfolding calls.freeBy calls.onFree
+  free-ends state =
+      by-ready _ _ state (length counts) (λ (k : Ready). calls.onFree k state map counts) (λ n. refl) (free-in-ends (serverAt state))
