@@ -6,6 +6,7 @@ use Rattle.embed.proofs.words.encode.Lts as lts
 use Rattle.embed.proofs.words.write_head.Reads as write-head-reads
 use Rattle.embed.proofs.words.write_session.Reads as write-session-reads
 use Rattle.embed.proofs.Writing.{run-server}
+use Rattle.embed.proofs.Reading.{state-too, server-fits}
 
 write-head-requires : tie.Need-write-head-requires
 write-head-requires c κs = search needs
@@ -38,7 +39,7 @@ same-length : tie.Need-same-length
 same-length c = search needs
 
 returns : tie.Need-returns
-returns c = rw (← run-server (c .before .before .before .before .before .before .before .before .before .before .before .before .before .before .before .before .before .before .before .before .before .before .before .before .before .args .t1) (c .before .before .before .before .before .before .before .before .before .before .before .before .before .before .before .before .before .before .before .before .before .before .before .before .before .args .state .now) (c .before .before .before .before .before .before .before .before .before .before .before .before .before .before .before .before .before .before .before .before .before .before .before .before .before .pre), ← c .before .before .before .before .before .before .before .before .before .before .before .before .before .before .before .before .before .before .before .before .before .before .write-head .ensures, ← c .before .before .before .before .before .before .before .before .before .before .before .before .before .before .before .before .before .write-session .ensures, ← c .before .before .before .before .before .before .before .before .before .before .before .before .write-session2 .ensures, ← c .before .before .before .before .before .before .before .write-session3 .ensures) (c .before .before .write-session4 .ensures)
+returns c = state-too (c .before .before .before .before .before .before .before .before .before .before .before .before .before .before .before .before .before .before .before .before .before .before .before .before .before .args .t1) (c .before .before .before .before .before .before .before .before .before .before .before .before .before .before .before .before .before .before .before .before .before .before .before .before .before .args .state .now) (c .before .before .write-session4 .last .0) (rw (← run-server (c .before .before .before .before .before .before .before .before .before .before .before .before .before .before .before .before .before .before .before .before .before .before .before .before .before .args .t1) (c .before .before .before .before .before .before .before .before .before .before .before .before .before .before .before .before .before .before .before .before .before .before .before .before .before .args .state .now) (c .before .before .before .before .before .before .before .before .before .before .before .before .before .before .before .before .before .before .before .before .before .before .before .before .before .pre), ← c .before .before .before .before .before .before .before .before .before .before .before .before .before .before .before .before .before .before .before .before .before .before .write-head .ensures .0, ← c .before .before .before .before .before .before .before .before .before .before .before .before .before .before .before .before .before .write-session .ensures .0, ← c .before .before .before .before .before .before .before .before .before .before .before .before .write-session2 .ensures .0, ← c .before .before .before .before .before .before .before .write-session3 .ensures .0) (c .before .before .write-session4 .ensures .0)) (server-fits (c .before .before .before .before .before .before .before .before .before .before .before .before .before .before .before .before .before .before .before .before .before .before .before .before .before .args .t1) (c .before .before .before .before .before .before .before .before .before .before .before .before .before .before .before .before .before .before .before .before .before .before .write-head .ensures .1) (c .before .before .before .before .before .before .before .before .before .before .before .before .before .before .before .before .before .write-session .ensures .1) (c .before .before .before .before .before .before .before .before .before .before .before .before .write-session2 .ensures .1) (c .before .before .before .before .before .before .before .write-session3 .ensures .1) (c .before .before .write-session4 .ensures .1))
 
 pub encode-spec : {M : Type 1} → statement M
 encode-spec =

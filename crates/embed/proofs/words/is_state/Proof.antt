@@ -32,7 +32,7 @@ same-requires c κs = length-take-le 54 (c .before .before .before .before .befo
 
 returns : tie.Need-returns
 unfolding isState
-returns c = rw (← encode-alone _ (replicate 54 0) (omega arith), ← c .before .before .before .before .before .before .server-at .ensures, ← c .before .before .before .before .encode .ensures) (c .same .ensures)
+returns c = rw (← encode-alone _ (replicate 54 0) (omega arith), ← c .before .before .before .before .before .before .server-at .ensures, ← c .before .before .before .before .encode .ensures .0) (c .same .ensures)
 
 pub is-state-spec : {M : Type 1} → statement M
 is-state-spec =

@@ -7,6 +7,9 @@ use Rattle.embed.proofs.words.word.Reads as word-reads
 use Rattle.embed.proofs.words.word32.Reads as word32-reads
 use Rattle.embed.proofs.words.write4.Reads as write4-reads
 use Rattle.embed.specs.Words.{downWords}
+use Rattle.embed.proofs.Fitting.{idle-down, sending, ended, aborting}
+use Rattle.embed.specs.Fit.{DownFits}
+use mathlib.Core.Path.{sym, subst}
 
 enum-told : tie.Need-enum-told
 enum-told c = search needs
@@ -52,28 +55,28 @@ same-length c = search needs
 
 returns : tie.Need-returns
 unfolding downWords
-returns c = rw (c .before .before .before .before .enum-told .given .1) (c .before .before .write4 .ensures)
+returns c = (rw (c .before .before .before .before .enum-told .given .1) (c .before .before .write4 .ensures), subst DownFits (sym (c .before .before .before .before .enum-told .given .1)) idle-down)
 
 same-length-2 : tie.Need-same-length-2
 same-length-2 c = search needs
 
 returns-2 : tie.Need-returns-2
 unfolding downWords
-returns-2 c = rw (c .before .before .before .before .before .before .before .before .down .given .1) (rw (c .before .before .before .before .before .word .ensures, c .before .before .before .before .word32 .ensures, c .before .before .before .word322 .ensures) at (c .before .before .write42 .ensures))
+returns-2 c = (rw (c .before .before .before .before .before .before .before .before .down .given .1) (rw (c .before .before .before .before .before .word .ensures, c .before .before .before .before .word32 .ensures .0, c .before .before .before .word322 .ensures .0) at (c .before .before .write42 .ensures)), subst DownFits (sym (c .before .before .before .before .before .before .before .before .down .given .1)) (sending _ _ _ (c .before .before .before .before .word32 .ensures .1) (c .before .before .before .word322 .ensures .1)))
 
 same-length-3 : tie.Need-same-length-3
 same-length-3 c = search needs
 
 returns-3 : tie.Need-returns-3
 unfolding downWords
-returns-3 c = rw (c .before .before .before .before .before .before .down2 .given .1) (rw (c .before .before .before .word2 .ensures) at (c .before .before .write43 .ensures))
+returns-3 c = (rw (c .before .before .before .before .before .before .down2 .given .1) (rw (c .before .before .before .word2 .ensures) at (c .before .before .write43 .ensures)), subst DownFits (sym (c .before .before .before .before .before .before .down2 .given .1)) (ended _))
 
 same-length-4 : tie.Need-same-length-4
 same-length-4 c = search needs
 
 returns-4 : tie.Need-returns-4
 unfolding downWords
-returns-4 c = rw (c .before .before .before .before .before .before .down3 .given .1) (rw (c .before .before .before .word3 .ensures) at (c .before .before .write44 .ensures))
+returns-4 c = (rw (c .before .before .before .before .before .before .down3 .given .1) (rw (c .before .before .before .word3 .ensures) at (c .before .before .write44 .ensures)), subst DownFits (sym (c .before .before .before .before .before .before .down3 .given .1)) (aborting _))
 
 pub write-down-spec : {M : Type 1} → statement M
 write-down-spec =

@@ -48,7 +48,7 @@ same-length : tie.Need-same-length
 same-length c = search needs
 
 returns : tie.Need-returns
-returns c = rw (c .before .before .before .before .before .word .ensures, c .before .before .before .before .word2 .ensures, c .before .before .before .word3 .ensures, c .before .before .word4 .ensures, c .before .word32 .ensures, c .word322 .ensures)
+returns c = (rw (c .before .before .before .before .before .word .ensures, c .before .before .before .before .word2 .ensures, c .before .before .before .word3 .ensures, c .before .before .word4 .ensures, c .before .word32 .ensures .0, c .word322 .ensures .0), record { number = c .before .word32 .ensures .1; time = c .word322 .ensures .1 })
 
 pub write-head-spec : {M : Type 1} → statement M
 write-head-spec =

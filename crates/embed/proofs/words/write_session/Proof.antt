@@ -53,7 +53,7 @@ same-length : tie.Need-same-length
 same-length c = c .before .before .write3 .kept .0 ∙ c .before .before .before .before .before .before .before .before .before .write-down .kept .0 ∙ c .before .before .before .before .before .before .before .before .before .before .before .before .before .write-up .kept .0 ∙ length-set (c .before .before .before .before .before .before .before .before .before .before .before .before .before .before .before .before .before .args .state .now) (c .before .before .before .before .before .before .before .before .before .before .before .before .before .before .before .before .before .args .at) (c .before .before .before .before .before .before .before .before .before .before .before .before .before .before .before .flag-word .result)
 
 returns : tie.Need-returns
-returns c = rw (← run-session (c .before .before .before .before .before .before .before .before .before .before .before .before .before .before .before .before .before .args .state .now) (c .before .before .before .before .before .before .before .before .before .before .before .before .before .before .before .before .before .args .at) (c .before .before .before .before .before .before .before .before .before .before .before .before .before .before .before .before .before .args .s), ← c .before .before .before .before .before .before .before .before .before .before .before .before .before .before .before .flag-word .ensures, ← c .before .before .before .before .before .before .before .before .before .before .before .before .before .write-up .ensures, ← c .before .before .before .before .before .before .before .before .before .write-down .ensures) (rw (c .before .before .before .before .before .word .ensures, c .before .before .before .before .word2 .ensures, c .before .before .before .word3 .ensures) at (c .before .before .write3 .ensures))
+returns c = (rw (← run-session (c .before .before .before .before .before .before .before .before .before .before .before .before .before .before .before .before .before .args .state .now) (c .before .before .before .before .before .before .before .before .before .before .before .before .before .before .before .before .before .args .at) (c .before .before .before .before .before .before .before .before .before .before .before .before .before .before .before .before .before .args .s), ← c .before .before .before .before .before .before .before .before .before .before .before .before .before .before .before .flag-word .ensures, ← c .before .before .before .before .before .before .before .before .before .before .before .before .before .write-up .ensures .0, ← c .before .before .before .before .before .before .before .before .before .write-down .ensures .0) (rw (c .before .before .before .before .before .word .ensures, c .before .before .before .before .word2 .ensures, c .before .before .before .word3 .ensures) at (c .before .before .write3 .ensures)), record { up = c .before .before .before .before .before .before .before .before .before .before .before .before .before .write-up .ensures .1; down = c .before .before .before .before .before .before .before .before .before .write-down .ensures .1 })
 
 pub write-session-spec : {M : Type 1} → statement M
 write-session-spec =
