@@ -7,10 +7,11 @@ use Rattle.embed.proofs.keep.Reads as keep-reads
 use Rattle.server.proofs.make.Reads as make-reads
 use borrow.Author.Tests.{lt-ltb, le-ltb}
 use Rattle.embed.specs.Calls.{makeBy}
+use native.Mathlib.Omega.{arith}
 
 returns : tie.Need-returns
 unfolding makeBy
-returns c = rw (lt-ltb _ _ (c .if1 .taken))
+returns c = (rw (lt-ltb _ _ (c .if1 .taken)), λ e. absurd (omega (arith, e)))
 
 make-requires : tie.Need-make-requires
 make-requires c κs = search needs
@@ -38,7 +39,7 @@ same-length-6 c = search needs
 
 returns-2 : tie.Need-returns-2
 unfolding makeBy
-returns-2 c = rw (le-ltb _ _ (c .before .before .before .before .before .before .before .before .before .before .before .before .before .before .before .before .before .before .before .before .if1 .left), ← c .before .before .before .before .before .before .before .before .before .before .before .before .before .before .make .ensures, ← c .before .before .keep .ensures)
+returns-2 c = (rw (le-ltb _ _ (c .before .before .before .before .before .before .before .before .before .before .before .before .before .before .before .before .before .before .before .before .if1 .left), ← c .before .before .before .before .before .before .before .before .before .before .before .before .before .before .make .ensures, ← c .before .before .keep .ensures .0), c .before .before .keep .ensures .1)
 
 pub figmorella-make-spec : {M : Type 1} → statement M
 figmorella-make-spec =

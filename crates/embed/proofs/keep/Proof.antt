@@ -15,11 +15,11 @@ same-length c = search needs
 
 returns : tie.Need-returns
 unfolding keepOf
-returns c = rw (eq-eqb _ _ (c .before .before .before .before .if1 .taken)) (c .before .before .encode .ensures .0)
+returns c = (rw (eq-eqb _ _ (c .before .before .before .before .if1 .taken)) (c .before .before .encode .ensures .0), λ _. c .before .before .encode .ensures .1)
 
 returns-2 : tie.Need-returns-2
 unfolding keepOf
-returns-2 c = rw (ne-eqb _ _ (c .if1 .left))
+returns-2 c = (rw (ne-eqb _ _ (c .if1 .left)), λ e. absurd (c .if1 .left e))
 
 pub keep-spec : {M : Type 1} → statement M
 keep-spec = tie.close (tie.spec encode-requires same-length returns returns-2)
