@@ -18,8 +18,9 @@ use Rattle.session.specs.State.{closedSession}
 use Rattle.server.specs.declared.Server.{Server}
 use Rattle.server.specs.State.{linkOf}
 use Rattle.embed.specs.declared.words.Ready.the-variants.{Go}
-use Rattle.embed.specs.Words.{upWords, downWords, flag, sessionWords, headWords, wordsOf, encodeOf, low, upOf, downOf, sessionAt, serverAt, sameWords, isState, readyOf}
-use Rattle.embed.specs.Fit.{upOffset, upReceived, downOffset, downSent, SessionFits, ServerFits}
+use Rattle.embed.specs.Words.{upWords, downWords, flag, sessionWords, headWords, wordsOf, encodeOf}
+use Rattle.embed.specs.Words.{low, upOf, downOf, sessionAt, serverAt, sameWords, isState, readyOf}
+use Rattle.embed.specs.Fit.{upOffset, upReceived, downOffset, downSent, UpFits, DownFits, SessionFits, LastFits, ServerFits}
 use Rattle.embed.proofs.Writing.{length-session, length-words}
 
 -- ---- a session's words
@@ -33,12 +34,12 @@ record UpAt (u : Uplink) : Type 0 where
   are : upWords u ≡ a ∷ b ∷ c ∷ d ∷ []
   back : upOf a b c d ≡ u
 
-up-at : (u : Uplink) → upOffset u < 4294967296 → upReceived u < 4294967296 → UpAt u
+up-at : (u : Uplink) → UpFits u → UpAt u
 unfolding upWords upOf upOffset upReceived
-up-at up.Idle h k = record { a = 0; b = 0; c = 0; d = 0; are = refl; back = refl }
-up-at (up.Receiving place offset received) h k =
-    record { a = 1; b = place; c = offset; d = received; are = refl; back = rw (mod-eq-of-lt h, mod-eq-of-lt k) }
-up-at up.Ignoring h k = record { a = 2; b = 0; c = 0; d = 0; are = refl; back = refl }
+up-at up.Idle f = record { a = 0; b = 0; c = 0; d = 0; are = refl; back = refl }
+up-at (up.Receiving place offset received) f =
+    record { a = 1; b = place; c = offset; d = received; are = refl; back = rw (mod-eq-of-lt (f .offset), mod-eq-of-lt (f .received)) }
+up-at up.Ignoring f = record { a = 2; b = 0; c = 0; d = 0; are = refl; back = refl }
 
 record DownAt (u : Downlink) : Type 0 where
   a : ℕ
@@ -48,13 +49,13 @@ record DownAt (u : Downlink) : Type 0 where
   are : downWords u ≡ a ∷ b ∷ c ∷ d ∷ []
   back : downOf a b c d ≡ u
 
-down-at : (u : Downlink) → downOffset u < 4294967296 → downSent u < 4294967296 → DownAt u
+down-at : (u : Downlink) → DownFits u → DownAt u
 unfolding downWords downOf downOffset downSent
-down-at down.Idle h k = record { a = 0; b = 0; c = 0; d = 0; are = refl; back = refl }
-down-at (down.Sending place offset sent) h k =
-    record { a = 1; b = place; c = offset; d = sent; are = refl; back = rw (mod-eq-of-lt h, mod-eq-of-lt k) }
-down-at (down.Ended place) h k = record { a = 2; b = place; c = 0; d = 0; are = refl; back = refl }
-down-at (down.Aborting place) h k = record { a = 3; b = place; c = 0; d = 0; are = refl; back = refl }
+down-at down.Idle f = record { a = 0; b = 0; c = 0; d = 0; are = refl; back = refl }
+down-at (down.Sending place offset sent) f =
+    record { a = 1; b = place; c = offset; d = sent; are = refl; back = rw (mod-eq-of-lt (f .offset), mod-eq-of-lt (f .sent)) }
+down-at (down.Ended place) f = record { a = 2; b = place; c = 0; d = 0; are = refl; back = refl }
+down-at (down.Aborting place) f = record { a = 3; b = place; c = 0; d = 0; are = refl; back = refl }
 
 flag-back : (b : Bool) → eqb (flag b) 1 ≡ b
 flag-back true = refl
@@ -76,7 +77,8 @@ session-parts l u d h c n rest x y = go (x .a) (x .b) (x .c) (x .d) (x .are) (x 
 session-here : (s : Session) (rest : List ℕ) → SessionFits s → sessionAt (sessionWords s ++ rest) 0 ≡ s
 unfolding sessionWords
 session-here s rest f =
-    session-parts (s .linked) (s .up) (s .down) (s .held) (s .count) (s .next) rest (up-at (s .up) (f .offsetUp) (f .received)) (down-at (s .down) (f .offsetDown) (f .sent))
+    session-parts (s .linked) (s .up) (s .down) (s .held) (s .count) (s .next) rest (up-at (s .up) (f .up))
+    (down-at (s .down) (f .down))
 
 -- ---- where a session's words stand
 
@@ -84,7 +86,20 @@ at-drop : (l : List ℕ) (at : ℕ) → sessionAt l at ≡ sessionAt (drop at l)
 unfolding sessionAt
 at-drop l at =
     let e0 : getD (drop at l) 0 0 ≡ getD l at 0 = getD-drop at l 0 0 ∙ ap (λ (k : ℕ). getD l k 0) (add-zero at) in
-    rw (e0, getD-drop at l 1 0, getD-drop at l 2 0, getD-drop at l 3 0, getD-drop at l 4 0, getD-drop at l 5 0, getD-drop at l 6 0, getD-drop at l 7 0, getD-drop at l 8 0, getD-drop at l 9 0, getD-drop at l 10 0, getD-drop at l 11 0)
+    rw (
+      e0,
+      getD-drop at l 1 0,
+      getD-drop at l 2 0,
+      getD-drop at l 3 0,
+      getD-drop at l 4 0,
+      getD-drop at l 5 0,
+      getD-drop at l 6 0,
+      getD-drop at l 7 0,
+      getD-drop at l 8 0,
+      getD-drop at l 9 0,
+      getD-drop at l 10 0,
+      getD-drop at l 11 0,
+    )
 
 past : (xs ys : List ℕ) (n : ℕ) → length xs ≡ 12 → drop (12 + n) (xs ++ ys) ≡ drop n ys
 past xs ys n e = subst (λ (k : ℕ). drop (k + n) (xs ++ ys) ≡ drop n ys) e (drop-append-add xs ys n)
@@ -107,14 +122,19 @@ module _ (a b c d : Session) (fa : SessionFits a) (fb : SessionFits b) (fc : Ses
       record {
         first = at-drop l 6 ∙ session-here a w fa;
         second = at-drop l 18 ∙ (ap (λ (k : List ℕ). sessionAt k 0) (past (sessionWords a) w 0 (length-session a)) ∙ session-here b z fb);
-        third = at-drop l 30 ∙ (ap (λ (k : List ℕ). sessionAt k 0) (past (sessionWords a) w 12 (length-session a) ∙ past (sessionWords b) z 0 (length-session b)) ∙ session-here c y fc);
-        fourth = at-drop l 42 ∙ (ap (λ (k : List ℕ). sessionAt k 0) (past (sessionWords a) w 24 (length-session a) ∙ (past (sessionWords b) z 12 (length-session b) ∙ past (sessionWords c) y 0 (length-session c))) ∙ session-here d rest fd);
+        third =
+            at-drop l 30 ∙ (ap (λ (k : List ℕ). sessionAt k 0) (past (sessionWords a) w 12 (length-session a) ∙ past (sessionWords b) z 0
+            (length-session b)) ∙ session-here c y fc);
+        fourth =
+            at-drop l 42 ∙ (ap (λ (k : List ℕ). sessionAt k 0) (past (sessionWords a) w 24 (length-session a) ∙
+            (past (sessionWords b) z 12 (length-session b) ∙ past (sessionWords c) y 0 (length-session c))) ∙ session-here d rest fd);
       }
 
 -- ---- a server's words
 
 regroup : (a b c d r : List ℕ) → (a ++ (b ++ (c ++ d))) ++ r ≡ a ++ (b ++ (c ++ (d ++ r)))
-regroup a b c d r = append-assoc a (b ++ (c ++ d)) r ∙ ap (λ (k : List ℕ). a ++ k) (append-assoc b (c ++ d) r ∙ ap (λ (k : List ℕ). b ++ k) (append-assoc c d r))
+regroup a b c d r =
+    append-assoc a (b ++ (c ++ d)) r ∙ ap (λ (k : List ℕ). a ++ k) (append-assoc b (c ++ d) r ∙ ap (λ (k : List ℕ). b ++ k) (append-assoc c d r))
 
 four-links : (l : List Session) → length l ≡ 4
     → getD l 0 closedSession ∷ getD l 1 closedSession ∷ getD l 2 closedSession ∷ getD l 3 closedSession ∷ [] ≡ l
@@ -125,29 +145,51 @@ four-links (a ∷ b ∷ c ∷ []) e = absurd (omega arith)
 four-links (a ∷ b ∷ c ∷ d ∷ []) e = refl
 four-links (a ∷ b ∷ c ∷ d ∷ x ∷ l) e = absurd (omega arith)
 
+-- the server with the four sessions that its words have
+abbrev fourOf : Server → Server
+fourOf sv =
+    record {
+      blocks = sv .blocks;
+      files = sv .files;
+      sessions = sv .sessions;
+      most = sv .most;
+      last = sv .last;
+      links = linkOf sv 0 ∷ linkOf sv 1 ∷ linkOf sv 2 ∷ linkOf sv 3 ∷ [];
+    }
+
 -- the server that is read where its four sessions are
 server-from : (sv : Server) (x : List ℕ) → ServerFits sv
     → FourAt (headWords sv ++ x) (linkOf sv 0) (linkOf sv 1) (linkOf sv 2) (linkOf sv 3)
-    → serverAt (headWords sv ++ x) ≡ sv
+    → serverAt (headWords sv ++ x) ≡ fourOf sv
 unfolding serverAt
 server-from sv x f w =
-    rw (w .first, w .second, w .third, w .fourth, mod-eq-of-lt (f .number), mod-eq-of-lt (f .time), four-links (sv .links) (f .four))
+    rw (w .first, w .second, w .third, w .fourth, mod-eq-of-lt (f .last .number), mod-eq-of-lt (f .last .time))
 
 words-then : (sv : Server) (r : List ℕ) → wordsOf sv ++ r
-    ≡ headWords sv ++ (sessionWords (linkOf sv 0) ++ (sessionWords (linkOf sv 1) ++ (sessionWords (linkOf sv 2) ++ (sessionWords (linkOf sv 3) ++ r))))
+    ≡ headWords sv ++ (sessionWords (linkOf sv 0) ++ (sessionWords (linkOf sv 1) ++
+    (sessionWords (linkOf sv 2) ++ (sessionWords (linkOf sv 3) ++ r))))
 unfolding wordsOf
 words-then sv r =
-    ap (λ (k : List ℕ). headWords sv ++ k) (regroup (sessionWords (linkOf sv 0)) (sessionWords (linkOf sv 1)) (sessionWords (linkOf sv 2)) (sessionWords (linkOf sv 3)) r)
+    ap (λ (k : List ℕ). headWords sv ++ k) (regroup (sessionWords (linkOf sv 0)) (sessionWords (linkOf sv 1)) (sessionWords (linkOf sv 2))
+    (sessionWords (linkOf sv 3)) r)
 
-server-then : (sv : Server) (r : List ℕ) → ServerFits sv → serverAt (wordsOf sv ++ r) ≡ sv
+server-then : (sv : Server) (r : List ℕ) → ServerFits sv → serverAt (wordsOf sv ++ r) ≡ fourOf sv
 server-then sv r f =
     ap serverAt (words-then sv r)
-    ∙ server-from sv _ f (four-at (linkOf sv 0) (linkOf sv 1) (linkOf sv 2) (linkOf sv 3) (f .each 0 (omega arith)) (f .each 1 (omega arith)) (f .each 2 (omega arith)) (f .each 3 (omega arith)) r (sv .blocks) (sv .files) (sv .sessions) (sv .most) (sv .last .number) (sv .last .time))
+    ∙ server-from sv _ f (four-at (linkOf sv 0) (linkOf sv 1) (linkOf sv 2) (linkOf sv 3) (f .each 0 (omega arith)) (f .each 1 (omega arith))
+    (f .each 2 (omega arith)) (f .each 3 (omega arith)) r (sv .blocks) (sv .files) (sv .sessions) (sv .most) (sv .last .number) (sv .last .time))
 
--- a server whose numbers fit their types is read back from its words
-pub read-back : (sv : Server) (state : List ℕ) → ServerFits sv → serverAt (encodeOf sv state) ≡ sv
+four-read : (sv : Server) (state : List ℕ) → ServerFits sv → serverAt (encodeOf sv state) ≡ fourOf sv
 unfolding encodeOf
-read-back sv state f = server-then sv (drop 54 state) f
+four-read sv state f = server-then sv (drop 54 state) f
+
+-- a server of four sessions, whose numbers fit their types, is read back from its words
+pub read-back : (sv : Server) (state : List ℕ) → ServerFits sv → length (sv .links) ≡ 4 → serverAt (encodeOf sv state) ≡ sv
+read-back sv state f e = four-read sv state f ∙ rw (four-links (sv .links) e)
+
+four-words : (sv : Server) → wordsOf (fourOf sv) ≡ wordsOf sv
+unfolding wordsOf
+four-words sv = refl
 
 -- ---- which words are a state
 
@@ -178,7 +220,10 @@ length-encoded sv state h = omega (arith, length-append (wordsOf sv) (drop 54 st
 -- the words that a call leaves are a state again
 pub encoded-state : (sv : Server) (state : List ℕ) → ServerFits sv → isState (encodeOf sv state) ≡ true
 unfolding isState
-encoded-state sv state f = rw (read-back sv state f, front-words sv state) (same-self (wordsOf sv))
+encoded-state sv state f = rw (four-read sv state f, front-words sv state, four-words sv) (same-self (wordsOf sv))
+
+pub state-too : (sv : Server) (state after : List ℕ) → after ≡ encodeOf sv state → ServerFits sv → (after ≡ encodeOf sv state) × (isState after ≡ true)
+state-too sv state after e f = (e, subst (λ (x : List ℕ). isState x ≡ true) (sym e) (encoded-state sv state f))
 
 -- what words that are a state are read as has those words
 pub written-back : (state : List ℕ) → isState state ≡ true → encodeOf (serverAt state) state ≡ state
@@ -211,8 +256,10 @@ unfolding downOf downOffset downSent
 down-fits case place offset sent = go (eqb case 1) (eqb case 2) (eqb case 3)
   where
     go : (a b c : Bool)
-        → (downOffset (cond a (down.Sending place (low offset) (low sent)) (cond b (down.Ended place) (cond c (down.Aborting place) down.Idle))) < 4294967296)
-        × (downSent (cond a (down.Sending place (low offset) (low sent)) (cond b (down.Ended place) (cond c (down.Aborting place) down.Idle))) < 4294967296)
+        → (downOffset (cond a (down.Sending place (low offset) (low sent))
+        (cond b (down.Ended place) (cond c (down.Aborting place) down.Idle))) < 4294967296)
+        × (downSent (cond a (down.Sending place (low offset) (low sent))
+        (cond b (down.Ended place) (cond c (down.Aborting place) down.Idle))) < 4294967296)
     go true b c = (omega arith, omega arith)
     go false true c = (omega arith, omega arith)
     go false false true = (omega arith, omega arith)
@@ -223,7 +270,7 @@ unfolding sessionAt
 session-fits l at =
     let u = up-fits (getD l (at + 1) 0) (getD l (at + 2) 0) (getD l (at + 3) 0) (getD l (at + 4) 0) in
     let d = down-fits (getD l (at + 5) 0) (getD l (at + 6) 0) (getD l (at + 7) 0) (getD l (at + 8) 0) in
-    record { offsetUp = u .0; received = u .1; offsetDown = d .0; sent = d .1 }
+    record { up = record { offset = u .0; received = u .1 }; down = record { offset = d .0; sent = d .1 } }
 
 each-fits : (a b c d : Session) → SessionFits a → SessionFits b → SessionFits c → SessionFits d
     → (i : ℕ) → i < 4 → SessionFits (getD (a ∷ b ∷ c ∷ d ∷ []) i closedSession)
@@ -237,8 +284,20 @@ pub read-fits : (l : List ℕ) → ServerFits (serverAt l)
 unfolding serverAt
 read-fits l =
     record {
-      number = omega arith;
-      time = omega arith;
-      four = refl;
-      each = each-fits (sessionAt l 6) (sessionAt l 18) (sessionAt l 30) (sessionAt l 42) (session-fits l 6) (session-fits l 18) (session-fits l 30) (session-fits l 42);
+      last = record { number = omega arith; time = omega arith };
+      each = each-fits (sessionAt l 6) (sessionAt l 18) (sessionAt l 30) (sessionAt l 42) (session-fits l 6) (session-fits l 18) (session-fits l 30)
+          (session-fits l 42);
     }
+
+-- a server fits whose four sessions do
+pub server-fits : (sv : Server) → LastFits (sv .last) → SessionFits (linkOf sv 0) → SessionFits (linkOf sv 1) → SessionFits (linkOf sv 2)
+    → SessionFits (linkOf sv 3) → ServerFits sv
+server-fits sv f a b c d =
+    record { last = f; each = one-of (λ (i : ℕ). SessionFits (linkOf sv i)) a b c d }
+  where
+    one-of : (P : ℕ → Type 0) → P 0 → P 1 → P 2 → P 3 → (i : ℕ) → i < 4 → P i
+    one-of P a b c d zero h = a
+    one-of P a b c d (suc zero) h = b
+    one-of P a b c d (suc (suc zero)) h = c
+    one-of P a b c d (suc (suc (suc zero))) h = d
+    one-of P a b c d (suc (suc (suc (suc i)))) h = absurd (omega arith)

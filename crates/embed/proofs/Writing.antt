@@ -35,7 +35,13 @@ length-down (down.Aborting place) = refl
 pub length-session : (s : Session) → length (sessionWords s) ≡ 12
 unfolding sessionWords
 length-session s =
-    rw (length-append (upWords (s .up)) (downWords (s .down) ++ (s .held ∷ s .count ∷ s .next ∷ [])), length-append (downWords (s .down)) (s .held ∷ s .count ∷ s .next ∷ []), length-up (s .up), length-down (s .down))
+    rw (
+      length-append (upWords (s .up)) (downWords (s .down) ++ (s .held ∷ s .count ∷ s .next ∷ [])),
+      length-append (downWords (s .down))
+          (s .held ∷ s .count ∷ s .next ∷ []),
+      length-up (s .up),
+      length-down (s .down),
+    )
 
 -- ---- runs
 
@@ -59,7 +65,8 @@ run-three l at a b c =
 
 -- a session's words are written as its flag, its two sides and its three numbers
 pub run-session : (l : List ℕ) (at : ℕ) (s : Session)
-    → sets (sets (sets (set l at (flag (s .linked))) (at + 1) (upWords (s .up))) (at + 5) (downWords (s .down))) (at + 9) (s .held ∷ s .count ∷ s .next ∷ [])
+    → sets (sets (sets (set l at (flag (s .linked))) (at + 1) (upWords (s .up))) (at + 5) (downWords (s .down))) (at + 9)
+    (s .held ∷ s .count ∷ s .next ∷ [])
     ≡ sets l at (sessionWords s)
 unfolding sessionWords
 run-session l at s =
@@ -80,12 +87,28 @@ drop-all (x ∷ xs) (suc i) h = drop-all xs i (omega arith)
 
 four-sessions : (a b c d : Session) → length (sessionWords a ++ (sessionWords b ++ (sessionWords c ++ sessionWords d))) ≡ 48
 four-sessions a b c d =
-    rw (length-append (sessionWords a) (sessionWords b ++ (sessionWords c ++ sessionWords d)), length-append (sessionWords b) (sessionWords c ++ sessionWords d), length-append (sessionWords c) (sessionWords d), length-session a, length-session b, length-session c, length-session d)
+    rw (
+      length-append (sessionWords a) (sessionWords b ++ (sessionWords c ++ sessionWords d)),
+      length-append (sessionWords b)
+          (sessionWords c ++ sessionWords d),
+      length-append (sessionWords c)
+          (sessionWords d),
+      length-session a,
+      length-session b,
+      length-session c,
+      length-session d,
+    )
 
 pub length-words : (sv : Server) → length (wordsOf sv) ≡ 54
 unfolding wordsOf
 length-words sv =
-    omega (arith, length-append (headWords sv) (sessionWords (linkOf sv 0) ++ (sessionWords (linkOf sv 1) ++ (sessionWords (linkOf sv 2) ++ sessionWords (linkOf sv 3)))), four-sessions (linkOf sv 0) (linkOf sv 1) (linkOf sv 2) (linkOf sv 3))
+    omega (
+      arith,
+      length-append (headWords sv) (sessionWords (linkOf sv 0) ++
+          (sessionWords (linkOf sv 1) ++ (sessionWords (linkOf sv 2) ++ sessionWords (linkOf sv 3)))),
+      four-sessions (linkOf sv 0) (linkOf sv 1)
+          (linkOf sv 2) (linkOf sv 3),
+    )
 
 runs : (h a b c d : List ℕ) (l : List ℕ) → length h ≡ 6 → length a ≡ 12 → length b ≡ 12 → length c ≡ 12
     → sets (sets (sets (sets (sets l 0 h) 6 a) 18 b) 30 c) 42 d ≡ sets l 0 (h ++ (a ++ (b ++ (c ++ d))))
@@ -96,7 +119,8 @@ runs h a b c d l eh ea eb ec =
     ∙ run-next h l 0 6 (a ++ (b ++ (c ++ d))) (omega (arith, eh))
 
 all-runs : (sv : Server) (l : List ℕ)
-    → sets (sets (sets (sets (sets l 0 (headWords sv)) 6 (sessionWords (linkOf sv 0))) 18 (sessionWords (linkOf sv 1))) 30 (sessionWords (linkOf sv 2))) 42 (sessionWords (linkOf sv 3))
+    → sets (sets (sets (sets (sets l 0 (headWords sv)) 6 (sessionWords (linkOf sv 0))) 18 (sessionWords (linkOf sv 1))) 30
+    (sessionWords (linkOf sv 2))) 42 (sessionWords (linkOf sv 3))
     ≡ sets l 0 (wordsOf sv)
 unfolding wordsOf
 all-runs sv l =
@@ -107,7 +131,8 @@ front : (xs l : List ℕ) → length xs ≡ 54 → take 0 l ++ xs ++ drop (0 + l
 front xs l e = let z : 0 + length xs ≡ 54 = omega (arith, e) in rw z
 
 pub run-server : (sv : Server) (l : List ℕ) → 54 ≤ length l
-    → sets (sets (sets (sets (sets l 0 (headWords sv)) 6 (sessionWords (linkOf sv 0))) 18 (sessionWords (linkOf sv 1))) 30 (sessionWords (linkOf sv 2))) 42 (sessionWords (linkOf sv 3))
+    → sets (sets (sets (sets (sets l 0 (headWords sv)) 6 (sessionWords (linkOf sv 0))) 18 (sessionWords (linkOf sv 1))) 30
+    (sessionWords (linkOf sv 2))) 42 (sessionWords (linkOf sv 3))
     ≡ encodeOf sv l
 unfolding encodeOf
 run-server sv l h =

@@ -1,12 +1,11 @@
--- A server whose numbers fit their types: it has four sessions, and what is held in 32 bits is below 4,294,967,296. Assumes nothing.
-use mathlib.Core.Path.{_≡_}
+-- A server whose numbers fit their types: what is held in 32 bits is below 4,294,967,296. Assumes nothing.
 use Prim.Native.Nat.{ℕ, _<_}
-use lib.ListN.{length}
 use Rattle.session.specs.declared.state.Session.{Session}
 use Rattle.session.specs.declared.state.Uplink.{Uplink}
 use Rattle.session.specs.declared.state.Uplink.the-variants as up
 use Rattle.session.specs.declared.state.Downlink.{Downlink}
 use Rattle.session.specs.declared.state.Downlink.the-variants as down
+use Rattle.carry.specs.declared.turn.Last.{Last}
 use Rattle.server.specs.declared.Server.{Server}
 use Rattle.server.specs.State.{linkOf}
 
@@ -33,14 +32,22 @@ downSent (down.Sending place offset sent) = sent
 downSent (down.Ended place) = 0
 downSent (down.Aborting place) = 0
 
+pub record UpFits (u : Uplink) : Type 0 where
+  pub offset : upOffset u < 4294967296
+  pub received : upReceived u < 4294967296
+
+pub record DownFits (d : Downlink) : Type 0 where
+  pub offset : downOffset d < 4294967296
+  pub sent : downSent d < 4294967296
+
 pub record SessionFits (s : Session) : Type 0 where
-  pub offsetUp : upOffset (s .up) < 4294967296
-  pub received : upReceived (s .up) < 4294967296
-  pub offsetDown : downOffset (s .down) < 4294967296
-  pub sent : downSent (s .down) < 4294967296
+  pub up : UpFits (s .up)
+  pub down : DownFits (s .down)
+
+pub record LastFits (l : Last) : Type 0 where
+  pub number : l .number < 4294967296
+  pub time : l .time < 4294967296
 
 pub record ServerFits (sv : Server) : Type 0 where
-  pub number : sv .last .number < 4294967296
-  pub time : sv .last .time < 4294967296
-  pub four : length (sv .links) ≡ 4
+  pub last : LastFits (sv .last)
   pub each : (i : ℕ) → i < 4 → SessionFits (linkOf sv i)

@@ -2,3 +2,4 @@
 pub mod Words
 pub mod Fit
 pub mod Calls
+pub mod Ends

@@ -2,7 +2,7 @@
 //
 // A slice passes as a pointer and a length. The server's state stands in the caller's memory as 64-bit words. Every function takes any
 // slices and any numbers and asks nothing of its caller. A call answers by a number: 0 nothing is sent, 1 a packet is in the output, 2 the
-// link is closed, 32 to 35 refused, where nothing at all changes.
+// link is closed, 32 to 35 refused, where nothing at all changes. The words that a call leaves are a state again.
 mod words;
 
 use server::Made;
@@ -10,11 +10,12 @@ use server::Server;
 use session::reply::Answer;
 use words::Ready;
 ghost use mathlib.Core.Path.{_≡_};
+ghost use mathlib.Core.Bool.{true};
 ghost use Prim.Native.Nat.{_≤_};
 ghost use lib.ListN.{length};
 ghost use Rattle.server.specs.State.{lent};
 ghost use Rattle.server.specs.Making.{emptied};
-ghost use Rattle.embed.specs.Words.{encodeOf};
+ghost use Rattle.embed.specs.Words.{isState};
 ghost use Rattle.embed.specs.Calls.{told, tellOf, received, receiveBy, sent, openBy, requestBy, gone, loseBy, begun, keepOf, makeBy, filled, memoryBy, withCounts, freeIn, freeBy};
 
 // ---- memory
@@ -67,8 +68,9 @@ fn write_counts(counts: &mut [usize], taken: usize, size: usize)
 
 // The words and the counts are written, but not on a refusal; the answer's number.
 fn tell(answer: Answer, server: Server, state: &mut [u64], counts: &mut [usize]) -> u8
-    requires { ⌜ (54 ≤ length (now state)) × (2 ≤ length (now counts)) ⌝ }
+    requires { ⌜ (54 ≤ length (now state)) × (2 ≤ length (now counts)) × (isState (now state) ≡ true) ⌝ }
     ensures { λ r. ⌜ told r (now (state .exit)) (now (counts .exit)) ≡ tellOf answer server (now (state .entry)) (now (counts .entry)) ⌝ }
+    ensures { λ _. ⌜ isState (now (state .exit)) ≡ true ⌝ }
 {
     match answer {
         Answer::Quiet(taken) => {
@@ -96,6 +98,7 @@ fn tell(answer: Answer, server: Server, state: &mut [u64], counts: &mut [usize])
 fn keep(made: Made, state: &mut [u64])
     requires { ⌜ 54 ≤ length (now state) ⌝ }
     ensures { λ _. ⌜ now (state .exit) ≡ keepOf made (now (state .entry)) ⌝ }
+    ensures { λ _. ⌜ (made .refused ≡ 0 → isState (now (state .exit)) ≡ true) ⌝ }
 {
     let server = made.server;
     if made.refused == 0 {
@@ -120,6 +123,7 @@ pub extern "C" fn figmorella_make(
 ) -> u8
     ensures { λ r. ⌜ begun r (now (state .exit)) (emptied (now (map .exit)) (now (owner .exit)) (now (table .exit)) (now (selected .exit)) (now (held .exit)))
         ≡ makeBy blocks files sessions most (now (state .entry)) (length (now (disk .entry))) (emptied (now (map .entry)) (now (owner .entry)) (now (table .entry)) (now (selected .entry)) (now (held .entry))) ⌝ }
+    ensures { λ r. ⌜ (r ≡ 0 → isState (now (state .exit)) ≡ true) ⌝ }
 {
     if state.len() < 54 {
         return 33;
@@ -157,6 +161,7 @@ pub extern "C" fn figmorella_open(
 ) -> u8
     ensures { λ r. ⌜ sent (told r (now (state .exit)) (now (counts .exit))) (now (out .exit))
         ≡ openBy (now (state .entry)) (now (counts .entry)) (lent (now (disk .entry)) (now (map .entry)) (now (owner .entry)) (now (table .entry)) (now (selected .entry)) (now (held .entry))) (now (out .entry)) session clock ⌝ }
+    ensures { λ _. ⌜ (isState (now (state .entry)) ≡ true → isState (now (state .exit)) ≡ true) ⌝ }
 {
     let k = words::check(&*state, counts.len());
     match k {
@@ -200,6 +205,7 @@ pub extern "C" fn figmorella_receive(
 ) -> u8
     ensures { λ r. ⌜ received (told r (now (state .exit)) (now (counts .exit))) (lent (now (disk .exit)) (now (map .exit)) (now (owner .exit)) (now (table .exit)) (now (selected .exit)) (now (held .exit))) (now (out .exit))
         ≡ receiveBy (now (state .entry)) (now (counts .entry)) (lent (now (disk .entry)) (now (map .entry)) (now (owner .entry)) (now (table .entry)) (now (selected .entry)) (now (held .entry))) (now (out .entry)) session clock (now (input .entry)) ⌝ }
+    ensures { λ _. ⌜ (isState (now (state .entry)) ≡ true → isState (now (state .exit)) ≡ true) ⌝ }
 {
     let k = words::check(&*state, counts.len());
     match k {
@@ -242,6 +248,7 @@ pub extern "C" fn figmorella_request(
 ) -> u8
     ensures { λ r. ⌜ sent (told r (now (state .exit)) (now (counts .exit))) (now (out .exit))
         ≡ requestBy (now (state .entry)) (now (counts .entry)) (lent (now (disk .entry)) (now (map .entry)) (now (owner .entry)) (now (table .entry)) (now (selected .entry)) (now (held .entry))) (now (out .entry)) session ⌝ }
+    ensures { λ _. ⌜ (isState (now (state .entry)) ≡ true → isState (now (state .exit)) ≡ true) ⌝ }
 {
     let k = words::check(&*state, counts.len());
     match k {
@@ -281,6 +288,7 @@ pub extern "C" fn figmorella_lose(
 ) -> u8
     ensures { λ r. ⌜ gone (told r (now (state .exit)) (now (counts .exit))) (now (selected .exit)) (now (held .exit))
         ≡ loseBy (now (state .entry)) (now (counts .entry)) (lent (now (disk .entry)) (now (map .entry)) (now (owner .entry)) (now (table .entry)) (now (selected .entry)) (now (held .entry))) session ⌝ }
+    ensures { λ _. ⌜ (isState (now (state .entry)) ≡ true → isState (now (state .exit)) ≡ true) ⌝ }
 {
     let k = words::check(&*state, counts.len());
     match k {

@@ -6,9 +6,11 @@ use session::state::Session;
 use session::state::Uplink;
 ghost use mathlib.Core.Path.{_≡_};
 ghost use mathlib.Core.List.{[], _∷_};
-ghost use Prim.Native.Nat.{_+_, _≤_};
+ghost use mathlib.Core.Bool.{true};
+ghost use Prim.Native.Nat.{_+_, _≤_, _<_};
 ghost use lib.ListN.{length};
 ghost use lib.Seq.{sets};
+ghost use Rattle.embed.specs.Fit.{UpFits, DownFits, SessionFits, LastFits};
 ghost use Rattle.embed.specs.Words.{flag, upWords, downWords, sessionWords, headWords, encodeOf, low, upOf, downOf, sessionAt, serverAt, sameWords, isState, readyOf};
 
 // The words are a state, or the call is refused.
@@ -27,6 +29,7 @@ fn word(n: usize) -> u64
 
 fn word32(n: u32) -> u64
     ensures { λ r. ⌜ r ≡ n ⌝ }
+    ensures { λ _. ⌜ n < 4294967296 ⌝ }
 {
     n as u64
 }
@@ -76,6 +79,7 @@ fn write3(state: &mut [u64], at: usize, a: u64, b: u64, c: u64)
 fn write_up(state: &mut [u64], at: usize, up: Uplink)
     requires { ⌜ (at ≤ 50) × (at + 4 ≤ length (now state)) ⌝ }
     ensures { λ _. ⌜ now (state .exit) ≡ sets (now (state .entry)) at (upWords up) ⌝ }
+    ensures { λ _. ⌜ UpFits up ⌝ }
 {
     match up {
         Uplink::Idle => write4(state, at, 0, 0, 0, 0),
@@ -91,6 +95,7 @@ fn write_up(state: &mut [u64], at: usize, up: Uplink)
 fn write_down(state: &mut [u64], at: usize, down: Downlink)
     requires { ⌜ (at ≤ 50) × (at + 4 ≤ length (now state)) ⌝ }
     ensures { λ _. ⌜ now (state .exit) ≡ sets (now (state .entry)) at (downWords down) ⌝ }
+    ensures { λ _. ⌜ DownFits down ⌝ }
 {
     match down {
         Downlink::Idle => write4(state, at, 0, 0, 0, 0),
@@ -108,6 +113,7 @@ fn write_down(state: &mut [u64], at: usize, down: Downlink)
 fn write_session(state: &mut [u64], at: usize, s: Session)
     requires { ⌜ (at ≤ 42) × (at + 12 ≤ length (now state)) ⌝ }
     ensures { λ _. ⌜ now (state .exit) ≡ sets (now (state .entry)) at (sessionWords s) ⌝ }
+    ensures { λ _. ⌜ SessionFits s ⌝ }
 {
     let up = s.up;
     let down = s.down;
@@ -121,6 +127,7 @@ fn write_session(state: &mut [u64], at: usize, s: Session)
 fn write_head(state: &mut [u64], server: Server)
     requires { ⌜ 54 ≤ length (now state) ⌝ }
     ensures { λ _. ⌜ now (state .exit) ≡ sets (now (state .entry)) 0 (headWords server) ⌝ }
+    ensures { λ _. ⌜ LastFits (server .last) ⌝ }
 {
     let last = server.last;
     state[0] = word(server.blocks);
@@ -131,10 +138,11 @@ fn write_head(state: &mut [u64], server: Server)
     state[5] = word32(last.time);
 }
 
-// Writes a server's words.
+// Writes a server's words: they are a state, since the server's numbers fit their types.
 pub(crate) fn encode(server: Server, state: &mut [u64])
     requires { ⌜ 54 ≤ length (now state) ⌝ }
     ensures { λ _. ⌜ now (state .exit) ≡ encodeOf server (now (state .entry)) ⌝ }
+    ensures { λ _. ⌜ isState (now (state .exit)) ≡ true ⌝ }
 {
     write_head(state, server);
     write_session(state, 6, server.links[0]);

@@ -11,36 +11,28 @@ use lib.ListN.{length}
 use Rattle.embed.proofs.Checked.{ready-go}
 use Rattle.embed.specs.Calls.{freeBy, onFree}
 
--- src/lib.rt:323:9
 check-requires : tie.Need-check-requires
 check-requires c κs = search needs
 
--- src/lib.rt:325:23
 enum-known-k : tie.Need-enum-known-k
 enum-known-k c = search needs
 
--- src/lib.rt:326:30
 enum-told : tie.Need-enum-told
 enum-told c = search needs
 
--- src/lib.rt:326:30
 server-at-requires : tie.Need-server-at-requires
 server-at-requires c κs = ready-go (c .before .before .before .before .before .before .args .state .now) (length (c .before .before .before .before .before .before .args .counts .now)) (sym (c .before .before .check .ensures) ∙ c .enum-told .given .1) .room
 
--- src/lib.rt:326:22
 free-in-requires : tie.Need-free-in-requires
 free-in-requires c κs = ready-go (c .before .before .before .before .before .before .before .before .args .state .now) (length (c .before .before .before .before .before .before .before .before .args .counts .now)) (sym (c .before .before .before .before .check .ensures) ∙ c .before .before .enum-told .given .1) .two
 
--- src/lib.rt:319:1
 returns : tie.Need-returns
 unfolding freeBy onFree
 returns c = rw (← c .before .before .before .check .ensures, c .before .k .given .1)
 
--- src/lib.rt:319:1
 same-length : tie.Need-same-length
 same-length c = search needs
 
--- src/lib.rt:319:1
 returns-2 : tie.Need-returns-2
 unfolding freeBy onFree
 returns-2 c = rw (← c .before .before .before .before .before .before .before .check .ensures, c .before .before .before .before .before .enum-told .given .1, ← c .before .before .before .before .server-at .ensures) (c .before .before .free-in .ensures)

@@ -7,48 +7,39 @@ use Rattle.embed.proofs.keep.Reads as keep-reads
 use Rattle.server.proofs.make.Reads as make-reads
 use borrow.Author.Tests.{lt-ltb, le-ltb}
 use Rattle.embed.specs.Calls.{makeBy}
+use native.Mathlib.Omega.{arith}
 
--- src/lib.rt:125:9
 returns : tie.Need-returns
 unfolding makeBy
-returns c = rw (lt-ltb _ _ (c .if1 .taken))
+returns c = (rw (lt-ltb _ _ (c .if1 .taken)), λ e. absurd (omega (arith, e)))
 
--- src/lib.rt:127:9
 make-requires : tie.Need-make-requires
 make-requires c κs = search needs
 
--- src/lib.rt:139:5
 keep-requires : tie.Need-keep-requires
 keep-requires c κs = search needs
 
--- src/lib.rt:107:1
 same-length : tie.Need-same-length
 same-length c = search needs
 
--- src/lib.rt:107:1
 same-length-2 : tie.Need-same-length-2
 same-length-2 c = search needs
 
--- src/lib.rt:107:1
 same-length-3 : tie.Need-same-length-3
 same-length-3 c = search needs
 
--- src/lib.rt:107:1
 same-length-4 : tie.Need-same-length-4
 same-length-4 c = search needs
 
--- src/lib.rt:107:1
 same-length-5 : tie.Need-same-length-5
 same-length-5 c = search needs
 
--- src/lib.rt:107:1
 same-length-6 : tie.Need-same-length-6
 same-length-6 c = search needs
 
--- src/lib.rt:107:1
 returns-2 : tie.Need-returns-2
 unfolding makeBy
-returns-2 c = rw (le-ltb _ _ (c .before .before .before .before .before .before .before .before .before .before .before .before .before .before .before .before .before .before .before .before .if1 .left), ← c .before .before .before .before .before .before .before .before .before .before .before .before .before .before .make .ensures, ← c .before .before .keep .ensures)
+returns-2 c = (rw (le-ltb _ _ (c .before .before .before .before .before .before .before .before .before .before .before .before .before .before .before .before .before .before .before .before .if1 .left), ← c .before .before .before .before .before .before .before .before .before .before .before .before .before .before .make .ensures, ← c .before .before .keep .ensures .0), c .before .before .keep .ensures .1)
 
 pub figmorella-make-spec : {M : Type 1} → statement M
 figmorella-make-spec =

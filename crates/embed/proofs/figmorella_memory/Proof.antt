@@ -13,73 +13,56 @@ use Rattle.server.proofs.CheckLaws.{sizes-true}
 use Rattle.embed.specs.Calls.{memoryBy, filled}
 use Rattle.embed.proofs.Checked.{seven-needs}
 
--- src/lib.rt:43:9
 returns : tie.Need-returns
 unfolding memoryBy
 returns c = rw (lt-ltb _ _ (c .if1 .taken))
 
--- src/lib.rt:45:8
 sizes-fit-requires : tie.Need-sizes-fit-requires
 sizes-fit-requires c κs = search needs
 
--- src/lib.rt:46:9
 slice-write-need : tie.Need-slice-write-need
 slice-write-need c = search needs
 
--- src/lib.rt:47:19
 mul-need : tie.Need-mul-need
 mul-need c = let s = sizes-true _ _ _ _ (sym (c .before .sizes-fit .ensures) ∙ c .if2 .taken) in omega (arith, s .blocks, s .files, s .sessions)
 
--- src/lib.rt:47:9
 slice-write-need-2 : tie.Need-slice-write-need-2
 slice-write-need-2 c = simp length-set (omega (arith, c .before .before .if1 .left))
 
--- src/lib.rt:48:20
 add-need : tie.Need-add-need
 add-need c = let s = sizes-true _ _ _ _ (sym (c .before .sizes-fit .ensures) ∙ c .if2 .taken) in omega (arith, s .blocks, s .files, s .sessions)
 
--- src/lib.rt:48:9
 slice-write-need-3 : tie.Need-slice-write-need-3
 slice-write-need-3 c = simp length-set (omega (arith, c .before .before .if1 .left))
 
--- src/lib.rt:49:9
 slice-write-need-4 : tie.Need-slice-write-need-4
 slice-write-need-4 c = simp length-set (omega (arith, c .before .before .if1 .left))
 
--- src/lib.rt:50:19
 mul-need-2 : tie.Need-mul-need-2
 mul-need-2 c = let s = sizes-true _ _ _ _ (sym (c .before .sizes-fit .ensures) ∙ c .if2 .taken) in omega (arith, s .blocks, s .files, s .sessions)
 
--- src/lib.rt:50:9
 slice-write-need-5 : tie.Need-slice-write-need-5
 slice-write-need-5 c = simp length-set (omega (arith, c .before .before .if1 .left))
 
--- src/lib.rt:51:19
 mul-need-3 : tie.Need-mul-need-3
 mul-need-3 c = let s = sizes-true _ _ _ _ (sym (c .before .sizes-fit .ensures) ∙ c .if2 .taken) in omega (arith, mul-le-mul (s .sessions) (s .most))
 
--- src/lib.rt:51:9
 slice-write-need-6 : tie.Need-slice-write-need-6
 slice-write-need-6 c = simp length-set (omega (arith, c .before .before .if1 .left))
 
--- src/lib.rt:52:19
 mul-need-4 : tie.Need-mul-need-4
 mul-need-4 c = let s = sizes-true _ _ _ _ (sym (c .before .sizes-fit .ensures) ∙ c .if2 .taken) in omega (arith, s .blocks, s .files, s .sessions)
 
--- src/lib.rt:52:9
 slice-write-need-7 : tie.Need-slice-write-need-7
 slice-write-need-7 c = simp length-set (omega (arith, c .before .before .if1 .left))
 
--- src/lib.rt:53:9
 same-length : tie.Need-same-length
 same-length c = simp length-set
 
--- src/lib.rt:53:9
 returns-2 : tie.Need-returns-2
 unfolding memoryBy
 returns-2 c = rw (le-ltb _ _ (c .before .before .if1 .left), ← c .before .sizes-fit .ensures, c .if2 .taken) (ap (filled 0) (seven-needs (c .before .before .before .before .args .need .now) _ _ _ _ _ _ _ (c .before .before .if1 .left)))
 
--- src/lib.rt:32:1
 returns-3 : tie.Need-returns-3
 unfolding memoryBy
 returns-3 c = rw (le-ltb _ _ (c .before .before .if1 .left), ← c .before .sizes-fit .ensures, c .if2 .left)

@@ -15,41 +15,32 @@ use Rattle.server.proofs.CheckLaws.{sizes-true}
 use Rattle.embed.specs.Calls.{freeIn, filled, withCounts}
 use Rattle.embed.proofs.Checked.{free-part}
 
--- src/lib.rt:306:8
 sizes-fit-requires : tie.Need-sizes-fit-requires
 sizes-fit-requires c κs = search needs
 
--- src/lib.rt:307:18
 add-w : tie.Need-add-w
 add-w c = omega (arith, sizes-true _ _ _ _ (sym (c .before .sizes-fit .ensures) ∙ c .if1 .taken) .blocks)
 
--- src/lib.rt:309:13
 returns : tie.Need-returns
 unfolding freeIn
 returns c = rw (← c .before .before .sizes-fit .ensures, c .before .if1 .taken, lt-ltb _ _ (c .if2 .taken))
 
--- src/lib.rt:311:39
 slice-aggregate-free-count : tie.Need-slice-aggregate-free-count
 slice-aggregate-free-count c = sym (length-take-le _ _ (c .before .if2 .left))
 
--- src/lib.rt:311:13
 free-count-requires : tie.Need-free-count-requires
 free-count-requires c κs = search needs
 
--- src/lib.rt:312:9
 write-counts-requires : tie.Need-write-counts-requires
 write-counts-requires c κs = search needs
 
--- src/lib.rt:313:9
 same-length : tie.Need-same-length
 same-length c = search needs
 
--- src/lib.rt:313:9
 returns-2 : tie.Need-returns-2
 unfolding freeIn
 returns-2 c = rw (← c .before .before .before .before .before .before .before .before .sizes-fit .ensures, c .before .before .before .before .before .before .before .if1 .taken, le-ltb _ _ (c .before .before .before .before .before .before .if2 .left)) (ap (filled 0) (c .before .before .write-counts .ensures ∙ ap (λ (n : ℕ). withCounts n (c .before .before .before .before .before .before .before .before .before .before .before .args .server .blocks) (c .before .before .before .before .before .before .before .before .before .before .before .args .counts .now)) (c .before .before .before .before .free-count .ensures ∙ free-part (c .before .before .before .before .before .before .before .before .before .before .before .args .server .blocks) (c .before .before .before .before .before .before .before .before .before .before .before .args .map .now) (sizes-true _ _ _ _ (sym (c .before .before .before .before .before .before .before .before .sizes-fit .ensures) ∙ c .before .before .before .before .before .before .before .if1 .taken) .blocks))))
 
--- src/lib.rt:301:1
 returns-3 : tie.Need-returns-3
 unfolding freeIn
 returns-3 c = rw (← c .before .sizes-fit .ensures, c .if1 .left)

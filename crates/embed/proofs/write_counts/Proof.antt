@@ -5,19 +5,15 @@ use Rattle.embed.proofs.write_counts.Reads as reads
 use Rattle.embed.proofs.write_counts.Lts as lts
 use Rattle.embed.proofs.Checked.{two-counts}
 
--- src/lib.rt:64:5
 slice-write-counts : tie.Need-slice-write-counts
 slice-write-counts c = search needs
 
--- src/lib.rt:65:5
 slice-write-counts-2 : tie.Need-slice-write-counts-2
 slice-write-counts-2 c = search needs
 
--- src/lib.rt:60:1
 same-length : tie.Need-same-length
 same-length c = search needs
 
--- src/lib.rt:60:1
 returns : tie.Need-returns
 returns c = two-counts (c .args .counts .now) (c .args .taken) (c .args .size) (c .pre)
 

@@ -6,26 +6,21 @@ use Rattle.embed.proofs.words.is_state.Reads as is-state-reads
 use Rattle.embed.specs.Words.{readyOf}
 use borrow.Author.Tests.{lt-ltb, le-ltb}
 
--- src/words.rt:271:9
 returns : tie.Need-returns
 unfolding readyOf
 returns c = rw (lt-ltb _ _ (c .if1 .taken))
 
--- src/words.rt:274:9
 returns-2 : tie.Need-returns-2
 unfolding readyOf
 returns-2 c = rw (le-ltb _ _ (c .before .if1 .left), lt-ltb _ _ (c .if2 .taken))
 
--- src/words.rt:276:8
 is-state-requires : tie.Need-is-state-requires
 is-state-requires c κs = c .before .if1 .left
 
--- src/words.rt:277:9
 returns-3 : tie.Need-returns-3
 unfolding readyOf
 returns-3 c = rw (le-ltb _ _ (c .before .before .before .if1 .left), le-ltb _ _ (c .before .before .if2 .left), ← c .before .is-state .ensures, c .if3 .taken)
 
--- src/words.rt:267:1
 returns-4 : tie.Need-returns-4
 unfolding readyOf
 returns-4 c = rw (le-ltb _ _ (c .before .before .before .if1 .left), le-ltb _ _ (c .before .before .if2 .left), ← c .before .is-state .ensures, c .if3 .left)

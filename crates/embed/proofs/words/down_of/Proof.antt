@@ -8,42 +8,33 @@ use Rattle.embed.proofs.words.number.Reads as number-reads
 use Rattle.embed.specs.Words.{downOf}
 use borrow.Author.Tests.{eq-eqb, ne-eqb}
 
--- src/words.rt:162:20
 number-requires : tie.Need-number-requires
 number-requires c κs = search needs
 
--- src/words.rt:163:21
 low32-requires : tie.Need-low32-requires
 low32-requires c κs = search needs
 
--- src/words.rt:164:19
 low32-requires-2 : tie.Need-low32-requires-2
 low32-requires-2 c κs = search needs
 
--- src/words.rt:161:9
 returns : tie.Need-returns
 unfolding downOf
 returns c = rw (c .before .before .number .ensures, c .before .low32 .ensures, c .low322 .ensures, eq-eqb _ _ (c .before .before .before .if1 .taken))
 
--- src/words.rt:169:20
 number-requires-2 : tie.Need-number-requires-2
 number-requires-2 c κs = search needs
 
--- src/words.rt:168:9
 returns-2 : tie.Need-returns-2
 unfolding downOf
 returns-2 c = rw (c .number2 .ensures, ne-eqb _ _ (c .before .before .if1 .left), eq-eqb _ _ (c .before .if2 .taken))
 
--- src/words.rt:174:20
 number-requires-3 : tie.Need-number-requires-3
 number-requires-3 c κs = search needs
 
--- src/words.rt:173:9
 returns-3 : tie.Need-returns-3
 unfolding downOf
 returns-3 c = rw (c .number3 .ensures, ne-eqb _ _ (c .before .before .before .if1 .left), ne-eqb _ _ (c .before .before .if2 .left), eq-eqb _ _ (c .before .if3 .taken))
 
--- src/words.rt:157:1
 returns-4 : tie.Need-returns-4
 unfolding downOf
 returns-4 c = rw (ne-eqb _ _ (c .before .before .if1 .left), ne-eqb _ _ (c .before .if2 .left), ne-eqb _ _ (c .if3 .left))

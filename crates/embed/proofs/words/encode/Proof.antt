@@ -6,50 +6,40 @@ use Rattle.embed.proofs.words.encode.Lts as lts
 use Rattle.embed.proofs.words.write_head.Reads as write-head-reads
 use Rattle.embed.proofs.words.write_session.Reads as write-session-reads
 use Rattle.embed.proofs.Writing.{run-server}
+use Rattle.embed.proofs.Reading.{state-too, server-fits}
 
--- src/words.rt:132:5
 write-head-requires : tie.Need-write-head-requires
 write-head-requires c κs = search needs
 
--- src/words.rt:133:29
 element-copy-out-write-session : tie.Need-element-copy-out-write-session
 element-copy-out-write-session c = search needs
 
--- src/words.rt:133:5
 write-session-requires : tie.Need-write-session-requires
 write-session-requires c κs = search needs
 
--- src/words.rt:134:30
 element-copy-out-write-session-2 : tie.Need-element-copy-out-write-session-2
 element-copy-out-write-session-2 c = search needs
 
--- src/words.rt:134:5
 write-session-requires-2 : tie.Need-write-session-requires-2
 write-session-requires-2 c κs = search needs
 
--- src/words.rt:135:30
 element-copy-out-write-session-3 : tie.Need-element-copy-out-write-session-3
 element-copy-out-write-session-3 c = search needs
 
--- src/words.rt:135:5
 write-session-requires-3 : tie.Need-write-session-requires-3
 write-session-requires-3 c κs = search needs
 
--- src/words.rt:136:30
 element-copy-out-write-session-4 : tie.Need-element-copy-out-write-session-4
 element-copy-out-write-session-4 c = search needs
 
--- src/words.rt:136:5
 write-session-requires-4 : tie.Need-write-session-requires-4
 write-session-requires-4 c κs = search needs
 
--- src/words.rt:128:1
 same-length : tie.Need-same-length
 same-length c = search needs
 
--- src/words.rt:128:1
 returns : tie.Need-returns
-returns c = rw (← run-server (c .before .before .before .before .before .before .before .before .before .before .before .before .before .before .before .before .before .before .before .before .before .before .before .before .before .args .t1) (c .before .before .before .before .before .before .before .before .before .before .before .before .before .before .before .before .before .before .before .before .before .before .before .before .before .args .state .now) (c .before .before .before .before .before .before .before .before .before .before .before .before .before .before .before .before .before .before .before .before .before .before .before .before .before .pre), ← c .before .before .before .before .before .before .before .before .before .before .before .before .before .before .before .before .before .before .before .before .before .before .write-head .ensures, ← c .before .before .before .before .before .before .before .before .before .before .before .before .before .before .before .before .before .write-session .ensures, ← c .before .before .before .before .before .before .before .before .before .before .before .before .write-session2 .ensures, ← c .before .before .before .before .before .before .before .write-session3 .ensures) (c .before .before .write-session4 .ensures)
+returns c = state-too (c .before .before .before .before .before .before .before .before .before .before .before .before .before .before .before .before .before .before .before .before .before .before .before .before .before .args .t1) (c .before .before .before .before .before .before .before .before .before .before .before .before .before .before .before .before .before .before .before .before .before .before .before .before .before .args .state .now) (c .before .before .write-session4 .last .0) (rw (← run-server (c .before .before .before .before .before .before .before .before .before .before .before .before .before .before .before .before .before .before .before .before .before .before .before .before .before .args .t1) (c .before .before .before .before .before .before .before .before .before .before .before .before .before .before .before .before .before .before .before .before .before .before .before .before .before .args .state .now) (c .before .before .before .before .before .before .before .before .before .before .before .before .before .before .before .before .before .before .before .before .before .before .before .before .before .pre), ← c .before .before .before .before .before .before .before .before .before .before .before .before .before .before .before .before .before .before .before .before .before .before .write-head .ensures .0, ← c .before .before .before .before .before .before .before .before .before .before .before .before .before .before .before .before .before .write-session .ensures .0, ← c .before .before .before .before .before .before .before .before .before .before .before .before .write-session2 .ensures .0, ← c .before .before .before .before .before .before .before .write-session3 .ensures .0) (c .before .before .write-session4 .ensures .0)) (server-fits (c .before .before .before .before .before .before .before .before .before .before .before .before .before .before .before .before .before .before .before .before .before .before .before .before .before .args .t1) (c .before .before .before .before .before .before .before .before .before .before .before .before .before .before .before .before .before .before .before .before .before .before .write-head .ensures .1) (c .before .before .before .before .before .before .before .before .before .before .before .before .before .before .before .before .before .write-session .ensures .1) (c .before .before .before .before .before .before .before .before .before .before .before .before .write-session2 .ensures .1) (c .before .before .before .before .before .before .before .write-session3 .ensures .1) (c .before .before .write-session4 .ensures .1))
 
 pub encode-spec : {M : Type 1} → statement M
 encode-spec =

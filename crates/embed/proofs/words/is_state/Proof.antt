@@ -12,34 +12,27 @@ use Rattle.embed.specs.Words.{isState}
 use Rattle.embed.proofs.Writing.{encode-alone}
 use lib.ListN.{replicate}
 
--- src/words.rt:260:9
 server-at-requires : tie.Need-server-at-requires
 server-at-requires c κs = c .before .pre
 
--- src/words.rt:261:20
 slice-aggregate-encode : tie.Need-slice-aggregate-encode
 slice-aggregate-encode c = refl
 
--- src/words.rt:261:5
 encode-requires : tie.Need-encode-requires
 encode-requires c κs = omega arith
 
--- src/words.rt:263:10
 slice-aggregate-same : tie.Need-slice-aggregate-same
 slice-aggregate-same c = sym (length-take-le 54 (c .before .before .before .before .before .before .args .state .now) (c .before .before .before .before .before .before .pre))
 
--- src/words.rt:263:23
 slice-aggregate-same-2 : tie.Need-slice-aggregate-same-2
 slice-aggregate-same-2 c = sym (c .before .before .before .encode .kept .1 .0)
 
--- src/words.rt:263:5
 same-requires : tie.Need-same-requires
 same-requires c κs = length-take-le 54 (c .before .before .before .before .before .before .before .args .state .now) (c .before .before .before .before .before .before .before .pre) ∙ sym (c .before .before .before .encode .kept .1 .0)
 
--- src/words.rt:255:1
 returns : tie.Need-returns
 unfolding isState
-returns c = rw (← encode-alone _ (replicate 54 0) (omega arith), ← c .before .before .before .before .before .before .server-at .ensures, ← c .before .before .before .before .encode .ensures) (c .same .ensures)
+returns c = rw (← encode-alone _ (replicate 54 0) (omega arith), ← c .before .before .before .before .before .before .server-at .ensures, ← c .before .before .before .before .encode .ensures .0) (c .same .ensures)
 
 pub is-state-spec : {M : Type 1} → statement M
 is-state-spec =

@@ -15,35 +15,27 @@ Inv-loop a b n i₀ i = (n ≡ length a) × (length a ≡ length b) × (i ≤ le
 abbrev μ-loop : tie.MeasureT-loop
 μ-loop a b n i₀ i = length a - i
 
--- src/words.rt:237:5
 loop-holds : tie.Need-loop-holds Inv-loop μ-loop
 loop-holds c = (refl, c .pre, omega arith, refl)
 
--- src/words.rt:238:12
 mul-if1 : tie.Need-mul-if1 Inv-loop μ-loop
 mul-if1 c = omega arith
 
--- src/words.rt:238:12
 shared-slice-read-if1 : tie.Need-shared-slice-read-if1 Inv-loop μ-loop
 shared-slice-read-if1 c = omega arith
 
--- src/words.rt:238:20
 mul-if1-2 : tie.Need-mul-if1-2 Inv-loop μ-loop
 mul-if1-2 c = omega arith
 
--- src/words.rt:238:20
 shared-slice-read-if1-2 : tie.Need-shared-slice-read-if1-2 Inv-loop μ-loop
 shared-slice-read-if1-2 c = omega arith
 
--- src/words.rt:239:13
 add-i : tie.Need-add-i Inv-loop μ-loop
 add-i c = omega arith
 
--- src/words.rt:237:5
 loop-less : tie.Need-loop-less Inv-loop μ-loop
 loop-less c = omega arith
 
--- src/words.rt:237:5
 loop-again : tie.Need-loop-again Inv-loop μ-loop
 loop-again c =
     let s = c .before .before .before .before .before .args in
@@ -55,14 +47,12 @@ loop-again c =
       same-step (s .a .now) (s .b .now) (l .i) (omega (arith, c .before .before .before .loop-test .taken)) (omega (arith, c .before .before .before .loop-test .taken)) (c .if1 .taken) ∙ p .3,
     )
 
--- src/words.rt:241:13
 returns : tie.Need-returns Inv-loop μ-loop
 returns c =
     let s = c .before .before .before .before .before .args in
     let l = c .before .before .before .before .loop in
     sym (sym (l .inv .3) ∙ same-stop (s .a .now) (s .b .now) (l .i) (omega (arith, c .before .before .before .loop-test .taken)) (omega (arith, c .before .before .before .loop-test .taken)) (c .if1 .left))
 
--- src/words.rt:231:1
 returns-2 : tie.Need-returns-2 Inv-loop μ-loop
 returns-2 c =
     let s = c .before .before .args in

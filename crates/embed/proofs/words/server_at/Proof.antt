@@ -8,71 +8,54 @@ use Rattle.embed.proofs.words.number.Reads as number-reads
 use Rattle.embed.proofs.words.session_at.Reads as session-at-reads
 use Rattle.embed.specs.Words.{serverAt}
 
--- src/words.rt:212:9
 session-at-requires : tie.Need-session-at-requires
 session-at-requires c κs = search needs
 
--- src/words.rt:213:9
 session-at-requires-2 : tie.Need-session-at-requires-2
 session-at-requires-2 c κs = search needs
 
--- src/words.rt:214:9
 session-at-requires-3 : tie.Need-session-at-requires-3
 session-at-requires-3 c κs = search needs
 
--- src/words.rt:215:9
 session-at-requires-4 : tie.Need-session-at-requires-4
 session-at-requires-4 c κs = search needs
 
--- src/words.rt:217:24
 shared-slice-read-number : tie.Need-shared-slice-read-number
 shared-slice-read-number c = search needs
 
--- src/words.rt:217:17
 number-requires : tie.Need-number-requires
 number-requires c κs = search needs
 
--- src/words.rt:218:23
 shared-slice-read-number-2 : tie.Need-shared-slice-read-number-2
 shared-slice-read-number-2 c = search needs
 
--- src/words.rt:218:16
 number-requires-2 : tie.Need-number-requires-2
 number-requires-2 c κs = search needs
 
--- src/words.rt:219:26
 shared-slice-read-number-3 : tie.Need-shared-slice-read-number-3
 shared-slice-read-number-3 c = search needs
 
--- src/words.rt:219:19
 number-requires-3 : tie.Need-number-requires-3
 number-requires-3 c κs = search needs
 
--- src/words.rt:220:22
 shared-slice-read-number-4 : tie.Need-shared-slice-read-number-4
 shared-slice-read-number-4 c = search needs
 
--- src/words.rt:220:15
 number-requires-4 : tie.Need-number-requires-4
 number-requires-4 c κs = search needs
 
--- src/words.rt:222:27
 shared-slice-read-low32 : tie.Need-shared-slice-read-low32
 shared-slice-read-low32 c = search needs
 
--- src/words.rt:222:21
 low32-requires : tie.Need-low32-requires
 low32-requires c κs = search needs
 
--- src/words.rt:223:25
 shared-slice-read-low32-2 : tie.Need-shared-slice-read-low32-2
 shared-slice-read-low32-2 c = search needs
 
--- src/words.rt:223:19
 low32-requires-2 : tie.Need-low32-requires-2
 low32-requires-2 c κs = search needs
 
--- src/words.rt:208:1
 returns : tie.Need-returns
 unfolding serverAt
 returns c = rw (c .before .before .before .before .before .before .before .before .before .before .number .ensures, c .before .before .before .before .before .before .before .before .number2 .ensures, c .before .before .before .before .before .before .number3 .ensures, c .before .before .before .before .number4 .ensures, c .before .before .low32 .ensures, c .low322 .ensures, c .before .before .before .before .before .before .before .before .before .before .before .before .before .before .before .session-at .ensures, c .before .before .before .before .before .before .before .before .before .before .before .before .before .before .session-at2 .ensures, c .before .before .before .before .before .before .before .before .before .before .before .before .before .session-at3 .ensures, c .before .before .before .before .before .before .before .before .before .before .before .before .session-at4 .ensures)

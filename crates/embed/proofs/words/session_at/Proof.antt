@@ -8,167 +8,126 @@ use Rattle.embed.proofs.words.number.Reads as number-reads
 use Rattle.embed.proofs.words.up_of.Reads as up-of-reads
 use Rattle.embed.specs.Words.{sessionAt}
 
--- src/words.rt:186:15
 add-up-of : tie.Need-add-up-of
 add-up-of c = search needs
 
--- src/words.rt:186:9
 mul-up-of : tie.Need-mul-up-of
 mul-up-of c = search needs
 
--- src/words.rt:186:9
 shared-slice-read-up-of : tie.Need-shared-slice-read-up-of
 shared-slice-read-up-of c = search needs
 
--- src/words.rt:187:15
 add-up-of-2 : tie.Need-add-up-of-2
 add-up-of-2 c = search needs
 
--- src/words.rt:187:9
 mul-up-of-2 : tie.Need-mul-up-of-2
 mul-up-of-2 c = search needs
 
--- src/words.rt:187:9
 shared-slice-read-up-of-2 : tie.Need-shared-slice-read-up-of-2
 shared-slice-read-up-of-2 c = search needs
 
--- src/words.rt:188:15
 add-up-of-3 : tie.Need-add-up-of-3
 add-up-of-3 c = search needs
 
--- src/words.rt:188:9
 mul-up-of-3 : tie.Need-mul-up-of-3
 mul-up-of-3 c = search needs
 
--- src/words.rt:188:9
 shared-slice-read-up-of-3 : tie.Need-shared-slice-read-up-of-3
 shared-slice-read-up-of-3 c = search needs
 
--- src/words.rt:189:15
 add-up-of-4 : tie.Need-add-up-of-4
 add-up-of-4 c = search needs
 
--- src/words.rt:189:9
 mul-up-of-4 : tie.Need-mul-up-of-4
 mul-up-of-4 c = search needs
 
--- src/words.rt:189:9
 shared-slice-read-up-of-4 : tie.Need-shared-slice-read-up-of-4
 shared-slice-read-up-of-4 c = search needs
 
--- src/words.rt:185:9
 up-of-requires : tie.Need-up-of-requires
 up-of-requires c κs = search needs
 
--- src/words.rt:192:15
 add-down-of : tie.Need-add-down-of
 add-down-of c = search needs
 
--- src/words.rt:192:9
 mul-down-of : tie.Need-mul-down-of
 mul-down-of c = search needs
 
--- src/words.rt:192:9
 shared-slice-read-down-of : tie.Need-shared-slice-read-down-of
 shared-slice-read-down-of c = search needs
 
--- src/words.rt:193:15
 add-down-of-2 : tie.Need-add-down-of-2
 add-down-of-2 c = search needs
 
--- src/words.rt:193:9
 mul-down-of-2 : tie.Need-mul-down-of-2
 mul-down-of-2 c = search needs
 
--- src/words.rt:193:9
 shared-slice-read-down-of-2 : tie.Need-shared-slice-read-down-of-2
 shared-slice-read-down-of-2 c = search needs
 
--- src/words.rt:194:15
 add-down-of-3 : tie.Need-add-down-of-3
 add-down-of-3 c = search needs
 
--- src/words.rt:194:9
 mul-down-of-3 : tie.Need-mul-down-of-3
 mul-down-of-3 c = search needs
 
--- src/words.rt:194:9
 shared-slice-read-down-of-3 : tie.Need-shared-slice-read-down-of-3
 shared-slice-read-down-of-3 c = search needs
 
--- src/words.rt:195:15
 add-down-of-4 : tie.Need-add-down-of-4
 add-down-of-4 c = search needs
 
--- src/words.rt:195:9
 mul-down-of-4 : tie.Need-mul-down-of-4
 mul-down-of-4 c = search needs
 
--- src/words.rt:195:9
 shared-slice-read-down-of-4 : tie.Need-shared-slice-read-down-of-4
 shared-slice-read-down-of-4 c = search needs
 
--- src/words.rt:191:9
 down-of-requires : tie.Need-down-of-requires
 down-of-requires c κs = search needs
 
--- src/words.rt:198:17
 mul-t5 : tie.Need-mul-t5
 mul-t5 c = search needs
 
--- src/words.rt:198:17
 shared-slice-read-t8 : tie.Need-shared-slice-read-t8
 shared-slice-read-t8 c = search needs
 
--- src/words.rt:201:28
 add-number : tie.Need-add-number
 add-number c = search needs
 
--- src/words.rt:201:22
 mul-number : tie.Need-mul-number
 mul-number c = search needs
 
--- src/words.rt:201:22
 shared-slice-read-number : tie.Need-shared-slice-read-number
 shared-slice-read-number c = search needs
 
--- src/words.rt:201:15
 number-requires : tie.Need-number-requires
 number-requires c κs = search needs
 
--- src/words.rt:202:29
 add-number-2 : tie.Need-add-number-2
 add-number-2 c = search needs
 
--- src/words.rt:202:23
 mul-number-2 : tie.Need-mul-number-2
 mul-number-2 c = search needs
 
--- src/words.rt:202:23
 shared-slice-read-number-2 : tie.Need-shared-slice-read-number-2
 shared-slice-read-number-2 c = search needs
 
--- src/words.rt:202:16
 number-requires-2 : tie.Need-number-requires-2
 number-requires-2 c κs = search needs
 
--- src/words.rt:203:28
 add-number-3 : tie.Need-add-number-3
 add-number-3 c = search needs
 
--- src/words.rt:203:22
 mul-number-3 : tie.Need-mul-number-3
 mul-number-3 c = search needs
 
--- src/words.rt:203:22
 shared-slice-read-number-3 : tie.Need-shared-slice-read-number-3
 shared-slice-read-number-3 c = search needs
 
--- src/words.rt:203:15
 number-requires-3 : tie.Need-number-requires-3
 number-requires-3 c κs = search needs
 
--- src/words.rt:181:1
 returns : tie.Need-returns
 unfolding sessionAt
 returns c = rw (c .before .before .before .before .before .before .before .before .before .before .before .before .up-of .ensures, c .before .before .before .before .before .before .before .down-of .ensures, c .before .before .before .before .number .ensures, c .before .before .number2 .ensures, c .number3 .ensures)

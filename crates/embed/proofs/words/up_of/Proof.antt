@@ -8,29 +8,23 @@ use Rattle.embed.proofs.words.number.Reads as number-reads
 use Rattle.embed.specs.Words.{upOf}
 use borrow.Author.Tests.{eq-eqb, ne-eqb}
 
--- src/words.rt:146:20
 number-requires : tie.Need-number-requires
 number-requires c κs = search needs
 
--- src/words.rt:147:21
 low32-requires : tie.Need-low32-requires
 low32-requires c κs = search needs
 
--- src/words.rt:148:23
 low32-requires-2 : tie.Need-low32-requires-2
 low32-requires-2 c κs = search needs
 
--- src/words.rt:145:9
 returns : tie.Need-returns
 unfolding upOf
 returns c = rw (c .before .before .number .ensures, c .before .low32 .ensures, c .low322 .ensures, eq-eqb _ _ (c .before .before .before .if1 .taken))
 
--- src/words.rt:152:9
 returns-2 : tie.Need-returns-2
 unfolding upOf
 returns-2 c = rw (ne-eqb _ _ (c .before .if1 .left), eq-eqb _ _ (c .if2 .taken))
 
--- src/words.rt:141:1
 returns-3 : tie.Need-returns-3
 unfolding upOf
 returns-3 c = rw (ne-eqb _ _ (c .before .if1 .left), ne-eqb _ _ (c .if2 .left))

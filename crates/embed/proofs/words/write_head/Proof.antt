@@ -8,61 +8,47 @@ use Rattle.embed.proofs.words.word32.Reads as word32-reads
 use native.Mathlib.Omega.{arith}
 use lib.ListN.{length-set}
 
--- src/words.rt:119:16
 word-requires : tie.Need-word-requires
 word-requires c κs = search needs
 
--- src/words.rt:119:5
 slice-write-state : tie.Need-slice-write-state
 slice-write-state c = search needs
 
--- src/words.rt:120:16
 word-requires-2 : tie.Need-word-requires-2
 word-requires-2 c κs = search needs
 
--- src/words.rt:120:5
 slice-write-state-2 : tie.Need-slice-write-state-2
 slice-write-state-2 c = simp length-set (omega arith)
 
--- src/words.rt:121:16
 word-requires-3 : tie.Need-word-requires-3
 word-requires-3 c κs = search needs
 
--- src/words.rt:121:5
 slice-write-state-3 : tie.Need-slice-write-state-3
 slice-write-state-3 c = simp length-set (omega arith)
 
--- src/words.rt:122:16
 word-requires-4 : tie.Need-word-requires-4
 word-requires-4 c κs = search needs
 
--- src/words.rt:122:5
 slice-write-state-4 : tie.Need-slice-write-state-4
 slice-write-state-4 c = simp length-set (omega arith)
 
--- src/words.rt:123:16
 word32-requires : tie.Need-word32-requires
 word32-requires c κs = search needs
 
--- src/words.rt:123:5
 slice-write-state-5 : tie.Need-slice-write-state-5
 slice-write-state-5 c = simp length-set (omega arith)
 
--- src/words.rt:124:16
 word32-requires-2 : tie.Need-word32-requires-2
 word32-requires-2 c κs = search needs
 
--- src/words.rt:124:5
 slice-write-state-6 : tie.Need-slice-write-state-6
 slice-write-state-6 c = simp length-set (omega arith)
 
--- src/words.rt:114:1
 same-length : tie.Need-same-length
 same-length c = search needs
 
--- src/words.rt:114:1
 returns : tie.Need-returns
-returns c = rw (c .before .before .before .before .before .word .ensures, c .before .before .before .before .word2 .ensures, c .before .before .before .word3 .ensures, c .before .before .word4 .ensures, c .before .word32 .ensures, c .word322 .ensures)
+returns c = (rw (c .before .before .before .before .before .word .ensures, c .before .before .before .before .word2 .ensures, c .before .before .before .word3 .ensures, c .before .before .word4 .ensures, c .before .word32 .ensures .0, c .word322 .ensures .0), record { number = c .before .word32 .ensures .1; time = c .word322 .ensures .1 })
 
 pub write-head-spec : {M : Type 1} → statement M
 write-head-spec =

@@ -13,61 +13,47 @@ use native.Mathlib.Omega.{arith}
 use lib.ListN.{length-set}
 use Rattle.embed.proofs.Writing.{run-session}
 
--- src/words.rt:114:17
 flag-word-requires : tie.Need-flag-word-requires
 flag-word-requires c κs = search needs
 
--- src/words.rt:114:5
 mul-state : tie.Need-mul-state
 mul-state c = search needs
 
--- src/words.rt:114:5
 slice-write-state : tie.Need-slice-write-state
 slice-write-state c = search needs
 
--- src/words.rt:115:21
 add-write-up : tie.Need-add-write-up
 add-write-up c = search needs
 
--- src/words.rt:115:5
 write-up-requires : tie.Need-write-up-requires
 write-up-requires c κs = (omega (arith, c .before .before .before .pre .0), simp length-set (omega (arith, c .before .before .before .pre .1)))
 
--- src/words.rt:116:23
 add-write-down : tie.Need-add-write-down
 add-write-down c = search needs
 
--- src/words.rt:116:5
 write-down-requires : tie.Need-write-down-requires
 write-down-requires c κs = (omega (arith, c .before .before .before .before .before .before .before .pre .0), omega (arith, c .before .before .before .before .before .before .before .pre .1, c .before .before .before .write-up .kept .0, length-set (c .before .before .before .before .before .before .before .args .state .now) (c .before .before .before .before .before .before .before .args .at) (c .before .before .before .before .before .flag-word .result)))
 
--- src/words.rt:117:19
 add-write3 : tie.Need-add-write3
 add-write3 c = search needs
 
--- src/words.rt:117:27
 word-requires : tie.Need-word-requires
 word-requires c κs = search needs
 
--- src/words.rt:117:41
 word-requires-2 : tie.Need-word-requires-2
 word-requires-2 c κs = search needs
 
--- src/words.rt:117:56
 word-requires-3 : tie.Need-word-requires-3
 word-requires-3 c κs = search needs
 
--- src/words.rt:117:5
 write3-requires : tie.Need-write3-requires
 write3-requires c κs = (omega (arith, c .before .before .before .before .before .before .before .before .before .before .before .before .before .before .pre .0), omega (arith, c .before .before .before .before .before .before .before .before .before .before .before .before .before .before .pre .1, c .before .before .before .before .before .before .write-down .kept .0, c .before .before .before .before .before .before .before .before .before .before .write-up .kept .0, length-set (c .before .before .before .before .before .before .before .before .before .before .before .before .before .before .args .state .now) (c .before .before .before .before .before .before .before .before .before .before .before .before .before .before .args .at) (c .before .before .before .before .before .before .before .before .before .before .before .before .flag-word .result)))
 
--- src/words.rt:108:1
 same-length : tie.Need-same-length
 same-length c = c .before .before .write3 .kept .0 ∙ c .before .before .before .before .before .before .before .before .before .write-down .kept .0 ∙ c .before .before .before .before .before .before .before .before .before .before .before .before .before .write-up .kept .0 ∙ length-set (c .before .before .before .before .before .before .before .before .before .before .before .before .before .before .before .before .before .args .state .now) (c .before .before .before .before .before .before .before .before .before .before .before .before .before .before .before .before .before .args .at) (c .before .before .before .before .before .before .before .before .before .before .before .before .before .before .before .flag-word .result)
 
--- src/words.rt:108:1
 returns : tie.Need-returns
-returns c = rw (← run-session (c .before .before .before .before .before .before .before .before .before .before .before .before .before .before .before .before .before .args .state .now) (c .before .before .before .before .before .before .before .before .before .before .before .before .before .before .before .before .before .args .at) (c .before .before .before .before .before .before .before .before .before .before .before .before .before .before .before .before .before .args .s), ← c .before .before .before .before .before .before .before .before .before .before .before .before .before .before .before .flag-word .ensures, ← c .before .before .before .before .before .before .before .before .before .before .before .before .before .write-up .ensures, ← c .before .before .before .before .before .before .before .before .before .write-down .ensures) (rw (c .before .before .before .before .before .word .ensures, c .before .before .before .before .word2 .ensures, c .before .before .before .word3 .ensures) at (c .before .before .write3 .ensures))
+returns c = (rw (← run-session (c .before .before .before .before .before .before .before .before .before .before .before .before .before .before .before .before .before .args .state .now) (c .before .before .before .before .before .before .before .before .before .before .before .before .before .before .before .before .before .args .at) (c .before .before .before .before .before .before .before .before .before .before .before .before .before .before .before .before .before .args .s), ← c .before .before .before .before .before .before .before .before .before .before .before .before .before .before .before .flag-word .ensures, ← c .before .before .before .before .before .before .before .before .before .before .before .before .before .write-up .ensures .0, ← c .before .before .before .before .before .before .before .before .before .write-down .ensures .0) (rw (c .before .before .before .before .before .word .ensures, c .before .before .before .before .word2 .ensures, c .before .before .before .word3 .ensures) at (c .before .before .write3 .ensures)), record { up = c .before .before .before .before .before .before .before .before .before .before .before .before .before .write-up .ensures .1; down = c .before .before .before .before .before .before .before .before .before .write-down .ensures .1 })
 
 pub write-session-spec : {M : Type 1} → statement M
 write-session-spec =
