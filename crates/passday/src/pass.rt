@@ -1,7 +1,7 @@
 // The program between two turns, and a turn of it: a step of the line that is being run, the next line, more input, or output written.
 use libc::STDIN_FILENO;
 use libc::STDOUT_FILENO;
-use lines::read::Command;
+use lines::Command;
 use script::Day;
 use script::doing::Doing;
 use script::input::Found;
@@ -246,7 +246,7 @@ fn write_front(text: &[u8], n: usize) {
 
 // The line of an unreadable line, then the last line.
 fn write_error(pass: Pass, text: &mut [u8]) {
-    let n = lines::print::error_line(wrapping_add_usize(pass.lines, 1), text);
+    let n = lines::error_line(wrapping_add_usize(pass.lines, 1), text);
     write_front(&*text, n);
 }
 

@@ -232,3 +232,44 @@ ends-doing (doing.Pumping session) k sv clock l bytes p = pump-most (suc k) sv c
 pub line-ends : (k : ℕ) (day : Day) (l : Lent) (bytes : List ℕ) → length bytes + 1048580 ≤ k → RestsIn k day l bytes
 line-ends zero day l bytes p = absurd (omega (arith, p))
 line-ends (suc k) day l bytes p = ends-doing (day .doing) k (day .server) (day .clock) l bytes p
+
+-- ---- more steps change nothing
+
+rested : (m : ℕ) (day : Day) (l : Lent) (bytes : List ℕ) → restsOf (day .doing) ≡ true → lineOf m day l bytes ≡ ran day l []
+unfolding lineOf
+rested zero day l bytes e = refl
+rested (suc m) day l bytes e = rw e
+
+stepped : (m : ℕ) (day : Day) (l : Lent) (bytes : List ℕ) → restsOf (day .doing) ≡ false → lineOf (suc m) day l bytes ≡ further m day l bytes
+unfolding lineOf
+stepped m day l bytes e = rw e
+
+now-rests : (day : Day) (l : Lent) (bytes : List ℕ) → RestsIn zero day l bytes → restsOf (day .doing) ≡ true
+unfolding lineOf
+now-rests day l bytes e = e
+
+settles : (k m : ℕ) (day : Day) (l : Lent) (bytes : List ℕ) → k ≤ m → RestsIn k day l bytes → lineOf m day l bytes ≡ lineOf k day l bytes
+settles zero m day l bytes p h =
+    rested m day l bytes (now-rests day l bytes h) ∙ sym (rested zero day l bytes (now-rests day l bytes h))
+settles (suc k) zero day l bytes p h = absurd (omega (arith, p))
+settles (suc k) (suc m) day l bytes p h = go (restsOf (day .doing)) refl (settles k m next-day next-lent bytes (omega (arith, p)))
+  where
+    next-day : Day
+    next-day = stepOf day l bytes room .stepped .day
+
+    next-lent : Lent
+    next-lent = stepOf day l bytes room .lent
+
+    go : (t : Bool) → restsOf (day .doing) ≡ t → (RestsIn k next-day next-lent bytes → lineOf m next-day next-lent bytes ≡ lineOf k next-day next-lent bytes)
+        → lineOf (suc m) day l bytes ≡ lineOf (suc k) day l bytes
+    go true e ih = rested (suc m) day l bytes e ∙ sym (rested (suc k) day l bytes e)
+    go false e ih =
+        stepped m day l bytes e
+        ∙ ap (printing (stepOf day l bytes room)) (ih (ap (λ (r : Ran). restsOf (r .day .doing)) (sym (stepped k day l bytes e)) ∙ h))
+        ∙ sym (stepped k day l bytes e)
+
+-- so what a line does and prints is settled by its end
+pub line-settled : (k : ℕ) (day : Day) (l : Lent) (bytes : List ℕ) → length bytes + 1048580 ≤ k
+    → lineOf k day l bytes ≡ lineOf (length bytes + 1048580) day l bytes
+line-settled k day l bytes p =
+    settles (length bytes + 1048580) k day l bytes p (line-ends (length bytes + 1048580) day l bytes (omega arith))

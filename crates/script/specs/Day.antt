@@ -6,8 +6,8 @@ use lib.Dec.{ltb}
 use lib.ListN.{length, replicate}
 use Rattle.server.specs.declared.Server.{Server}
 use Rattle.server.specs.State.{Lent, Outcome}
-use Rattle.lines.specs.declared.read.Command.{Command}
-use Rattle.lines.specs.declared.read.Command.the-variants as command
+use Rattle.lines.specs.declared.commands.Command.{Command}
+use Rattle.lines.specs.declared.commands.Command.the-variants as command
 use Rattle.lines.specs.Lines.{Printed}
 use Rattle.script.specs.declared.doing.Doing.{Doing}
 use Rattle.script.specs.declared.doing.Doing.the-variants as doing

@@ -1,7 +1,7 @@
 // The lines of a script in the bytes read so far.
 use crate::parts::least;
 use crate::parts::rest;
-use lines::read::Command;
+use lines::Command;
 ghost use mathlib.Core.Path.{_≡_};
 ghost use Prim.Native.Nat.{_+_, _≤_};
 ghost use lib.ListN.{length};
@@ -68,7 +68,7 @@ pub fn read_line(input: &[u8], from: usize, end: usize, bytes: &mut [u8]) -> Com
 {
     let stop = least(end, input.len());
     let start = least(from, stop);
-    lines::read::read(&input[start..stop], bytes)
+    lines::read(&input[start..stop], bytes)
 }
 
 // Moves n bytes from a place to the front.

@@ -9,7 +9,7 @@ pub mod parts;
 mod printing;
 
 use doing::Doing;
-use lines::read::Command;
+use lines::Command;
 use server::Server;
 ghost use mathlib.Core.Path.{_≡_};
 ghost use Prim.Native.Nat.{_≤_};
@@ -146,5 +146,5 @@ pub fn blocks(map: &[u64], owner: &[u16], text: &mut [u8]) -> usize
 {
     let free = blocks::free_count(map);
     let held = blocks::held_count(owner);
-    lines::print::blocks_line(free, held, text)
+    lines::blocks_line(free, held, text)
 }

@@ -10,9 +10,9 @@ fn show_packet(session: u32, size: usize, out: &[u8], text: &mut [u8]) -> usize
     ensures { λ r. ⌜ printed r (now (text .exit)) ≡ printedIn (packetLine session (take size (now (out .entry)))) (now (text .entry)) ⌝ }
 {
     if size < out.len() {
-        return lines::print::packet_line(session, &out[..size], text);
+        return lines::packet_line(session, &out[..size], text);
     }
-    lines::print::packet_line(session, out, text)
+    lines::packet_line(session, out, text)
 }
 
 // The line of an answer: a packet sent, a link closed or a refusal has one.
@@ -22,7 +22,7 @@ pub(crate) fn show(session: u32, answer: Answer, out: &[u8], text: &mut [u8]) ->
     match answer {
         Answer::Quiet(_) => 0,
         Answer::Sent(_, size) => show_packet(session, size, out, text),
-        Answer::Closed(_) => lines::print::closed_line(session, text),
-        Answer::Refused(number) => lines::print::refused_line(session, number, text),
+        Answer::Closed(_) => lines::closed_line(session, text),
+        Answer::Refused(number) => lines::refused_line(session, number, text),
     }
 }

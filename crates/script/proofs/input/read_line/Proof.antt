@@ -3,7 +3,7 @@ use Rattle.script.proofs.input.read_line.Statement.{statement}
 use Rattle.script.proofs.input.read_line.Tie as tie
 use Rattle.script.proofs.input.read_line.Reads as reads
 use Rattle.script.proofs.input.read_line.Lts as lts
-use Rattle.lines.proofs.read.read.Reads as read-reads
+use Rattle.lines.proofs.commands.read.Reads as read-reads
 use Rattle.script.proofs.parts.least.Reads as least-reads
 use mathlib.Core.Path.{_∙_}
 use Rattle.script.proofs.InputLaws.{read-part}
