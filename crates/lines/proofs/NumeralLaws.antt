@@ -2,7 +2,7 @@
 use mathlib.Core.Path.{_≡_, refl, sym, ap, _∙_}
 use mathlib.Core.Bool.{Bool, true, false, cond}
 use mathlib.Core.List.{List, [], _∷_, _++_}
-use Prim.Native.Nat.{ℕ, zero, suc, _+_, _*_, _/_, _-_, _≤_, _<_}
+use Prim.Native.Nat.{ℕ, zero, suc, _+_, _*_, _/_, _%_, _-_, _≤_, _<_}
 use native.Mathlib.Omega.{arith}
 use native.Mathlib.Numerals.{add-one}
 use borrow.Author.Tests.{lt-ltb, le-ltb, le-leb, lt-leb, ltb-true, ltb-false, eqb-true, eqb-false}
@@ -93,6 +93,27 @@ module _ (line : List ℕ) (at v i : ℕ)
 
 -- ---- hex
 
+-- an odd number of digits are no pairs
+odd-digits : (l : List ℕ) → length l % 2 ≡ 1 → isHex l ≡ false
+unfolding isHex
+odd-digits [] e = absurd (omega arith)
+odd-digits (a ∷ []) e = refl
+odd-digits (a ∷ b ∷ rest) e = rw (odd-digits rest (omega arith)) (none (ltb (hexValue a) 16) (ltb (hexValue b) 16))
+  where
+    none : (t u : Bool) → cond t (cond u false false) false ≡ false
+    none true true = refl
+    none true false = refl
+    none false u = refl
+
+-- what was good so far, and what is left
+pub and-bad : (b : Bool) → cond b false false ≡ false
+and-bad true = refl
+and-bad false = refl
+
+pub and-good : (b : Bool) → cond b true false ≡ b
+and-good true = refl
+and-good false = refl
+
 module _ (line : List ℕ) (i : ℕ) where
   pair : i + 1 < length line → drop i line ≡ getD line i 0 ∷ getD line (i + 1) 0 ∷ drop (i + 2) line
   pair h =
@@ -115,9 +136,12 @@ module _ (line : List ℕ) (i : ℕ) where
     pub hex-on : hexValue (getD line i 0) ≤ 15 → hexValue (getD line (i + 1) 0) ≤ 15 → isHex (drop i line) ≡ isHex (drop (i + 2) line)
     hex-on a b = rw (hex-pair h, lt-ltb (hexValue (getD line i 0)) 16 (omega arith), lt-ltb (hexValue (getD line (i + 1) 0)) 16 (omega arith))
 
-  pub hex-one : i < length line → length line - i < 2 → isHex (drop i line) ≡ false
+  hex-one : i < length line → length line - i < 2 → isHex (drop i line) ≡ false
   unfolding isHex
   hex-one h m = rw (drop-cons line i 0 h, drop-of-length-le line {i = suc i} (omega arith))
+
+  pub hex-odd : (length line - i) % 2 ≡ 1 → isHex (drop i line) ≡ false
+  hex-odd e = odd-digits (drop i line) (rw (length-drop i line) e)
 
   pub hex-end : length line ≤ i → isHex (drop i line) ≡ true
   unfolding isHex

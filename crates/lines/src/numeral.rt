@@ -79,24 +79,34 @@ fn hex_value(b: u8) -> u8
     16
 }
 
-// From a place to the end of the line stand pairs of hex digits.
+// From a place to the end of the line stand pairs of hex digits. All are looked at, with no early end: a plain loop is the faster.
 fn has_pairs(line: &[u8], at: usize) -> bool
     ensures { λ r. ⌜ r ≡ isHex (drop at (now (line .entry))) ⌝ }
 {
+    if line.len() <= at {
+        return true;
+    }
+    if (line.len() - at) % 2 == 1 {
+        return false;
+    }
+    let mut good = true;
     let mut i = at;
     while i < line.len() {
-        if line.len() - i < 2 {
-            return false;
+        let a = hex_value(line[i]);
+        let b = hex_value(line[i + 1]);
+        if 15 < a {
+            good = false;
+            i += 2;
+        } else {
+            if 15 < b {
+                good = false;
+                i += 2;
+            } else {
+                i += 2;
+            }
         }
-        if 15 < hex_value(line[i]) {
-            return false;
-        }
-        if 15 < hex_value(line[i + 1]) {
-            return false;
-        }
-        i += 2;
     }
-    true
+    good
 }
 
 // Writes the bytes of the pairs of hex digits from a place on to the front of `bytes`.
