@@ -93,6 +93,27 @@ module _ (line : List ℕ) (at v i : ℕ)
 
 -- ---- hex
 
+-- the value of a byte by its wrapped distances from "0" and from "a"
+module _ (b : ℕ) where
+  pub digit-value : (d : ℕ) → (d + 48) % 256 ≡ b → d < 10 → d ≡ hexValue b
+  unfolding hexValue
+  digit-value d e h = rw (le-ltb b 48 (omega arith), lt-ltb b 58 (omega arith)) (omega arith)
+
+  pub letter-value : (l : ℕ) → (l + 97) % 256 ≡ b → l < 6 → 10 + l ≡ hexValue b
+  unfolding hexValue
+  letter-value l e h =
+      rw (le-ltb b 48 (omega arith), le-ltb b 58 (omega arith), le-ltb b 97 (omega arith), lt-ltb b 103 (omega arith)) (omega arith)
+
+  pub no-value : (d l : ℕ) → d < 256 → l < 256 → (d + 48) % 256 ≡ b → (l + 97) % 256 ≡ b → 10 ≤ d → 6 ≤ l → 16 ≡ hexValue b
+  unfolding hexValue
+  no-value d l m n e f g h = go (ltb b 48) refl (ltb b 97) refl
+    where
+      go : (t : Bool) → ltb b 48 ≡ t → (u : Bool) → ltb b 97 ≡ u
+          → 16 ≡ cond t 16 (cond (ltb b 58) (b - 48) (cond u 16 (cond (ltb b 103) (b - 87) 16)))
+      go true p u q = refl
+      go false p true q = let x = ltb-false b 48 p in rw (le-ltb b 58 (omega arith))
+      go false p false q = let x = ltb-false b 97 q in rw (le-ltb b 58 (omega arith), le-ltb b 103 (omega arith))
+
 -- an odd number of digits are no pairs
 odd-digits : (l : List ℕ) → length l % 2 ≡ 1 → isHex l ≡ false
 unfolding isHex

@@ -1,4 +1,5 @@
 // Decimal and hex numbers read at a place of a line.
+use std::num::wrapping_sub_u8;
 ghost use mathlib.Core.Path.{_≡_};
 ghost use mathlib.Core.Bool.{true};
 ghost use Prim.Native.Nat.{_≤_, _<_};
@@ -60,23 +61,18 @@ pub fn decimal(line: &[u8], at: usize) -> Digits
     ended(value, at, i)
 }
 
-// The value of a lower-case hex digit, 16 for any other byte.
+// The value of a lower-case hex digit, 16 for any other byte. The differences wrap, so that nothing hangs on the order of the tests: a script has
+// very many digits, and this needs no branch.
 fn hex_value(b: u8) -> u8
     ensures { λ r. ⌜ r ≡ hexValue b ⌝ }
 {
-    if b < 48 {
-        return 16;
+    let d = wrapping_sub_u8(b, 48);
+    let l = wrapping_sub_u8(b, 97);
+    if d < 10 {
+        d
+    } else {
+        if l < 6 { 10 + l } else { 16 }
     }
-    if b < 58 {
-        return b - 48;
-    }
-    if b < 97 {
-        return 16;
-    }
-    if b < 103 {
-        return b - 87;
-    }
-    16
 }
 
 // From a place to the end of the line stand pairs of hex digits. All are looked at, with no early end: a plain loop is the faster.
