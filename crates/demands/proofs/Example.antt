@@ -3,16 +3,19 @@
 use mathlib.Core.Path.{_≡_, refl, ap, _∙_}
 use mathlib.Core.Bool.{Bool, true, false, cond}
 use mathlib.Core.List.{List, [], _∷_}
-use Prim.Native.Nat.{ℕ, _<_}
+use Prim.Native.Nat.{ℕ, _≤_, _<_}
 use native.Mathlib.Omega.{arith}
 use lib.Count.{ones, trailingZeros}
 use lib.Dec.{ltb}
-use lib.ListN.{replicate, take, drop}
+use lib.ListN.{length, replicate, take, drop, length-replicate}
 use borrow.Author.Tests.{ltb-true}
 use Rattle.header.proofs.Examples.{smallest}
 use Rattle.header.specs.Fields.{fieldsSet}
 use Rattle.table.specs.declared.File.{File}
 use Rattle.server.specs.State.{lent}
+use mathlib.Core.Option.{none}
+use Rattle.demands.specs.Cut.{endsIn, SameAfter, joined}
+use Rattle.demands.proofs.CutCalls.{cut-elsewhere}
 use Rattle.history.specs.Calls.{Call, login, receive, lose, Start, legal, History, start, _▸_}
 use Rattle.demands.specs.Accepted.{accepted, reserved, numbersGiven, completion, completions}
 use Rattle.demands.specs.Demand3.{filesAt, sentAt, AreBytes, OfBytes}
@@ -93,6 +96,8 @@ small-legal = refl
 
 -- UL_GO_RESP offers the 40 bytes of the whole packet; the whole file is accepted and completed
 pub record LostOnce : Type 0 where
+  -- two bytes of the next packet end nothing
+  pub ends : endsIn small beforeUpload 1 (8 ∷ 3 ∷ []) ≡ none
   pub offer : sentAt small beforeUpload (rx 10 (upload 1)) ≡ 8 ∷ 4 ∷ 1 ∷ 0 ∷ 0 ∷ 0 ∷ 40 ∷ 0 ∷ 0 ∷ 0 ∷ []
   pub numbers : numbersGiven small lostOnce ≡ 1 ∷ []
   pub bytes : accepted small lostOnce 1 ≡ smallest
@@ -141,9 +146,16 @@ unfolding
     demands-accepted.reserved demands-accepted.total demands-accepted.givenBy demands-accepted.numbersGiven demands-accepted.fromOne
     demands-accepted.lastFrom demands-accepted.completedBy demands-accepted.completions
 passes = (
-  record { offer = refl; numbers = refl; bytes = refl; blocks = refl; complete = refl; file = refl },
+  record { ends = refl; offer = refl; numbers = refl; bytes = refl; blocks = refl; complete = refl; file = refl },
   record { numbers = refl; first = refl; second = refl; freed = refl; blocks = refl; complete = refl; file = refl },
 )
+
+-- so the packet may be cut behind them, and the theorem on cutting gives the same state and the same answers
+pub cut-met : SameAfter small (beforeUpload ▸ rx 10 (8 ∷ 3 ∷ []) ▸ rx 11 (drop 2 (upload 1))) (beforeUpload ▸ rx 11 (upload 1))
+cut-met =
+    let room : 258 ≤ length {A = ℕ} (replicate 258 0) = omega (arith, length-replicate {A = ℕ} 258 0) in
+    cut-elsewhere small small-legal _ _
+    (joined beforeUpload 1 10 11 (8 ∷ 3 ∷ []) (drop 2 (upload 1)) (replicate 258 0) (replicate 258 0) (passes .0 .ends) room room)
 
 -- so the theorem gives the stored bytes: what was accepted, with its fields set to number 1 and time 4
 pub lost-once-bytes : filesAt small lostOnce 0 .bytes ≡ fieldsSet 1 4 smallest
