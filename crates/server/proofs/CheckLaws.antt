@@ -3,15 +3,19 @@ use mathlib.Core.Path.{_≡_, refl, sym, _∙_}
 use mathlib.Core.Bool.{Bool, true, false, cond}
 use Prim.Native.Nat.{ℕ, _+_, _-_, _*_, _/_, _≤_, _<_}
 use native.Mathlib.Omega.{arith}
+use native.Mathlib.Nat.{le-trans}
 use borrow.Author.Tests.{leb-true, ltb-false, eqb-false}
 use lib.Dec.{leb, ltb, eqb}
 use lib.ListN.{length}
-use mathlib.Core.List.{List}
+use mathlib.Core.List.{List, []}
+use Rattle.links.proofs.Facts.{part-end}
 use Rattle.server.specs.declared.Server.{Server}
 use Rattle.server.specs.declared.check.Check.{Check}
 use Rattle.server.specs.declared.check.Check.the-variants.{Go, Refuse}
-use Rattle.server.specs.State.{words, linkOf}
-use Rattle.server.specs.Check.{sizesFit, roomFits, soundParts, inState, sessionCheck, checkParts}
+use Rattle.server.specs.State.{Lent, lent, words, linkOf}
+use Rattle.server.specs.Check.{sizesFit, roomFits, fits, soundParts, inState, sessionCheck, checkParts}
+use Rattle.server.specs.Calls.{StepPre, LosePre, DuePre, onRequest}
+use Rattle.server.specs.Kept.{keptParts}
 
 -- a test and then another
 first : (t a : Bool) → cond t a false ≡ true → t ≡ true
@@ -97,28 +101,88 @@ session-go sv session wanted out i e =
         let s : session - 1 ≡ i = cc in
         (omega (arith, ltb-false (sv .sessions) session q, eqb-false session 0 p), ltb-false out 258 r)
 
+-- where sizes and lengths fit, the session's check says the rest
+passed : (sv : Server) (session : ℕ) (wanted : Bool) (out disk : ℕ) (map owner table selected held : List ℕ) (i : ℕ)
+    → fits sv disk map owner table selected held ≡ true → sessionCheck sv session wanted out ≡ Go i
+    → Passed sv i disk out map owner table selected held
+passed sv session wanted out disk map owner table selected held i f e =
+    let t = both-true (sizesFit (sv .blocks) (sv .files) (sv .sessions) (sv .most)) _ f in
+    record {
+      sizes = sizes-true (sv .blocks) (sv .files) (sv .sessions) (sv .most) (t .0);
+      room = room-true (sv .blocks) (sv .files) (sv .sessions) (sv .most) disk (length map) (length owner) (length table) (length selected) (length held) (t .1);
+      index = session-go sv session wanted out i e .0;
+      out = session-go sv session wanted out i e .1;
+    }
+
 pub check-go : (sv : Server) (session : ℕ) (wanted : Bool) (out disk : ℕ) (map owner table selected held : List ℕ) (i : ℕ)
     → checkParts sv session wanted out disk map owner table selected held ≡ Go i
     → Passed sv i disk out map owner table selected held
 unfolding checkParts
 check-go sv session wanted out disk map owner table selected held i e =
-    go (sizesFit (sv .blocks) (sv .files) (sv .sessions) (sv .most)) refl
-    (roomFits (sv .blocks) (sv .files) (sv .sessions) (sv .most) disk (length map) (length owner) (length table) (length selected) (length held)) refl
-    (soundParts sv map owner table selected held) e
+    go (fits sv disk map owner table selected held) refl (soundParts sv map owner table selected held) e
   where
-    go : (a : Bool) → sizesFit (sv .blocks) (sv .files) (sv .sessions) (sv .most) ≡ a
-        → (b : Bool)
-        → roomFits (sv .blocks) (sv .files) (sv .sessions) (sv .most) disk (length map) (length owner) (length table) (length selected) (length held) ≡ b
-        → (d : Bool)
-        → cond (cond a b false) (cond d (sessionCheck sv session wanted out) (Refuse 35)) (Refuse 33) ≡ Go i
+    go : (a : Bool) → fits sv disk map owner table selected held ≡ a → (d : Bool)
+        → cond a (cond d (sessionCheck sv session wanted out) (Refuse 35)) (Refuse 33) ≡ Go i → Passed sv i disk out map owner table selected held
+    go false p d e = let z : _≡_ {A = ℕ} 0 1 = cc in absurd (omega arith)
+    go true p false e = let z : _≡_ {A = ℕ} 0 1 = cc in absurd (omega arith)
+    go true p true e = passed sv session wanted out disk map owner table selected held i p e
+
+pub kept-go : (sv : Server) (session : ℕ) (wanted : Bool) (out disk : ℕ) (map owner table selected held : List ℕ) (i : ℕ)
+    → keptParts sv session wanted out disk map owner table selected held ≡ Go i
+    → Passed sv i disk out map owner table selected held
+unfolding keptParts
+kept-go sv session wanted out disk map owner table selected held i e = go (fits sv disk map owner table selected held) refl e
+  where
+    go : (a : Bool) → fits sv disk map owner table selected held ≡ a → cond a (sessionCheck sv session wanted out) (Refuse 33) ≡ Go i
         → Passed sv i disk out map owner table selected held
-    go false p b q d e = let z : _≡_ {A = ℕ} 0 1 = cc in absurd (omega arith)
-    go true p false q d e = let z : _≡_ {A = ℕ} 0 1 = cc in absurd (omega arith)
-    go true p true q false e = let z : _≡_ {A = ℕ} 0 1 = cc in absurd (omega arith)
-    go true p true q true e =
-        record {
-          sizes = sizes-true (sv .blocks) (sv .files) (sv .sessions) (sv .most) p;
-          room = room-true (sv .blocks) (sv .files) (sv .sessions) (sv .most) disk (length map) (length owner) (length table) (length selected) (length held) q;
-          index = session-go sv session wanted out i e .0;
-          out = session-go sv session wanted out i e .1;
-        }
+    go false p e = let z : _≡_ {A = ℕ} 0 1 = cc in absurd (omega arith)
+    go true p e = passed sv session wanted out disk map owner table selected held i p e
+
+-- ---- so there is room for each call
+
+module _ (sv : Server) (i disk o : ℕ) (map owner table selected held : List ℕ) (p : Passed sv i disk o map owner table selected held) where
+  pub go-index : i ≤ 3
+  go-index = omega (arith, p .index, p .sizes .sessions)
+
+  go-selections : i * sv .most + sv .most ≤ length selected
+  go-selections = le-trans (part-end i (sv .sessions) (sv .most) (p .index)) (p .room .selected)
+
+  go-part : i * 258 + 258 ≤ length held
+  go-part = le-trans (part-end i (sv .sessions) 258 (p .index)) (p .room .held)
+
+  pub go-step : StepPre sv i map owner table selected held
+  go-step =
+      record {
+        act =
+            record {
+              blocks = p .sizes .blocks;
+              files = p .sizes .files;
+              most = p .sizes .most;
+              session = go-index;
+              words = p .room .map;
+              owners = p .room .owner;
+              records = p .room .table;
+              selections = go-selections;
+            };
+        part = go-part;
+      }
+
+  pub go-lose : LosePre sv i selected held
+  go-lose = record { session = go-index; most = p .sizes .most; selections = go-selections; part = go-part }
+
+  pub go-due : (out : List ℕ) → o ≡ length out → DuePre sv i owner table out
+  go-due out e =
+      record {
+        session = go-index;
+        files = p .sizes .files;
+        owners = p .room .owner;
+        records = p .room .table;
+        packet = omega (arith, p .out, e);
+      }
+
+-- a request looks at the storage, the owners and the file table alone
+pub request-parts : (k : Check) (sv : Server) (l : Lent) (out : List ℕ)
+    → onRequest k sv (lent (l .disk) [] (l .owner) (l .table) [] []) out ≡ onRequest k sv l out
+unfolding onRequest
+request-parts (Go i) sv l out = refl
+request-parts (Refuse n) sv l out = refl

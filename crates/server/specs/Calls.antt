@@ -1,5 +1,6 @@
 -- The calls of the driver (document 01). Each is one definition of all that it is handed: the answer, the server, the slices and the output
 -- afterwards. Assumes nothing.
+use mathlib.Core.Path.{_≡_}
 use mathlib.Core.Bool.{Bool, true, false, cond}
 use mathlib.Core.List.{List}
 use Prim.Native.Nat.{ℕ, _+_, _*_, _≤_, _<_}
@@ -38,6 +39,10 @@ heardBy sv i clock l out h =
 
 unfoldable pub stepOf : Server → ℕ → ℕ → List ℕ → Lent → List ℕ → Outcome
 stepOf sv i clock input l out = heardBy sv i clock l out (hearOf (l .held) i (linkOf sv i .held) input)
+
+-- what is asked of the session of a call that goes through
+abbrev pub Goes : Check → (ℕ → Type 0) → Type 0
+Goes k P = (i : ℕ) → k ≡ Go i → P i
 
 -- "32 to 35 change nothing, take no byte and write nothing."
 unfoldable pub onCheck : Check → Server → Lent → List ℕ → ℕ → List ℕ → Outcome
@@ -94,6 +99,13 @@ onLose (Go i) sv selected held =
 unfoldable pub loseOf : Server → Lent → ℕ → Lost
 loseOf sv l session = onLose (checkOf sv l session true 258) sv (l .selected) (l .held)
 
+-- what the slices have room for
+pub record LosePre (sv : Server) (i : ℕ) (selected held : List ℕ) : Type 0 where
+  pub session : i ≤ 3
+  pub most : sv .most ≤ 50
+  pub selections : i * sv .most + sv .most ≤ length selected
+  pub part : i * 258 + 258 ≤ length held
+
 -- ---- request
 
 unfoldable pub dueAs : Server → ℕ → Due → Opened
@@ -106,3 +118,11 @@ onRequest (Go i) sv l out =
 
 unfoldable pub requestOf : Server → Lent → List ℕ → ℕ → Opened
 requestOf sv l out session = onRequest (checkOf sv l session true (length out)) sv l out
+
+-- what the slices have room for
+pub record DuePre (sv : Server) (i : ℕ) (owner table out : List ℕ) : Type 0 where
+  pub session : i ≤ 3
+  pub files : sv .files ≤ 256
+  pub owners : sv .blocks ≤ length owner
+  pub records : 4 * sv .files ≤ length table
+  pub packet : 258 ≤ length out

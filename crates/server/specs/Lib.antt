@@ -4,3 +4,4 @@ pub mod Turns
 pub mod Sending
 pub mod Making
 pub mod Calls
+pub mod Kept

@@ -6,6 +6,7 @@ ghost use Prim.Native.Nat.{_+_, _*_, _/_, _≤_};
 ghost use lib.ListN.{length};
 ghost use Rattle.server.specs.State.{words};
 ghost use Rattle.server.specs.Check.{sizesFit, roomFits, soundParts, inState, sessionCheck, checkParts};
+ghost use Rattle.server.specs.Kept.{keptParts};
 
 // A call goes through for a session, counted from 0, or is refused.
 pub enum Check {
@@ -179,6 +180,35 @@ pub fn checked(
             return check_session(server, session, wanted, out);
         }
         return Check::Refuse(35);
+    }
+    Check::Refuse(33)
+}
+
+// The local refusals in their order, without 35: sizes, the session, the output. What the slices hold is not looked at.
+pub(crate) fn kept(
+    server: Server,
+    session: usize,
+    wanted: bool,
+    out: usize,
+    disk: usize,
+    map: &[u64],
+    owner: &[u16],
+    table: &[u32],
+    selected: &[u32],
+    held: &[u8],
+) -> Check
+    ensures { λ r. ⌜ r ≡ keptParts server session wanted out disk (now (map .entry)) (now (owner .entry)) (now (table .entry)) (now (selected .entry)) (now (held .entry)) ⌝ }
+{
+    let n = Lengths {
+        disk: disk,
+        map: map.len(),
+        owner: owner.len(),
+        table: table.len(),
+        selected: selected.len(),
+        held: held.len(),
+    };
+    if fits_all(server, n) {
+        return check_session(server, session, wanted, out);
     }
     Check::Refuse(33)
 }

@@ -1,20 +1,21 @@
 // The server: sessions over the store, and the calls of its driver: make, login, receive, request, lose. Every call has an answer, whatever
-// it is handed; a local refusal (33, 35, 34, 32, in this order) changes nothing, takes no byte and writes nothing.
+// it is handed; a local refusal (33, 35, 34, 32, in this order) changes nothing, takes no byte and writes nothing. The calls here test the whole state
+// for 35 each time, since it is handed in; those of kept.rt do not, for a driver that keeps the state to itself.
+mod calls;
 pub mod check;
+pub mod kept;
 mod making;
 mod sending;
 mod turns;
 
 use carry::turn::Last;
-use check::Check;
 use session::reply::Answer;
-use session::reply::Reply;
 use session::state::Session;
 ghost use mathlib.Core.Path.{_≡_};
 ghost use lib.ListN.{length};
 ghost use Rattle.server.specs.State.{lent, outcome};
 ghost use Rattle.server.specs.Making.{emptied, makes, makeOf};
-ghost use Rattle.server.specs.Calls.{StepPre, stepOf, receiveOf, opened, loginOf, lost, loseOf, requestOf};
+ghost use Rattle.server.specs.Calls.{receiveOf, opened, loginOf, lost, loseOf, requestOf};
 
 // The sizes, fixed when the server is made; the last number and time given; the sessions.
 pub struct Server {
@@ -87,51 +88,6 @@ pub fn make(
     }
 }
 
-// Bytes of an open session's link.
-fn step(
-    server: Server,
-    i: usize,
-    clock: u32,
-    input: &[u8],
-    disk: &mut [u8],
-    map: &mut [u64],
-    owner: &mut [u16],
-    table: &mut [u32],
-    selected: &mut [u32],
-    held: &mut [u8],
-    out: &mut [u8],
-) -> Done
-    requires { ⌜ StepPre server i (now map) (now owner) (now table) (now selected) (now held) ⌝ }
-    ensures { λ r. ⌜ outcome r (lent (now (disk .exit)) (now (map .exit)) (now (owner .exit)) (now (table .exit)) (now (selected .exit)) (now (held .exit))) (now (out .exit))
-        ≡ stepOf server i clock (now (input .entry)) (lent (now (disk .entry)) (now (map .entry)) (now (owner .entry)) (now (table .entry)) (now (selected .entry)) (now (held .entry))) (now (out .entry)) ⌝ }
-{
-    let s = server.links[i];
-    let f = turns::hear(held, i, s.held, input);
-    let t = session::state::with_held(s, f.held);
-    let frame = f.frame;
-    let info = f.info;
-    let turn = turns::act_on(
-        server,
-        i,
-        t,
-        frame,
-        &info,
-        clock,
-        disk,
-        map,
-        owner,
-        table,
-        selected,
-    );
-    let next = turns::with_turn(server, i, turn);
-    let reply = turn.reply;
-    let answer = session::reply::send(reply, f.taken, out);
-    Done {
-        server: next,
-        answer: answer,
-    }
-}
-
 // Takes bytes of a session's link, up to the end of one packet, and answers it.
 pub fn receive(
     server: Server,
@@ -161,25 +117,19 @@ pub fn receive(
         &*selected,
         &*held,
     );
-    match k {
-        Check::Refuse(n) => Done {
-            server: server,
-            answer: Answer::Refused(n),
-        },
-        Check::Go(i) => step(
-            server,
-            i,
-            clock,
-            input,
-            disk,
-            map,
-            owner,
-            table,
-            selected,
-            held,
-            out,
-        ),
-    }
+    calls::on_receive(
+        k,
+        server,
+        clock,
+        input,
+        disk,
+        map,
+        owner,
+        table,
+        selected,
+        held,
+        out,
+    )
 }
 
 // A link is there: the session begins, and LOGIN_RESP goes out.
@@ -210,20 +160,7 @@ pub fn login(
         selected,
         held,
     );
-    match k {
-        Check::Refuse(n) => Done {
-            server: server,
-            answer: Answer::Refused(n),
-        },
-        Check::Go(i) => {
-            let next = turns::with_link(server, i, session::state::fresh());
-            let answer = session::reply::send(Reply::Login(clock), 0, out);
-            Done {
-                server: next,
-                answer: answer,
-            }
-        }
-    }
+    calls::on_login(k, server, out, clock)
 }
 
 // The link is lost: the session is closed, its unfinished packet and its selection are forgotten, and a partial stays as it is.
@@ -252,20 +189,7 @@ pub fn lose(
         &*selected,
         &*held,
     );
-    match k {
-        Check::Refuse(n) => Done {
-            server: server,
-            answer: Answer::Refused(n),
-        },
-        Check::Go(i) => {
-            turns::forget(server.most, i, selected, held);
-            let next = turns::with_link(server, i, session::state::closed());
-            Done {
-                server: next,
-                answer: Answer::Quiet(0),
-            }
-        }
-    }
+    calls::on_lose(k, server, selected, held)
 }
 
 // What is due on a session's downlink: one packet, or nothing.
@@ -295,22 +219,5 @@ pub fn request(
         selected,
         held,
     );
-    match k {
-        Check::Refuse(n) => Done {
-            server: server,
-            answer: Answer::Refused(n),
-        },
-        Check::Go(i) => {
-            let s = server.links[i];
-            let b = server.blocks;
-            let x = 4 * server.files;
-            let a = sending::due(s, disk, &owner[..b], &table[..x], out);
-            let next = a.session;
-            let answer = a.answer;
-            Done {
-                server: turns::with_link(server, i, next),
-                answer: answer,
-            }
-        }
-    }
+    calls::on_request(k, server, disk, owner, table, out)
 }

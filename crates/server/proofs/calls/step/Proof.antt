@@ -1,9 +1,9 @@
 use Rattle.server.specs.Calls.{stepOf, heardBy, answeredBy}
 use borrow.Author.Needs.{needs}
-use Rattle.server.proofs.step.Statement.{statement}
-use Rattle.server.proofs.step.Tie as tie
-use Rattle.server.proofs.step.Reads as reads
-use Rattle.server.proofs.step.Lts as lts
+use Rattle.server.proofs.calls.step.Statement.{statement}
+use Rattle.server.proofs.calls.step.Tie as tie
+use Rattle.server.proofs.calls.step.Reads as reads
+use Rattle.server.proofs.calls.step.Lts as lts
 use Rattle.server.proofs.turns.act_on.Reads as act-on-reads
 use Rattle.server.proofs.turns.hear.Reads as hear-reads
 use Rattle.server.proofs.turns.with_turn.Reads as with-turn-reads

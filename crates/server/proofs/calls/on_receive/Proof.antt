@@ -1,0 +1,62 @@
+use Rattle.server.specs.Calls.{onCheck}
+use borrow.Author.Needs.{needs}
+use Rattle.server.proofs.calls.on_receive.Statement.{statement}
+use Rattle.server.proofs.calls.on_receive.Tie as tie
+use Rattle.server.proofs.calls.on_receive.Reads as reads
+use Rattle.server.proofs.calls.on_receive.Lts as lts
+use Rattle.server.proofs.calls.step.Reads as step-reads
+
+enum-known-k : tie.Need-enum-known-k
+enum-known-k c = search needs
+
+enum-known-k-2 : tie.Need-enum-known-k-2
+enum-known-k-2 c = search needs
+
+step-requires : tie.Need-step-requires
+step-requires c κs = c .before .before .before .before .before .before .before .before .before .before .before .before .before .before .before .before .before .before .pre _ (c .before .before .before .before .before .before .before .before .k2 .given .1)
+
+returns : tie.Need-returns
+unfolding onCheck
+returns c = rw (c .before .k .given .1)
+
+same-length : tie.Need-same-length
+same-length c = search needs
+
+same-length-2 : tie.Need-same-length-2
+same-length-2 c = search needs
+
+same-length-3 : tie.Need-same-length-3
+same-length-3 c = search needs
+
+same-length-4 : tie.Need-same-length-4
+same-length-4 c = search needs
+
+same-length-5 : tie.Need-same-length-5
+same-length-5 c = search needs
+
+same-length-6 : tie.Need-same-length-6
+same-length-6 c = search needs
+
+same-length-7 : tie.Need-same-length-7
+same-length-7 c = search needs
+
+returns-2 : tie.Need-returns-2
+unfolding onCheck
+returns-2 c = rw (c .before .before .before .before .before .before .before .before .before .before .before .before .before .before .before .before .before .before .before .before .before .before .before .k2 .given .1) (c .before .before .before .before .before .before .before .before .before .before .before .before .before .before .step .ensures)
+
+pub on-receive-spec : {M : Type 1} → statement M
+on-receive-spec =
+    tie.close
+    (tie.spec
+    enum-known-k
+    enum-known-k-2
+    step-requires
+    returns
+    same-length
+    same-length-2
+    same-length-3
+    same-length-4
+    same-length-5
+    same-length-6
+    same-length-7
+    returns-2)
