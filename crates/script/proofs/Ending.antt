@@ -1,5 +1,5 @@
--- A line ends (demand 1: "The program always ends"): after at most 1,048,580 steps more than it has bytes the script rests, whatever the state,
--- what is lent and the bytes. Assumes nothing.
+-- A line ends (demand 1: "The program always ends"): after at most 1,048,580 steps more than it has bytes the script rests, in every good state, which
+-- all states are that a script reaches (Reaching.antt), whatever the bytes. Assumes nothing.
 use native.Mathlib.Omega.{arith}
 use mathlib.Core.Path.{_≡_, refl, sym, _∙_, ap}
 use mathlib.Core.Bool.{Bool, true, false, cond}
@@ -14,8 +14,10 @@ use Rattle.server.specs.declared.Server.{Server}
 use Rattle.server.specs.declared.check.Check.{Check}
 use Rattle.server.specs.declared.check.Check.the-variants.{Go, Refuse}
 use Rattle.server.specs.State.{Lent, Outcome}
-use Rattle.server.specs.Check.{checkOf}
-use Rattle.server.specs.Calls.{Opened, receiveOf, requestOf, onRequest}
+use Rattle.server.specs.Calls.{Opened, onRequest}
+use Rattle.server.specs.Kept.{keptCheck, receiveKept, requestKept}
+use Rattle.server.proofs.KeptLaws.{kept-check, kept-receive}
+use Rattle.history.specs.Good.{Good}
 use Rattle.script.specs.declared.doing.Doing.{Doing}
 use Rattle.script.specs.declared.doing.Doing.the-variants as doing
 use Rattle.script.specs.declared.Day.{Day}
@@ -25,6 +27,7 @@ use Rattle.script.specs.Calling.{hearOf, callOf}
 use Rattle.script.specs.Day.{dayOf, printsOf, answeredOf, turnOf, stepOf}
 use Rattle.script.specs.Line.{Ran, ran, printing, room, lineOf}
 use Rattle.script.proofs.PartLaws.{rest-length}
+use Rattle.script.proofs.Own.{good-receive, good-request}
 use Rattle.script.proofs.Pumping.{leftIn, request-less, left-most}
 use Rattle.script.proofs.Taking.{tookOf, refusal, receive-takes}
 
@@ -92,29 +95,33 @@ pumped k sv clock session l bytes (answer.Sent t n) h = h t n refl
 pumped k sv clock session l bytes (answer.Closed t) h = at-rest k sv clock l bytes
 pumped k sv clock session l bytes (answer.Refused n) h = at-rest k sv clock l bytes
 
-pump : (k : ℕ) (sv : Server) (clock session : ℕ) (l : Lent) (bytes : List ℕ) → leftIn sv l session < k
+pump : (k : ℕ) (sv : Server) (clock session : ℕ) (l : Lent) (bytes : List ℕ) → Good sv l → leftIn sv l session < k
     → RestsIn k (dayOf sv clock (doing.Pumping session)) l bytes
-unfolding callOf afterOf requestOf
-pump zero sv clock session l bytes p = absurd (omega (arith, p))
-pump (suc k) sv clock session l bytes p =
+unfolding callOf afterOf requestKept
+pump zero sv clock session l bytes g p = absurd (omega (arith, p))
+pump (suc k) sv clock session l bytes g p =
     rests-next k (dayOf sv clock (doing.Pumping session)) l bytes
     (pumped k (r .done .server) clock session l bytes (r .done .answer)
-    (λ t n e. pump k (r .done .server) clock session l bytes
-    (omega (arith, p, request-less sv l (replicate 258 0) session (checkOf sv l session true 258) refl t n e))))
+    (λ t n e. pump k (r .done .server) clock session l bytes (good-request sv l g (replicate 258 0) session)
+    (omega (
+      arith,
+      p,
+      request-less sv l (replicate 258 0) session (keptCheck sv l session true 258) (sym (kept-check sv l (g .sound) session true 258)) t n e,
+    ))))
   where
     r : Opened
-    r = requestOf sv l (replicate 258 0) session
+    r = requestKept sv l (replicate 258 0) session
 
 -- a request that is refused ends it at once
-refused-answer : (sv : Server) (l : Lent) (session n : ℕ) → checkOf sv l session true 258 ≡ Refuse n
-    → requestOf sv l (replicate 258 0) session .done .answer ≡ answer.Refused n
-unfolding requestOf onRequest
+refused-answer : (sv : Server) (l : Lent) (session n : ℕ) → keptCheck sv l session true 258 ≡ Refuse n
+    → requestKept sv l (replicate 258 0) session .done .answer ≡ answer.Refused n
+unfolding requestKept onRequest
 refused-answer sv l session n e = rw e
 
 not-sent : (n t m : ℕ) → answer.Refused n ≡ answer.Sent t m → ⊥
 not-sent n t m e = let z : _≡_ {A = ℕ} 0 1 = cc in omega arith
 
-pump-refused : (k : ℕ) (sv : Server) (clock session n : ℕ) (l : Lent) (bytes : List ℕ) → checkOf sv l session true 258 ≡ Refuse n
+pump-refused : (k : ℕ) (sv : Server) (clock session n : ℕ) (l : Lent) (bytes : List ℕ) → keptCheck sv l session true 258 ≡ Refuse n
     → RestsIn (suc k) (dayOf sv clock (doing.Pumping session)) l bytes
 unfolding callOf afterOf
 pump-refused k sv clock session n l bytes e =
@@ -122,16 +129,18 @@ pump-refused k sv clock session n l bytes e =
     (pumped k (r .done .server) clock session l bytes (r .done .answer) (λ t m f. absurd (not-sent n t m (sym (refused-answer sv l session n e) ∙ f))))
   where
     r : Opened
-    r = requestOf sv l (replicate 258 0) session
+    r = requestKept sv l (replicate 258 0) session
 
-pump-most : (k : ℕ) (sv : Server) (clock session : ℕ) (l : Lent) (bytes : List ℕ) → 1048579 ≤ k
+pump-most : (k : ℕ) (sv : Server) (clock session : ℕ) (l : Lent) (bytes : List ℕ) → Good sv l → 1048579 ≤ k
     → RestsIn k (dayOf sv clock (doing.Pumping session)) l bytes
-pump-most zero sv clock session l bytes p = absurd (omega (arith, p))
-pump-most (suc k) sv clock session l bytes p = go (checkOf sv l session true 258) refl
+pump-most zero sv clock session l bytes g p = absurd (omega (arith, p))
+pump-most (suc k) sv clock session l bytes g p = go (keptCheck sv l session true 258) refl
   where
-    go : (c : Check) → checkOf sv l session true 258 ≡ c → RestsIn (suc k) (dayOf sv clock (doing.Pumping session)) l bytes
+    go : (c : Check) → keptCheck sv l session true 258 ≡ c → RestsIn (suc k) (dayOf sv clock (doing.Pumping session)) l bytes
     go (Refuse n) e = pump-refused k sv clock session n l bytes e
-    go (Go i) e = pump (suc k) sv clock session l bytes (omega (arith, p, left-most sv l session i 258 e))
+    go (Go i) e =
+        pump (suc k) sv clock session l bytes g
+        (omega (arith, p, left-most sv l session i 258 (sym (kept-check sv l (g .sound) session true 258) ∙ e)))
 
 -- ---- the bytes of a line
 
@@ -148,50 +157,57 @@ some-left : (bytes : List ℕ) (at n : ℕ) → 0 < restOf at n (length bytes) �
 some-left bytes at n p =
     omega (arith, p, rest-length bytes at n (restOf at n (length bytes)) (cond (ltb at (length bytes)) at (length bytes)) refl refl)
 
-goes : (k : ℕ) (sv : Server) (clock session at n : ℕ) (l : Lent) (bytes : List ℕ) (t : ℕ) → 1048579 ≤ k
+goes : (k : ℕ) (sv : Server) (clock session at n : ℕ) (l : Lent) (bytes : List ℕ) (t : ℕ) → Good sv l → 1048579 ≤ k
     → (t < restOf at n (length bytes) → RestsIn k (dayOf sv clock (doing.Hearing session (at + t) n)) l bytes)
     → RestsIn k (dayOf sv clock (goesOn session at n (length bytes) t)) l bytes
 unfolding goesOn
-goes k sv clock session at n l bytes t p h = go (ltb t (restOf at n (length bytes))) refl
+goes k sv clock session at n l bytes t g p h = go (ltb t (restOf at n (length bytes))) refl
   where
     go : (u : Bool) → ltb t (restOf at n (length bytes)) ≡ u
         → RestsIn k (dayOf sv clock (cond u (doing.Hearing session (at + t) n) (doing.Pumping session))) l bytes
     go true e = h (ltb-true t (restOf at n (length bytes)) e)
-    go false e = pump-most k sv clock session l bytes p
+    go false e = pump-most k sv clock session l bytes g p
 
-heard : (k : ℕ) (sv : Server) (clock session at n : ℕ) (l : Lent) (bytes : List ℕ) (a : Answer) → 1048579 ≤ k
+heard : (k : ℕ) (sv : Server) (clock session at n : ℕ) (l : Lent) (bytes : List ℕ) (a : Answer) → Good sv l → 1048579 ≤ k
     → (refusal a ≡ false → tookOf a < restOf at n (length bytes) → RestsIn k (dayOf sv clock (doing.Hearing session (at + tookOf a) n)) l bytes)
     → RestsIn k (dayOf sv clock (heardOn session at n (length bytes) a)) l bytes
 unfolding heardOn tookOf refusal
-heard k sv clock session at n l bytes (answer.Quiet t) p h = goes k sv clock session at n l bytes t p (h refl)
-heard k sv clock session at n l bytes (answer.Sent t m) p h = goes k sv clock session at n l bytes t p (h refl)
-heard k sv clock session at n l bytes (answer.Closed t) p h = at-rest k sv clock l bytes
-heard k sv clock session at n l bytes (answer.Refused m) p h = at-rest k sv clock l bytes
+heard k sv clock session at n l bytes (answer.Quiet t) g p h = goes k sv clock session at n l bytes t g p (h refl)
+heard k sv clock session at n l bytes (answer.Sent t m) g p h = goes k sv clock session at n l bytes t g p (h refl)
+heard k sv clock session at n l bytes (answer.Closed t) g p h = at-rest k sv clock l bytes
+heard k sv clock session at n l bytes (answer.Refused m) g p h = at-rest k sv clock l bytes
 
-hear : (m k : ℕ) (sv : Server) (clock session at n : ℕ) (l : Lent) (bytes : List ℕ) → restOf at n (length bytes) ≤ m → m + 1048580 ≤ k
+hear : (m k : ℕ) (sv : Server) (clock session at n : ℕ) (l : Lent) (bytes : List ℕ) → Good sv l → restOf at n (length bytes) ≤ m → m + 1048580 ≤ k
     → RestsIn k (dayOf sv clock (doing.Hearing session at n)) l bytes
 unfolding callOf hearOf afterOf
-hear m zero sv clock session at n l bytes p q = absurd (omega (arith, q))
-hear zero (suc k) sv clock session at n l bytes p q =
+hear m zero sv clock session at n l bytes g p q = absurd (omega (arith, q))
+hear zero (suc k) sv clock session at n l bytes g p q =
     rests-next k (dayOf sv clock (doing.Hearing session at n)) l bytes
-    (heard k (o .done .server) clock session at n (o .lent) bytes (o .done .answer) (omega (arith, q)) (λ r f. absurd (omega (arith, p, f))))
+    (heard k (o .done .server) clock session at n (o .lent) bytes (o .done .answer) good (omega (arith, q)) (λ r f. absurd (omega (arith, p, f))))
   where
     o : Outcome
-    o = receiveOf sv l (replicate 258 0) session clock (bytesFrom at n bytes)
-hear (suc m) (suc k) sv clock session at n l bytes p q =
+    o = receiveKept sv l (replicate 258 0) session clock (bytesFrom at n bytes)
+
+    good : Good (o .done .server) (o .lent)
+    good = good-receive sv l g (replicate 258 0) session clock (bytesFrom at n bytes)
+hear (suc m) (suc k) sv clock session at n l bytes g p q =
     rests-next k (dayOf sv clock (doing.Hearing session at n)) l bytes
-    (heard k (o .done .server) clock session at n (o .lent) bytes (o .done .answer) (omega (arith, q))
-    (λ r f. hear m k (o .done .server) clock session (at + tookOf (o .done .answer)) n (o .lent) bytes
+    (heard k (o .done .server) clock session at n (o .lent) bytes (o .done .answer) good (omega (arith, q))
+    (λ r f. hear m k (o .done .server) clock session (at + tookOf (o .done .answer)) n (o .lent) bytes good
     (omega (
       arith,
       p,
       rest-falls at n (length bytes) (tookOf (o .done .answer)),
-      receive-takes sv l (replicate 258 0) session clock (bytesFrom at n bytes) (o .done .answer) (some-left bytes at n (omega (arith, f))) refl r,
+      receive-takes sv l (replicate 258 0) session clock (bytesFrom at n bytes) (o .done .answer) (some-left bytes at n (omega (arith, f)))
+          (ap (λ (x : Outcome). x .done .answer) (sym (kept-receive sv l (g .sound) (replicate 258 0) session clock (bytesFrom at n bytes)))) r,
     ))
     (omega (arith, q))))
   where
     o : Outcome
-    o = receiveOf sv l (replicate 258 0) session clock (bytesFrom at n bytes)
+    o = receiveKept sv l (replicate 258 0) session clock (bytesFrom at n bytes)
+
+    good : Good (o .done .server) (o .lent)
+    good = good-receive sv l g (replicate 258 0) session clock (bytesFrom at n bytes)
 
 -- ---- a line
 
@@ -218,20 +234,20 @@ dropping-rests : (session size : ℕ) (a : Answer) → afterOf (doing.Dropping s
 unfolding afterOf
 dropping-rests session size a = refl
 
--- whatever is being done, and in whatever state, is done after so many steps
-ends-doing : (d : Doing) (k : ℕ) (sv : Server) (clock : ℕ) (l : Lent) (bytes : List ℕ) → length bytes + 1048580 ≤ suc k
+-- whatever is being done is done after so many steps
+ends-doing : (d : Doing) (k : ℕ) (sv : Server) (clock : ℕ) (l : Lent) (bytes : List ℕ) → Good sv l → length bytes + 1048580 ≤ suc k
     → RestsIn (suc k) (dayOf sv clock d) l bytes
-ends-doing doing.Rest k sv clock l bytes p = at-rest (suc k) sv clock l bytes
-ends-doing (doing.Opening session) k sv clock l bytes p =
+ends-doing doing.Rest k sv clock l bytes g p = at-rest (suc k) sv clock l bytes
+ends-doing (doing.Opening session) k sv clock l bytes g p =
     one-step k (dayOf sv clock (doing.Opening session)) l bytes (opening-rests session (length bytes))
-ends-doing (doing.Dropping session) k sv clock l bytes p =
+ends-doing (doing.Dropping session) k sv clock l bytes g p =
     one-step k (dayOf sv clock (doing.Dropping session)) l bytes (dropping-rests session (length bytes))
-ends-doing (doing.Hearing session at n) k sv clock l bytes p = hear (length bytes) (suc k) sv clock session at n l bytes (rest-most at n bytes) p
-ends-doing (doing.Pumping session) k sv clock l bytes p = pump-most (suc k) sv clock session l bytes (omega (arith, p))
+ends-doing (doing.Hearing session at n) k sv clock l bytes g p = hear (length bytes) (suc k) sv clock session at n l bytes g (rest-most at n bytes) p
+ends-doing (doing.Pumping session) k sv clock l bytes g p = pump-most (suc k) sv clock session l bytes g (omega (arith, p))
 
-pub line-ends : (k : ℕ) (day : Day) (l : Lent) (bytes : List ℕ) → length bytes + 1048580 ≤ k → RestsIn k day l bytes
-line-ends zero day l bytes p = absurd (omega (arith, p))
-line-ends (suc k) day l bytes p = ends-doing (day .doing) k (day .server) (day .clock) l bytes p
+pub line-ends : (k : ℕ) (day : Day) (l : Lent) (bytes : List ℕ) → Good (day .server) l → length bytes + 1048580 ≤ k → RestsIn k day l bytes
+line-ends zero day l bytes g p = absurd (omega (arith, p))
+line-ends (suc k) day l bytes g p = ends-doing (day .doing) k (day .server) (day .clock) l bytes g p
 
 -- ---- more steps change nothing
 
@@ -269,7 +285,7 @@ settles (suc k) (suc m) day l bytes p h = go (restsOf (day .doing)) refl (settle
         ∙ sym (stepped k day l bytes e)
 
 -- so what a line does and prints is settled by its end
-pub line-settled : (k : ℕ) (day : Day) (l : Lent) (bytes : List ℕ) → length bytes + 1048580 ≤ k
+pub line-settled : (k : ℕ) (day : Day) (l : Lent) (bytes : List ℕ) → Good (day .server) l → length bytes + 1048580 ≤ k
     → lineOf k day l bytes ≡ lineOf (length bytes + 1048580) day l bytes
-line-settled k day l bytes p =
-    settles (length bytes + 1048580) k day l bytes p (line-ends (length bytes + 1048580) day l bytes (omega arith))
+line-settled k day l bytes g p =
+    settles (length bytes + 1048580) k day l bytes p (line-ends (length bytes + 1048580) day l bytes g (omega arith))

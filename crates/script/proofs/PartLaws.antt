@@ -10,7 +10,7 @@ use lib.Seq.{take-all, take-nil, drop-length, length-take-le}
 use borrow.Author.Tests.{ltb-true, ltb-false}
 use Rattle.server.specs.declared.Server.{Server}
 use Rattle.server.specs.State.{Lent}
-use Rattle.server.specs.Calls.{receiveOf}
+use Rattle.server.specs.Kept.{receiveKept}
 use Rattle.script.specs.Parts.{restOf, bytesFrom}
 use Rattle.script.specs.Calling.{hearOf}
 
@@ -51,9 +51,9 @@ bytes-part bytes at n e a p q = go (ltb n (length bytes)) refl p (ltb at e) refl
 -- so a call over that part is the call for the line's bytes
 pub hear-part : (sv : Server) (clock session at n : ℕ) (bytes : List ℕ) (l : Lent) (out : List ℕ) (e a : ℕ)
     → e ≡ cond (ltb n (length bytes)) n (length bytes) → a ≡ cond (ltb at e) at e
-    → receiveOf sv l out session clock (take (e - a) (drop a bytes)) ≡ hearOf sv clock session at n bytes l out
+    → receiveKept sv l out session clock (take (e - a) (drop a bytes)) ≡ hearOf sv clock session at n bytes l out
 unfolding hearOf
-hear-part sv clock session at n bytes l out e a p q = ap (λ (b : List ℕ). receiveOf sv l out session clock b) (bytes-part bytes at n e a p q)
+hear-part sv clock session at n bytes l out e a p q = ap (λ (b : List ℕ). receiveKept sv l out session clock b) (bytes-part bytes at n e a p q)
 
 -- the same part by its beginning and its size
 pub rest-room : (bytes : List ℕ) (at end r a : ℕ) → r ≡ restOf at end (length bytes) → a ≡ cond (ltb at (length bytes)) at (length bytes)

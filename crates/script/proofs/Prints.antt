@@ -24,9 +24,10 @@ use Rattle.server.specs.declared.Server.{Server}
 use Rattle.server.specs.declared.check.Check.{Check}
 use Rattle.server.specs.declared.check.Check.the-variants.{Go, Refuse}
 use Rattle.server.specs.State.{Lent, Outcome, linkOf, ownerPart, tablePart}
-use Rattle.server.specs.Check.{sizesFit, roomFits, soundParts, inState, sessionCheck, checkParts, checkOf}
+use Rattle.server.specs.Check.{fits, inState, sessionCheck}
 use Rattle.server.specs.Sending.{told, leastOf, dataOf, sendingOf, dueOf}
-use Rattle.server.specs.Calls.{answeredBy, heardBy, stepOf, onCheck, receiveOf, onLogin, loginOf, onLose, loseOf, dueAs, onRequest, requestOf}
+use Rattle.server.specs.Calls.{answeredBy, heardBy, stepOf, onCheck, onLogin, onLose, dueAs, onRequest}
+use Rattle.server.specs.Kept.{keptParts, keptCheck, receiveKept, loginKept, loseKept, requestKept}
 use Rattle.lines.specs.Lines.{Printed, printed}
 use Rattle.script.specs.declared.doing.Doing.{Doing}
 use Rattle.script.specs.declared.doing.Doing.the-variants as doing
@@ -66,18 +67,13 @@ session-small sv session wanted out =
     go false false true true = omega arith
     go false false true false = tt
 
-check-small : (sv : Server) (l : Lent) (session : ℕ) (wanted : Bool) (out : ℕ) → SmallCheck (checkOf sv l session wanted out)
-unfolding checkParts SmallCheck
-check-small sv l session wanted out =
-    go (cond (sizesFit (sv .blocks) (sv .files) (sv .sessions) (sv .most))
-    (roomFits (sv .blocks) (sv .files) (sv .sessions) (sv .most) (length (l .disk)) (length (l .map)) (length (l .owner)) (length (l .table))
-    (length (l .selected)) (length (l .held))) false)
-    (soundParts sv (l .map) (l .owner) (l .table) (l .selected) (l .held))
+check-small : (sv : Server) (l : Lent) (session : ℕ) (wanted : Bool) (out : ℕ) → SmallCheck (keptCheck sv l session wanted out)
+unfolding keptParts SmallCheck
+check-small sv l session wanted out = go (fits sv (length (l .disk)) (l .map) (l .owner) (l .table) (l .selected) (l .held))
   where
-    go : (a b : Bool) → SmallCheck (cond a (cond b (sessionCheck sv session wanted out) (Refuse 35)) (Refuse 33))
-    go false b = omega arith
-    go true false = omega arith
-    go true true = session-small sv session wanted out
+    go : (a : Bool) → SmallCheck (cond a (sessionCheck sv session wanted out) (Refuse 33))
+    go false = omega arith
+    go true = session-small sv session wanted out
 
 told-small : (r : Reply) (taken : ℕ) (out : List ℕ) → Small (tell r taken out .answer)
 unfolding tell Small
@@ -143,16 +139,16 @@ request-small (Refuse n) sv l out p = p
 request-small (Go i) sv l out p = due-small (linkOf sv i .down) (linkOf sv i) (l .disk) (ownerPart sv l) out (files (tablePart sv l))
 
 pub call-small : (d : Doing) (sv : Server) (clock : ℕ) (bytes : List ℕ) (l : Lent) (out : List ℕ) → Small (callOf sv clock d bytes l out .done .answer)
-unfolding callOf hearOf loginOf loseOf receiveOf requestOf Small
+unfolding callOf hearOf loginKept loseKept receiveKept requestKept Small
 call-small doing.Rest sv clock bytes l out = tt
 call-small (doing.Opening session) sv clock bytes l out =
-    login-small (checkOf sv l session false (length out)) sv out clock (check-small sv l session false (length out))
+    login-small (keptCheck sv l session false (length out)) sv out clock (check-small sv l session false (length out))
 call-small (doing.Dropping session) sv clock bytes l out =
-    lose-small (checkOf sv l session true 258) sv (l .selected) (l .held) (check-small sv l session true 258)
+    lose-small (keptCheck sv l session true 258) sv (l .selected) (l .held) (check-small sv l session true 258)
 call-small (doing.Hearing session at n) sv clock bytes l out =
-    receive-small (checkOf sv l session true (length out)) sv l out clock (bytesFrom at n bytes) (check-small sv l session true (length out))
+    receive-small (keptCheck sv l session true (length out)) sv l out clock (bytesFrom at n bytes) (check-small sv l session true (length out))
 call-small (doing.Pumping session) sv clock bytes l out =
-    request-small (checkOf sv l session true (length out)) sv l out (check-small sv l session true (length out))
+    request-small (keptCheck sv l session true (length out)) sv l out (check-small sv l session true (length out))
 
 -- ---- a step
 

@@ -5,3 +5,4 @@ pub mod Calling
 pub mod Printing
 pub mod Day
 pub mod Line
+pub mod Reached

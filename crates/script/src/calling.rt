@@ -1,4 +1,4 @@
-// The server's call for what a script is doing.
+// The server's call for what a script is doing: one of those that do not test 35 again, since the script keeps the state from call to call.
 use crate::doing::Doing;
 use crate::parts::least;
 use server::Done;
@@ -29,7 +29,7 @@ fn hear(
 {
     let e = least(n, bytes.len());
     let a = least(at, e);
-    server::receive(
+    server::kept::receive_kept(
         server,
         disk,
         map,
@@ -66,7 +66,7 @@ pub(crate) fn call(
             server: server,
             answer: Answer::Quiet(0),
         },
-        Doing::Opening(session) => server::login(
+        Doing::Opening(session) => server::kept::login_kept(
             server,
             &*disk,
             &*map,
@@ -78,7 +78,7 @@ pub(crate) fn call(
             session as usize,
             clock,
         ),
-        Doing::Dropping(session) => server::lose(
+        Doing::Dropping(session) => server::kept::lose_kept(
             server,
             &*disk,
             &*map,
@@ -103,7 +103,7 @@ pub(crate) fn call(
             held,
             out,
         ),
-        Doing::Pumping(session) => server::request(
+        Doing::Pumping(session) => server::kept::request_kept(
             server,
             &*disk,
             &*map,

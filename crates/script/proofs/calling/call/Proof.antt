@@ -4,9 +4,9 @@ use Rattle.script.proofs.calling.call.Tie as tie
 use Rattle.script.proofs.calling.call.Reads as reads
 use Rattle.script.proofs.calling.call.Lts as lts
 use Rattle.script.proofs.calling.hear.Reads as hear-reads
-use Rattle.server.proofs.login.Reads as login-reads
-use Rattle.server.proofs.lose.Reads as lose-reads
-use Rattle.server.proofs.request.Reads as request-reads
+use Rattle.server.proofs.kept.login_kept.Reads as login-kept-reads
+use Rattle.server.proofs.kept.lose_kept.Reads as lose-kept-reads
+use Rattle.server.proofs.kept.request_kept.Reads as request-kept-reads
 use Rattle.script.specs.Calling.{callOf}
 
 -- src/calling.rt:80:21
@@ -18,24 +18,24 @@ enum-known-doing : tie.Need-enum-known-doing
 enum-known-doing c = search needs
 
 -- src/calling.rt:91:13
-cast-login : tie.Need-cast-login
-cast-login c = search needs
+cast-login-kept : tie.Need-cast-login-kept
+cast-login-kept c = search needs
 
 -- src/calling.rt:82:36
-login-requires : tie.Need-login-requires
-login-requires c κs = search needs
+login-kept-requires : tie.Need-login-kept-requires
+login-kept-requires c κs = search needs
 
 -- src/calling.rt:94:25
 enum-known-doing-2 : tie.Need-enum-known-doing-2
 enum-known-doing-2 c = search needs
 
 -- src/calling.rt:102:13
-cast-lose : tie.Need-cast-lose
-cast-lose c = search needs
+cast-lose-kept : tie.Need-cast-lose-kept
+cast-lose-kept c = search needs
 
 -- src/calling.rt:94:37
-lose-requires : tie.Need-lose-requires
-lose-requires c κs = search needs
+lose-kept-requires : tie.Need-lose-kept-requires
+lose-kept-requires c κs = search needs
 
 -- src/calling.rt:104:24
 enum-known-doing-3 : tie.Need-enum-known-doing-3
@@ -50,12 +50,12 @@ enum-known-doing-4 : tie.Need-enum-known-doing-4
 enum-known-doing-4 c = search needs
 
 -- src/calling.rt:128:13
-cast-request : tie.Need-cast-request
-cast-request c = search needs
+cast-request-kept : tie.Need-cast-request-kept
+cast-request-kept c = search needs
 
 -- src/calling.rt:119:36
-request-requires : tie.Need-request-requires
-request-requires c κs = search needs
+request-kept-requires : tie.Need-request-kept-requires
+request-kept-requires c κs = search needs
 
 -- src/calling.rt:61:1
 returns : tie.Need-returns
@@ -93,7 +93,7 @@ same-length-7 c = search needs
 -- src/calling.rt:61:1
 returns-2 : tie.Need-returns-2
 unfolding callOf
-returns-2 c = rw (c .before .before .before .before .before .before .before .before .before .before .before .doing .given .1, ← c .before .before .login .ensures)
+returns-2 c = rw (c .before .before .before .before .before .before .before .before .before .before .before .doing .given .1, ← c .before .before .login-kept .ensures)
 
 -- src/calling.rt:61:1
 same-length-8 : tie.Need-same-length-8
@@ -122,7 +122,7 @@ same-length-13 c = search needs
 -- src/calling.rt:61:1
 returns-3 : tie.Need-returns-3
 unfolding callOf
-returns-3 c = rw (c .before .before .before .before .before .before .before .before .before .before .before .before .doing2 .given .1, ← c .before .before .before .before .lose .ensures)
+returns-3 c = rw (c .before .before .before .before .before .before .before .before .before .before .before .before .doing2 .given .1, ← c .before .before .before .before .lose-kept .ensures)
 
 -- src/calling.rt:61:1
 same-length-14 : tie.Need-same-length-14
@@ -188,7 +188,7 @@ same-length-27 c = search needs
 -- src/calling.rt:61:1
 returns-5 : tie.Need-returns-5
 unfolding callOf
-returns-5 c = rw (c .before .before .before .before .before .before .before .before .before .before .before .doing4 .given .1, ← c .before .before .request .ensures)
+returns-5 c = rw (c .before .before .before .before .before .before .before .before .before .before .before .doing4 .given .1, ← c .before .before .request-kept .ensures)
 
 pub call-spec : {M : Type 1} → statement M
 call-spec =
@@ -196,16 +196,16 @@ call-spec =
     (tie.spec
     enum-told
     enum-known-doing
-    cast-login
-    login-requires
+    cast-login-kept
+    login-kept-requires
     enum-known-doing-2
-    cast-lose
-    lose-requires
+    cast-lose-kept
+    lose-kept-requires
     enum-known-doing-3
     hear-requires
     enum-known-doing-4
-    cast-request
-    request-requires
+    cast-request-kept
+    request-kept-requires
     returns
     same-length
     same-length-2

@@ -5,7 +5,7 @@ use Rattle.script.proofs.calling.hear.Tie as tie
 use Rattle.script.proofs.calling.hear.Reads as reads
 use Rattle.script.proofs.calling.hear.Lts as lts
 use Rattle.script.proofs.parts.least.Reads as least-reads
-use Rattle.server.proofs.receive.Reads as receive-reads
+use Rattle.server.proofs.kept.receive_kept.Reads as receive-kept-reads
 use Rattle.script.proofs.PartLaws.{hear-part}
 
 -- src/calling.rt:43:9
@@ -17,20 +17,20 @@ least-requires-2 : tie.Need-least-requires-2
 least-requires-2 c κs = search needs
 
 -- src/calling.rt:56:9
-sub-receive : tie.Need-sub-receive
-sub-receive c = search needs
+sub-receive-kept : tie.Need-sub-receive-kept
+sub-receive-kept c = search needs
 
 -- src/calling.rt:56:9
-part-receive-start : tie.Need-part-receive-start
-part-receive-start c = search needs
+part-receive-kept-start : tie.Need-part-receive-kept-start
+part-receive-kept-start c = search needs
 
 -- src/calling.rt:56:9
-part-receive-end : tie.Need-part-receive-end
-part-receive-end c = search needs
+part-receive-kept-end : tie.Need-part-receive-kept-end
+part-receive-kept-end c = search needs
 
 -- src/calling.rt:45:5
-receive-requires : tie.Need-receive-requires
-receive-requires c κs = search needs
+receive-kept-requires : tie.Need-receive-kept-requires
+receive-kept-requires c κs = search needs
 
 -- src/calling.rt:25:1
 same-length : tie.Need-same-length
@@ -62,7 +62,7 @@ same-length-7 c = search needs
 
 -- src/calling.rt:25:1
 returns : tie.Need-returns
-returns c = c .before .before .before .before .before .before .before .before .before .before .before .before .before .before .receive .ensures ∙ hear-part _ _ _ _ _ _ _ _ _ _ (c .before .before .before .before .before .before .before .before .before .before .before .before .before .before .before .before .before .before .before .before .before .before .before .before .least .ensures .2) (c .before .before .before .before .before .before .before .before .before .before .before .before .before .before .before .before .before .before .before .before .before .before .before .least2 .ensures .2)
+returns c = c .before .before .before .before .before .before .before .before .before .before .before .before .before .before .receive-kept .ensures ∙ hear-part _ _ _ _ _ _ _ _ _ _ (c .before .before .before .before .before .before .before .before .before .before .before .before .before .before .before .before .before .before .before .before .before .before .before .before .least .ensures .2) (c .before .before .before .before .before .before .before .before .before .before .before .before .before .before .before .before .before .before .before .before .before .before .before .least2 .ensures .2)
 
 pub hear-spec : {M : Type 1} → statement M
 hear-spec =
@@ -70,10 +70,10 @@ hear-spec =
     (tie.spec
     least-requires
     least-requires-2
-    sub-receive
-    part-receive-start
-    part-receive-end
-    receive-requires
+    sub-receive-kept
+    part-receive-kept-start
+    part-receive-kept-end
+    receive-kept-requires
     same-length
     same-length-2
     same-length-3
