@@ -113,6 +113,9 @@ impl Pair {
         if judged.refused.is_some() {
             return Err(format!("a fact of 35 is broken: {}", judged.broken));
         }
+        if let Err(fact) = self.second.sound() {
+            return Err(format!("a fact is broken in the second program: {fact}"));
+        }
         if beyond(&self.proved, self.second.sizes) != self.beyond {
             return Err("what is lent beyond the needs is changed".to_string());
         }
