@@ -1,5 +1,7 @@
 //! The cost of the proved server's calls beside the second program's, without and with the test of the facts of refusal 35 at each call, and
 //! beside copying the bytes. All times are medians; nothing is asserted on them.
+#[path = "../../../../clock.rs"]
+mod clock;
 mod measure;
 mod servers;
 

@@ -1,13 +1,9 @@
 //! Times of acts on the three servers.
+use crate::clock::{measured, median, timed, Plan};
 use crate::servers::{Calls, Second};
 use reference::server::Sizes;
 use server::proved::Proved;
 use std::hint::black_box;
-
-/// A run is made so long that the clock measures it well, in nanoseconds.
-const RUN: f64 = 200_000.0;
-/// All runs of one act on one server take about so long.
-const ALL_RUNS: f64 = 150_000_000.0;
 
 /// What is timed, what comes before it untimed, and what it is held against.
 pub struct Act<'a> {
@@ -41,60 +37,6 @@ pub struct Servers {
     checked: Second,
 }
 
-/// As C's `struct timespec` is on Linux for x86-64.
-#[repr(C)]
-struct Timespec {
-    seconds: i64,
-    nanoseconds: i64,
-}
-
-extern "C" {
-    fn clock_gettime(clock: i32, time: *mut Timespec) -> i32;
-}
-
-/// The time that this thread has run, in nanoseconds: other programs on the machine do not count.
-fn now() -> f64 {
-    const CLOCK_THREAD_CPUTIME_ID: i32 = 3;
-    let mut time = Timespec {
-        seconds: 0,
-        nanoseconds: 0,
-    };
-    let status = unsafe { clock_gettime(CLOCK_THREAD_CPUTIME_ID, &mut time) };
-    assert_eq!(status, 0);
-    time.seconds as f64 * 1e9 + time.nanoseconds as f64
-}
-
-/// The time of one act, over so many.
-fn timed(acts: usize, mut act: impl FnMut()) -> f64 {
-    let began = now();
-    (0..acts).for_each(|_| act());
-    (now() - began) / acts as f64
-}
-
-fn median(mut times: Vec<f64>) -> f64 {
-    times.sort_by(f64::total_cmp);
-    times[times.len() / 2]
-}
-
-/// How many acts a run has, and how many runs are made.
-struct Plan {
-    acts: usize,
-    runs: usize,
-}
-
-impl Plan {
-    /// `once` says the time of so many acts.
-    fn new(repeats: bool, mut once: impl FnMut(usize) -> f64) -> Plan {
-        let mut acts = 1;
-        while repeats && once(acts) * (acts as f64) < RUN {
-            acts *= 2;
-        }
-        let run = once(acts) * acts as f64;
-        let runs = ((ALL_RUNS / run) as usize).clamp(7, 101);
-        Plan { acts, runs }
-    }
-}
-
 fn run(server: &mut dyn Calls, act: &Act, acts: usize) -> f64 {
     if let Some(before) = act.before {
         before(server);
@@ -105,14 +47,10 @@ fn run(server: &mut dyn Calls, act: &Act, acts: usize) -> f64 {
 /// Copying so many bytes.
 fn copied(bytes: usize) -> f64 {
     let (from, mut to) = (vec![7; bytes], vec![0; bytes]);
-    let mut once = |acts| {
-        timed(acts, || {
-            to.copy_from_slice(black_box(&from));
-            black_box(&mut to);
-        })
-    };
-    let plan = Plan::new(true, &mut once);
-    median((0..plan.runs).map(|_| once(plan.acts)).collect())
+    measured(|| {
+        to.copy_from_slice(black_box(&from));
+        black_box(&mut to);
+    })
 }
 
 impl Servers {
