@@ -176,16 +176,6 @@ pub fn memory(sizes: Sizes, need: &mut [usize]) -> u8 {
     }
 }
 
-/// Calls a function with the numbers before the slices, the slices as pointers and lengths, and what comes after them.
-macro_rules! call {
-    ($function:ident[$($first:expr),*]($lent:ident: $($slice:ident),*)[$($last:expr),*]) => {
-        // any numbers and any contents are taken, and each length is the slice's own
-        unsafe {
-            $function($($first,)* $($lent.$slice.as_mut_ptr(), $lent.$slice.len(),)* $($last),*)
-        }
-    };
-}
-
 /// The slices that are lent to the proved server, which keeps nothing itself. The calls take slices of any lengths and contents, so every
 /// function here is safe, and tests may change each slice as they like.
 #[derive(Clone, Debug, Default, PartialEq, Eq)]
