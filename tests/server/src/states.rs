@@ -90,12 +90,18 @@ struct Class {
 impl Class {
     /// Four links and four complete files of 80 bytes, and room for four more; the upload times below 100 were given to none.
     fn new() -> Class {
+        Class::with_files(start((12, 8, 4, 2), 0), 4, &[])
+    }
+
+    /// Four links and so many complete files with this body.
+    fn with_files(start: Start, files: usize, body: &[u8]) -> Class {
         let mut class = Class {
-            pair: Pair::new(start((12, 8, 4, 2), 0)),
+            pair: Pair::new(start),
         };
-        (1..=4).for_each(|session| class.call(session, Act::Open));
-        for session in 1..=4 {
-            for packet in whole_upload(&Draft::new().bytes()) {
+        class.each(|class, session| class.call(session, Act::Open));
+        let file = Draft::new().with_body(body).bytes();
+        for session in (1..=4).cycle().take(files) {
+            for packet in whole_upload(&file) {
                 class.send(session, packet);
             }
         }
@@ -193,4 +199,18 @@ pub fn of_one_case() -> [Proved; 4] {
         uploads_ignored(),
         downloads_aborted(),
     ]
+}
+
+/// Nearly all blocks and places of the largest store are taken; each session is in another case, with a full selection.
+pub fn largest() -> Proved {
+    let mut class = Class::with_files(start((4096, 256, 4, 50), 0), 252, &[6; 4000]);
+    for (session, sent) in [(1, 200), (2, 0), (3, 256)] {
+        class.send(session, upload(0, 200));
+        class.send(session, data(&vec![4; sent]));
+    }
+    class.download();
+    class.call(1, Act::Request);
+    (0..17).for_each(|_| class.call(2, Act::Request));
+    class.send(3, nak());
+    class.begin_packet()
 }

@@ -7,7 +7,7 @@ use server::history::run_same;
 use server::oracle::{judge, Fact};
 use server::pair::{on_proved, Start};
 use server::proved::{Answer, Proved};
-use server::states::{of_one_case, random_state, start, LARGER, SMALL};
+use server::states::{largest, of_one_case, random_state, start, LARGER, SMALL};
 use server::sweep::{any_call, sweep, Effort, Tally};
 
 /// How many ways of breaking a fact are tried in one state.
@@ -68,8 +68,9 @@ fn every_word_of_a_larger_state() {
 /// The largest sizes, with some of the telling values of each word.
 #[test]
 fn every_word_of_the_largest_state() {
-    let largest = state(2_300_000, 2500, start((4096, 256, 4, 50), 0));
-    println!("{}", swept(&[largest], Effort::some(usize::MAX, 16)));
+    let random = state(2_300_000, 2500, start((4096, 256, 4, 50), 0));
+    let memories = [random, largest()];
+    println!("{}", swept(&memories, Effort::some(usize::MAX, 16)));
 }
 
 #[test]
