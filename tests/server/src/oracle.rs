@@ -418,13 +418,13 @@ impl Files {
 /// The facts on the open sessions; of a closed one nothing is looked at (D57).
 fn sessions(lent: &Proved, sizes: Sizes, files: &Files, broken: &mut Broken) {
     let mut uploads = [None; 4];
-    for index in 0..4 {
+    for (index, upload) in uploads.iter_mut().enumerate() {
         let words = session_words(&lent.state, index);
         if words[0] != 1 {
             continue;
         }
         if words[1] == 1 {
-            uploads[index] = Some(words[2]);
+            *upload = Some(words[2]);
         }
         if sizes.sessions <= index {
             broken.unless(false, Fact::Beyond, index - 1);

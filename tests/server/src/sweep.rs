@@ -127,9 +127,8 @@ pub struct Tally {
     facts: [Counted; FACTS],
 }
 
-impl Tally {
-    /// Nothing is tried yet.
-    pub fn new() -> Tally {
+impl Default for Tally {
+    fn default() -> Tally {
         Tally {
             memories: 0,
             words: 0,
@@ -139,7 +138,9 @@ impl Tally {
             facts: [Counted::default(); FACTS],
         }
     }
+}
 
+impl Tally {
     fn alone(&mut self) -> impl Iterator<Item = &mut Alone> {
         self.facts.iter_mut().flat_map(|fact| &mut fact.alone)
     }
@@ -319,8 +320,10 @@ fn change(lent: &mut Proved, word: Word, random: &mut Random) -> Result<Judged, 
 
 /// Tries the words of one memory, in which no fact is broken.
 pub fn sweep(whole: &Proved, effort: Effort, random: &mut Random) -> Result<Tally, String> {
-    let mut tally = Tally::new();
-    tally.memories = 1;
+    let mut tally = Tally {
+        memories: 1,
+        ..Tally::default()
+    };
     let mut whole = whole.clone();
     whole.out = vec![0xee; 258];
     whole.counts = vec![71, 72];

@@ -25,7 +25,7 @@ fn swept(memories: &[Proved], effort: Effort) -> Tally {
         sweep(memory, effort, &mut Random::new(seed))
             .unwrap_or_else(|what| panic!("memory {seed}, sizes {sizes:?}: {what}"))
     };
-    let mut all = Tally::new();
+    let mut all = Tally::default();
     let threads = std::thread::available_parallelism().map_or(1, |count| count.get());
     std::thread::scope(|scope| {
         let share = memories.len().div_ceil(threads);

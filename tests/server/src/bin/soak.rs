@@ -9,8 +9,8 @@ use std::time::{Duration, Instant};
 
 /// So many words of each part, and values of each word, are tried in one state.
 const CHANGES: Effort = Effort {
-    words: 40,
-    values: 40,
+    words: 24,
+    values: 24,
     ..Effort::TELLING
 };
 
@@ -32,7 +32,7 @@ fn main() {
     let began = Instant::now();
     let first = seed;
     let mut coverage = Coverage::default();
-    let mut tally = Tally::new();
+    let mut tally = Tally::default();
     let mut calls = 0;
     while began.elapsed() < Duration::from_secs(seconds) {
         match run(seed) {

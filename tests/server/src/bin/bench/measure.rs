@@ -5,6 +5,8 @@ use reference::server::Sizes;
 use server::proved::Proved;
 use std::hint::black_box;
 
+type OnServer<'a> = &'a dyn Fn(&mut dyn Calls);
+
 /// What is timed, what comes before it untimed, and what it is held against.
 pub struct Act<'a> {
     pub name: &'static str,
@@ -13,8 +15,8 @@ pub struct Act<'a> {
     /// The bytes that are carried, where copying them once is the measure.
     pub bytes: Option<usize>,
     /// An act that can be made once only is prepared each time.
-    pub before: Option<&'a dyn Fn(&mut dyn Calls)>,
-    pub act: &'a dyn Fn(&mut dyn Calls),
+    pub before: Option<OnServer<'a>>,
+    pub act: OnServer<'a>,
 }
 
 /// The median time of one act on each server, in nanoseconds.
