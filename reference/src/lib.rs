@@ -15,5 +15,6 @@ pub mod refusal;
 pub mod script;
 pub mod server;
 pub mod shorten;
+pub mod sound;
 pub mod store;
 pub mod variants;

@@ -191,6 +191,13 @@ impl Frame {
         Frame::default()
     }
 
+    /// A link that holds these bytes, which may be no unfinished packet.
+    pub fn holding(bytes: &[u8]) -> Frame {
+        Frame {
+            held: bytes.to_vec(),
+        }
+    }
+
     /// The bytes of the unfinished packet.
     pub fn held(&self) -> &[u8] {
         &self.held

@@ -34,7 +34,7 @@ impl Sizes {
         maxsel: 50,
     };
 
-    fn are_in_the_table(&self) -> bool {
+    pub(crate) fn are_in_the_table(&self) -> bool {
         (1..=4096).contains(&self.blocks)
             && (1..=256).contains(&self.files)
             && (1..=4).contains(&self.sessions)

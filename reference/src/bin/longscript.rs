@@ -74,14 +74,19 @@ fn upload(file: &[u8]) -> Vec<Vec<u8>> {
     let mut command = vec![0; 4];
     command.extend_from_slice(&(file.len() as u32).to_le_bytes());
     let mut packets = vec![Packet::new(Type::UploadCmd, &command).bytes()];
-    packets.extend(file.chunks(256).map(|part| Packet::new(Type::Data, part).bytes()));
+    packets.extend(
+        file.chunks(256)
+            .map(|part| Packet::new(Type::Data, part).bytes()),
+    );
     packets.push(Packet::new(Type::DataEnd, &[]).bytes());
     packets
 }
 
 /// Lines of session 1 with these bytes.
 fn text_of(parts: &[Vec<u8>]) -> String {
-    let lines = parts.iter().map(|part| format!("rx\t1\t{}\n", to_hex(part)));
+    let lines = parts
+        .iter()
+        .map(|part| format!("rx\t1\t{}\n", to_hex(part)));
     lines.collect()
 }
 

@@ -2,6 +2,7 @@
 //! server while writing, so that most commands mean something to it.
 
 mod equations;
+mod pieces;
 mod plans;
 
 use std::collections::BTreeMap;
@@ -14,6 +15,7 @@ use crate::script::{Driver, Line, Unwatched, LINE_MOST};
 use crate::server::{Downlink, Server, Uplink, OUTPUT};
 
 pub use equations::equation;
+pub use pieces::{destination, offset, stray};
 pub use plans::{plan, sound, Plan, Wishes};
 
 /// What the scripts of one kind dwell on. Chances are of 100.
@@ -577,7 +579,7 @@ impl Author {
 
     fn choose(&mut self, server: &Server, index: usize) -> Vec<u8> {
         if self.chance(self.theme.stray) {
-            return self.stray();
+            return stray(&mut self.random);
         }
         if self.chance(self.theme.uplink) {
             self.uplink_packet(server, index)
@@ -610,46 +612,8 @@ impl Author {
             bytes.extend(download[..self.random.below(3)].concat());
         }
         if self.random.chance(2, 3) {
-            bytes.extend(self.stray());
+            bytes.extend(stray(&mut self.random));
         }
-        bytes
-    }
-
-    /// A packet without regard to the session's state.
-    fn stray(&mut self) -> Vec<u8> {
-        let (kind, length) = match self.random.below(10) {
-            0 if self.random.chance(1, 4) => (self.random.below(32), self.random.between(250, 256)),
-            0 => (self.random.below(32), self.random.between(257, 2047)),
-            1 => (self.random.between(18, 31), self.random.below(6)),
-            2 => {
-                let own = [2, 4, 5, 6, 7, 9, 10, 11, 17];
-                (*self.random.pick(&own), self.random.below(6))
-            }
-            3 => (self.random.below(18), self.random.below(12)),
-            _ => {
-                // Well formed, but perhaps in the wrong moment.
-                let forms = [
-                    (0, 5),
-                    (1, 0),
-                    (1, 1),
-                    (3, 8),
-                    (3, 7),
-                    (8, 9),
-                    (12, 1),
-                    (12, 0),
-                    (13, 0),
-                    (13, 1),
-                    (14, 4),
-                    (15, 4),
-                    (16, 8),
-                ];
-                *self.random.pick(&forms)
-            }
-        };
-        let mut bytes = vec![(length % 256) as u8, (kind + 32 * (length / 256)) as u8];
-        // A link that is closed by the length takes no more.
-        let follows = if length > 256 { 20 } else { length };
-        bytes.extend(self.random.bytes(follows));
         bytes
     }
 
@@ -816,34 +780,10 @@ impl Author {
             ),
             None => (100, 0),
         };
-        let offset = self.offset(length);
+        let offset = offset(&mut self.random, length);
         let mut information = two_numbers(number, offset);
-        information.push(self.destination(destinations));
+        information.push(destination(&mut self.random, destinations));
         packet(Type::DownloadCmd, &information)
-    }
-
-    fn offset(&mut self, length: u32) -> u32 {
-        match self.random.below(12) {
-            0 => length,
-            1 => length.saturating_add(1),
-            2 => length.saturating_sub(1),
-            3 => self.random.below(length as usize + 1) as u32,
-            4 => 256,
-            5 => length.saturating_sub(256),
-            6 if self.random.chance(1, 3) => u32::MAX,
-            _ => 0,
-        }
-    }
-
-    /// A lock or register destination, mostly one that the file has.
-    fn destination(&mut self, destinations: usize) -> u8 {
-        let number = match self.random.below(8) {
-            0 => destinations + 1,
-            1 => 255,
-            2..=4 => self.random.below(destinations + 1),
-            _ => 0,
-        };
-        number.min(255) as u8
     }
 
     /// The client's word after a download.
@@ -857,7 +797,10 @@ impl Author {
             0 => packet(Type::DlAckCmd, &[]),
             1 => packet(Type::DlAckCmd, &[0, 0]),
             2 | 3 => packet(Type::DlNakCmd, &[]),
-            _ => packet(Type::DlAckCmd, &[self.destination(destinations)]),
+            _ => packet(
+                Type::DlAckCmd,
+                &[destination(&mut self.random, destinations)],
+            ),
         }
     }
 }

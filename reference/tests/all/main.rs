@@ -11,3 +11,4 @@ mod history;
 mod packet;
 mod script;
 mod server;
+mod sound;

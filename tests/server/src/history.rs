@@ -80,6 +80,17 @@ pub fn run(seed: u64) -> Result<History, Box<Failure>> {
     let mut random = Random::new(seed);
     let start = start(&mut random);
     let length = *random.pick(&[60, 200, 400, 400, 1500]);
+    run_from(seed, start, length, random, |_| ())
+}
+
+/// Runs so many calls from a start, and looks at the servers after each.
+pub fn run_from(
+    seed: u64,
+    start: Start,
+    length: usize,
+    random: Random,
+    mut look: impl FnMut(&Pair),
+) -> Result<History, Box<Failure>> {
     let mut author = Author::new(random);
     let mut pair = Pair::new(start);
     let mut calls = Vec::new();
@@ -97,6 +108,7 @@ pub fn run(seed: u64) -> Result<History, Box<Failure>> {
                 }))
             }
         }
+        look(&pair);
     }
     Ok(History { start, calls, pair })
 }

@@ -1,4 +1,4 @@
-//! Clients that ask for new files page by page, while files are uploaded between the pages and the clock runs as it likes.
+//! Clients that ask for new files page by page, while files are uploaded between the pages, links are lost and the clock runs as it likes.
 use crate::call::{Act, Call};
 use crate::packets::{ack, data, data_end, download, select, upload};
 use crate::pair::{Pair, Start};
@@ -94,6 +94,16 @@ impl World {
         });
     }
 
+    /// The link is lost and made again; the upload that was begun is continued.
+    fn relink(&mut self, session: usize) {
+        self.call(session, Act::Lose);
+        self.call(session, Act::Open);
+        if let Some(Begun { number, bytes, .. }) = &self.begun[session - 1] {
+            let command = upload(*number, bytes.len() as u32);
+            self.sent(session, Act::Receive(command), Type::UlGoResp);
+        }
+    }
+
     fn end(&mut self, session: usize, begun: Begun) {
         for part in begun.bytes.chunks(256) {
             assert!(matches!(
@@ -150,6 +160,8 @@ struct Client {
     /// The files that were complete at the last SELECT.
     complete: Vec<Complete>,
     pages: usize,
+    /// The links lost between pages.
+    lost: usize,
 }
 
 impl Client {
@@ -162,6 +174,7 @@ impl Client {
             last: false,
             complete: Vec::new(),
             pages: 0,
+            lost: 0,
         }
     }
 
@@ -169,12 +182,16 @@ impl Client {
         self.last && self.left == 0
     }
 
-    /// Asks for a page, or reads its next file.
+    /// Asks for a page, now and then on a new link, or reads its next file.
     fn step(&mut self, world: &mut World) {
-        match self.left {
-            0 => self.ask(world),
-            _ => self.read(world),
+        if self.left != 0 {
+            return self.read(world);
         }
+        if world.random.chance(1, 4) {
+            world.relink(self.session);
+            self.lost += 1;
+        }
+        self.ask(world);
     }
 
     /// "from upload time 0, then again above each page's newest time .. until a page is shorter than MAXSEL"
@@ -235,6 +252,8 @@ pub struct Read {
     pub files: usize,
     /// files that became complete while a client was reading
     pub meanwhile: usize,
+    /// links lost between pages
+    pub lost: usize,
 }
 
 /// Uploads files up to `first`, then lets four clients read them page by page while the store is filled on.
@@ -269,5 +288,6 @@ pub fn run(maxsel: usize, files: usize, first: usize, random: Random) -> Read {
         pages: clients.iter().map(|client| client.pages).sum(),
         files: clients.iter().map(|client| client.given.len()).sum(),
         meanwhile: world.complete.len() - first,
+        lost: clients.iter().map(|client| client.lost).sum(),
     }
 }

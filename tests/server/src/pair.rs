@@ -2,6 +2,7 @@
 use crate::call::{Act, Call};
 use crate::coverage::Coverage;
 use crate::image::{same_bytes, same_words};
+use crate::oracle::judge;
 use crate::proved::{memory, Answer, Proved};
 use reference::server::{Answer as Second, Server, Sizes};
 
@@ -108,6 +109,13 @@ impl Pair {
             same_bytes(&self.proved, &self.second)?;
         }
         same_words(&self.proved, &self.second)?;
+        let judged = judge(&self.proved);
+        if judged.refused.is_some() {
+            return Err(format!("a fact of 35 is broken: {}", judged.broken));
+        }
+        if let Err(fact) = self.second.sound() {
+            return Err(format!("a fact is broken in the second program: {fact}"));
+        }
         if beyond(&self.proved, self.second.sizes) != self.beyond {
             return Err("what is lent beyond the needs is changed".to_string());
         }

@@ -218,161 +218,76 @@ impl Proved {
     }
 
     pub fn make(&mut self, sizes: Sizes) -> u8 {
-        unsafe {
-            figmorella_make(
-                sizes.blocks,
-                sizes.files,
-                sizes.sessions,
-                sizes.maxsel,
-                self.state.as_mut_ptr(),
-                self.state.len(),
-                self.disk.as_ptr(),
-                self.disk.len(),
-                self.map.as_mut_ptr(),
-                self.map.len(),
-                self.owner.as_mut_ptr(),
-                self.owner.len(),
-                self.table.as_mut_ptr(),
-                self.table.len(),
-                self.selected.as_mut_ptr(),
-                self.selected.len(),
-                self.held.as_mut_ptr(),
-                self.held.len(),
-            )
-        }
+        let Sizes {
+            blocks,
+            files,
+            sessions,
+            maxsel,
+        } = sizes;
+        call!(figmorella_make[blocks, files, sessions, maxsel](
+            self: state, disk, map, owner, table, selected, held
+        )[])
     }
 
+    // The calls' numbers, with what they leave in the output and the counts.
+
+    pub fn open_number(&mut self, session: usize, clock: u32) -> u8 {
+        call!(figmorella_open[](
+            self: state, disk, map, owner, table, selected, held, out, counts
+        )[session, clock])
+    }
+
+    pub fn receive_number(&mut self, session: usize, clock: u32, bytes: &[u8]) -> u8 {
+        call!(figmorella_receive[](
+            self: state, disk, map, owner, table, selected, held, out, counts
+        )[session, clock, bytes.as_ptr(), bytes.len()])
+    }
+
+    pub fn request_number(&mut self, session: usize) -> u8 {
+        call!(figmorella_request[](
+            self: state, disk, map, owner, table, selected, held, out, counts
+        )[session])
+    }
+
+    pub fn lose_number(&mut self, session: usize) -> u8 {
+        call!(figmorella_lose[](
+            self: state, disk, map, owner, table, selected, held, counts
+        )[session])
+    }
+
+    // The same as answers.
+
     pub fn open(&mut self, session: usize, clock: u32) -> Answer {
-        let code = unsafe {
-            figmorella_open(
-                self.state.as_mut_ptr(),
-                self.state.len(),
-                self.disk.as_ptr(),
-                self.disk.len(),
-                self.map.as_ptr(),
-                self.map.len(),
-                self.owner.as_ptr(),
-                self.owner.len(),
-                self.table.as_ptr(),
-                self.table.len(),
-                self.selected.as_ptr(),
-                self.selected.len(),
-                self.held.as_ptr(),
-                self.held.len(),
-                self.out.as_mut_ptr(),
-                self.out.len(),
-                self.counts.as_mut_ptr(),
-                self.counts.len(),
-                session,
-                clock,
-            )
-        };
-        self.answer(code)
+        let number = self.open_number(session, clock);
+        self.answer(number)
     }
 
     pub fn receive(&mut self, session: usize, clock: u32, bytes: &[u8]) -> Answer {
-        let code = unsafe {
-            figmorella_receive(
-                self.state.as_mut_ptr(),
-                self.state.len(),
-                self.disk.as_mut_ptr(),
-                self.disk.len(),
-                self.map.as_mut_ptr(),
-                self.map.len(),
-                self.owner.as_mut_ptr(),
-                self.owner.len(),
-                self.table.as_mut_ptr(),
-                self.table.len(),
-                self.selected.as_mut_ptr(),
-                self.selected.len(),
-                self.held.as_mut_ptr(),
-                self.held.len(),
-                self.out.as_mut_ptr(),
-                self.out.len(),
-                self.counts.as_mut_ptr(),
-                self.counts.len(),
-                session,
-                clock,
-                bytes.as_ptr(),
-                bytes.len(),
-            )
-        };
-        self.answer(code)
+        let number = self.receive_number(session, clock, bytes);
+        self.answer(number)
     }
 
     pub fn request(&mut self, session: usize) -> Answer {
-        let code = unsafe {
-            figmorella_request(
-                self.state.as_mut_ptr(),
-                self.state.len(),
-                self.disk.as_ptr(),
-                self.disk.len(),
-                self.map.as_ptr(),
-                self.map.len(),
-                self.owner.as_ptr(),
-                self.owner.len(),
-                self.table.as_ptr(),
-                self.table.len(),
-                self.selected.as_ptr(),
-                self.selected.len(),
-                self.held.as_ptr(),
-                self.held.len(),
-                self.out.as_mut_ptr(),
-                self.out.len(),
-                self.counts.as_mut_ptr(),
-                self.counts.len(),
-                session,
-            )
-        };
-        self.answer(code)
+        let number = self.request_number(session);
+        self.answer(number)
     }
 
     pub fn lose(&mut self, session: usize) -> Answer {
-        let code = unsafe {
-            figmorella_lose(
-                self.state.as_mut_ptr(),
-                self.state.len(),
-                self.disk.as_ptr(),
-                self.disk.len(),
-                self.map.as_ptr(),
-                self.map.len(),
-                self.owner.as_ptr(),
-                self.owner.len(),
-                self.table.as_ptr(),
-                self.table.len(),
-                self.selected.as_mut_ptr(),
-                self.selected.len(),
-                self.held.as_mut_ptr(),
-                self.held.len(),
-                self.counts.as_mut_ptr(),
-                self.counts.len(),
-                session,
-            )
-        };
-        self.answer(code)
+        let number = self.lose_number(session);
+        self.answer(number)
     }
 
     /// The numbers of free blocks and of all blocks.
     pub fn free(&mut self) -> Result<(usize, usize), u8> {
-        let code = unsafe {
-            figmorella_free(
-                self.state.as_ptr(),
-                self.state.len(),
-                self.map.as_ptr(),
-                self.map.len(),
-                self.counts.as_mut_ptr(),
-                self.counts.len(),
-            )
-        };
-        match code {
+        match call!(figmorella_free[](self: state, map, counts)[]) {
             0 => Ok((self.counts[0], self.counts[1])),
             refused => Err(refused),
         }
     }
 
     /// The answer that a call's number and the counts say.
-    fn answer(&self, code: u8) -> Answer {
-        match code {
+    fn answer(&self, number: u8) -> Answer {
+        match number {
             0 => Answer::Quiet(self.counts[0]),
             1 => Answer::Sent(self.counts[0], self.out[..self.counts[1]].to_vec()),
             2 => Answer::Closed(self.counts[0]),

@@ -1,35 +1,89 @@
-//! Refusal 35: from states of random histories, each fact is broken in turn. (That no state of a random history gets 35 is part of every
-//! comparison with the second program, which does not know that number.)
+//! Refusal 35: every word of what is lent is changed, in states of random histories, and the answer is the oracle's; and changes of several
+//! words that break one fact. (That no state of a random history gets 35 is part of every comparison with the second program.)
 use reference::random::Random;
 use server::broken::{apply, State, FACTS};
-use server::call::{Act, Call};
+use server::call::Call;
 use server::history::run_same;
-use server::pair::on_proved;
+use server::oracle::{judge, Fact};
+use server::pair::{on_proved, Start};
 use server::proved::{Answer, Proved};
+use server::states::{largest, of_one_case, random_state, start, LARGER, SMALL};
+use server::sweep::{any_call, sweep, Effort, Tally};
 
 /// How many ways of breaking a fact are tried in one state.
 const TRIED: usize = 3;
 
-/// Any call: 35 comes before the refusals of sessions and of outputs.
-fn any_call(random: &mut Random) -> Call {
-    let acts = [
-        Act::Open,
-        Act::Receive(Vec::new()),
-        Act::Receive(vec![0, 1, 2]),
-        Act::Request,
-        Act::Lose,
-    ];
-    Call {
-        session: random.below(6),
-        clock: random.below(3000) as u32,
-        room: *random.pick(&[0, 257, 258, 258]),
-        act: random.pick(&acts).clone(),
+/// A state of a random history of so many calls.
+fn state(seed: u64, calls: usize, start: Start) -> Proved {
+    random_state(seed, calls, start).unwrap_or_else(|failure| panic!("{failure}"))
+}
+
+/// Tries the words of these memories, on as many processors as there are.
+fn swept(memories: &[Proved], effort: Effort) -> Tally {
+    let one = |(memory, seed): (&Proved, u64)| {
+        let sizes = &memory.state[..4];
+        sweep(memory, effort, &mut Random::new(seed))
+            .unwrap_or_else(|what| panic!("memory {seed}, sizes {sizes:?}: {what}"))
+    };
+    let mut all = Tally::default();
+    let threads = std::thread::available_parallelism().map_or(1, |count| count.get());
+    std::thread::scope(|scope| {
+        let share = memories.len().div_ceil(threads);
+        let started: Vec<_> = (0..threads)
+            .map(|thread| {
+                let mine = memories.iter().zip(0..).skip(thread * share).take(share);
+                scope.spawn(move || mine.map(one).collect::<Vec<Tally>>())
+            })
+            .collect();
+        for thread in started {
+            match thread.join() {
+                Ok(tallies) => tallies.iter().for_each(|tally| all.add(tally)),
+                Err(failure) => std::panic::resume_unwind(failure),
+            }
+        }
+    });
+    all
+}
+
+/// Every word, every value of 8 and 16 bits and the telling ones of 32 and 64 bits: each fact is broken alone.
+#[test]
+fn every_word_of_a_small_state_with_every_value() {
+    let mut memories = of_one_case().to_vec();
+    for (seed, sizes) in (2_100_000..).zip(SMALL) {
+        memories.push(state(seed, 400, start(sizes, seed as usize % 2)));
+    }
+    let tally = swept(&memories, Effort::ALL);
+    println!("{tally}");
+    assert_eq!(tally.missing(), Vec::<String>::new(), "never broken alone");
+}
+
+/// Sizes at which every value of 16 bits would take long, the program's among them, with the telling values.
+#[test]
+fn every_word_of_a_larger_state() {
+    let sized = |(seed, sizes)| state(seed, 400, start(sizes, 0));
+    let memories: Vec<Proved> = (2_200_000..).zip(LARGER).map(sized).collect();
+    println!("{}", swept(&memories, Effort::TELLING));
+}
+
+/// The largest sizes, with some of the telling values of each word.
+#[test]
+fn every_word_of_the_largest_state() {
+    let random = state(2_300_000, 2500, start((4096, 256, 4, 50), 0));
+    let memories = [random, largest()];
+    println!("{}", swept(&memories, Effort::some(usize::MAX, 16)));
+}
+
+#[test]
+fn the_facts_stand_in_their_order() {
+    for (at, fact) in Fact::all().enumerate() {
+        assert_eq!(fact as usize, at);
     }
 }
 
-/// The proved server answers a call by 35, and nothing changes.
+/// The proved server answers a call by 35, and nothing changes; the oracle says so too.
 fn refused(proved: &mut Proved, call: &Call, what: &str) {
     let before = proved.clone();
+    assert_eq!(judge(proved).refused, Some(35), "{what}");
     assert_eq!(
         on_proved(proved, call),
         Answer::Refused(35),

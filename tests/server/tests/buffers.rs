@@ -2,6 +2,7 @@
 use reference::server::Sizes;
 use server::history::run_same;
 use server::proved::{memory, state_words, Answer, Proved};
+use server::states::{of_one_case, random_state, start};
 
 fn program() -> Proved {
     Proved::empty(Sizes::PROGRAM, 0)
@@ -34,49 +35,93 @@ fn all_refused(proved: &Proved, number: u8, what: &str) {
     }
 }
 
-fn drop_last<T>(slice: &mut Vec<T>) {
-    slice.pop();
+/// What is left of a slice.
+#[derive(Clone, Copy)]
+enum Left {
+    AllButOne,
+    None,
 }
 
-/// A slice by its name, and how it loses its last element.
-type Shorten = (&'static str, fn(&mut Proved));
+impl Left {
+    fn cut<T>(self, slice: &mut Vec<T>) {
+        match self {
+            Left::AllButOne => slice.truncate(slice.len() - 1),
+            Left::None => slice.clear(),
+        }
+    }
+}
 
-/// Each slice with one element too few.
+/// A slice by its name, and how it loses its elements.
+type Shorten = (&'static str, fn(&mut Proved, Left));
+
+/// Each slice with one element too few, and with none at all.
 fn shortened(proved: &Proved) -> Vec<(&'static str, Proved)> {
     let shorten: [Shorten; 8] = [
-        ("state", |proved| drop_last(&mut proved.state)),
-        ("disk", |proved| drop_last(&mut proved.disk)),
-        ("map", |proved| drop_last(&mut proved.map)),
-        ("owner", |proved| drop_last(&mut proved.owner)),
-        ("table", |proved| drop_last(&mut proved.table)),
-        ("selected", |proved| drop_last(&mut proved.selected)),
-        ("held", |proved| drop_last(&mut proved.held)),
-        ("counts", |proved| drop_last(&mut proved.counts)),
+        ("state", |proved, left| left.cut(&mut proved.state)),
+        ("disk", |proved, left| left.cut(&mut proved.disk)),
+        ("map", |proved, left| left.cut(&mut proved.map)),
+        ("owner", |proved, left| left.cut(&mut proved.owner)),
+        ("table", |proved, left| left.cut(&mut proved.table)),
+        ("selected", |proved, left| left.cut(&mut proved.selected)),
+        ("held", |proved, left| left.cut(&mut proved.held)),
+        ("counts", |proved, left| left.cut(&mut proved.counts)),
     ];
-    let one = |(name, change): Shorten| {
-        let mut copy = proved.clone();
-        change(&mut copy);
-        (name, copy)
-    };
-    shorten.into_iter().map(one).collect()
+    let mut all = Vec::new();
+    for (name, change) in shorten {
+        for left in [Left::AllButOne, Left::None] {
+            let mut copy = proved.clone();
+            change(&mut copy, left);
+            all.push((name, copy));
+        }
+    }
+    all
+}
+
+/// Every length of the output: below 258 bytes a call that would be answered is 32, and from there on the length makes no difference.
+fn every_output(proved: &Proved, what: &str) -> usize {
+    const FILL: u8 = 0xee;
+    let mut answered = 0;
+    for session in 1..=4 {
+        let mut lent = proved.clone();
+        lent.out = vec![FILL; 258];
+        let whole = calls(&lent, session);
+        for room in 0..=300 {
+            lent.out = vec![FILL; room];
+            // the last call is lose, which has no output
+            for ((want, left), (got, after)) in whole.iter().zip(calls(&lent, session)).take(4) {
+                let answers = !matches!(want, Answer::Refused(_));
+                answered += usize::from(answers);
+                if answers && room < 258 {
+                    assert_eq!(got, Answer::Refused(32), "{what}, output of {room}");
+                    assert!(after == lent, "{what}, output of {room}");
+                    continue;
+                }
+                assert_eq!(got, *want, "{what}, output of {room}");
+                let mut left = left.clone();
+                left.out.resize(room, FILL);
+                assert!(after == left, "{what}, output of {room}");
+            }
+        }
+    }
+    answered
 }
 
 #[test]
 fn an_output_below_258_bytes_is_32() {
     let mut proved = program();
     assert!(matches!(proved.open(1, 0), Answer::Sent(0, _)));
-    for room in 0..=300 {
-        proved.out = vec![0xee; room];
-        for (index, session) in [(0, 2), (1, 1), (2, 1), (3, 1)] {
-            let (answer, after) = calls(&proved, session).swap_remove(index);
-            match room {
-                0..=257 => {
-                    assert_eq!(answer, Answer::Refused(32), "output of {room}");
-                    assert!(after == proved);
-                }
-                _ => assert!(!matches!(answer, Answer::Refused(_)), "output of {room}"),
-            }
-        }
+    assert!(0 < every_output(&proved, "an empty store"));
+    let sizes = start((12, 8, 4, 2), 0);
+    let answered: usize = (0..12)
+        .map(|seed| {
+            let state =
+                random_state(seed, 200, sizes).unwrap_or_else(|failure| panic!("{failure}"));
+            every_output(&state, &format!("seed {seed}"))
+        })
+        .sum();
+    assert!(100 < answered, "{answered}");
+    for state in of_one_case() {
+        assert!(0 < every_output(&state, "sessions in one case"));
     }
 }
 
@@ -113,13 +158,21 @@ fn each_slice_one_element_short_is_33() {
 
 #[test]
 fn a_server_is_not_made_over_short_slices() {
-    let lent = Proved::lent(Sizes::PROGRAM, 0);
-    for (name, mut short) in shortened(&lent) {
-        // the counts are not lent to this call
-        let want = if name == "counts" { 0 } else { 33 };
-        let before = short.clone();
-        assert_eq!(short.make(Sizes::PROGRAM), want, "{name}");
-        assert!(want == 0 || short == before, "{name}");
+    let largest = start((4096, 256, 4, 50), 0).sizes;
+    let least = start((1, 1, 1, 1), 0).sizes;
+    for sizes in [
+        Sizes::PROGRAM,
+        start((65, 2, 3, 4), 0).sizes,
+        least,
+        largest,
+    ] {
+        for (name, mut short) in shortened(&Proved::lent(sizes, 0)) {
+            // the counts are not lent to this call
+            let want = if name == "counts" { 0 } else { 33 };
+            let before = short.clone();
+            assert_eq!(short.make(sizes), want, "{name}");
+            assert!(want == 0 || short == before, "{name}");
+        }
     }
 }
 

@@ -125,141 +125,48 @@ impl Store {
     }
 
     pub fn make(&mut self) -> u8 {
-        unsafe {
-            store_make(
-                self.map.as_mut_ptr(),
-                self.map.len(),
-                self.owner.as_mut_ptr(),
-                self.owner.len(),
-            )
-        }
+        call!(store_make[](self: map, owner)[])
     }
 
     pub fn free(&self) -> usize {
-        unsafe { store_free(self.map.as_ptr(), self.map.len()) }
+        call!(store_free[](&self: map)[])
     }
 
     pub fn read(&self, place: u16, at: usize, out: &mut [u8]) -> u8 {
-        unsafe {
-            store_read(
-                self.disk.as_ptr(),
-                self.disk.len(),
-                self.owner.as_ptr(),
-                self.owner.len(),
-                place,
-                at,
-                out.as_mut_ptr(),
-                out.len(),
-            )
-        }
+        call!(store_read[](&self: disk, owner)[place, at, out.as_mut_ptr(), out.len()])
     }
 
     /// The place of a new file.
     pub fn begin(&mut self, last: u32, size: u32) -> Answer {
-        answer(unsafe {
-            store_begin(
-                self.map.as_mut_ptr(),
-                self.map.len(),
-                self.owner.as_mut_ptr(),
-                self.owner.len(),
-                self.table.as_mut_ptr(),
-                self.table.len(),
-                last,
-                size,
-            )
-        })
+        answer(call!(store_begin[](self: map, owner, table)[last, size]))
     }
 
     pub fn append(&mut self, place: usize, more: &[u8]) -> u8 {
-        unsafe {
-            store_append(
-                self.disk.as_mut_ptr(),
-                self.disk.len(),
-                self.owner.as_ptr(),
-                self.owner.len(),
-                self.table.as_mut_ptr(),
-                self.table.len(),
-                place,
-                more.as_ptr(),
-                more.len(),
-            )
-        }
+        call!(store_append[](self: disk, owner, table)[place, more.as_ptr(), more.len()])
     }
 
     pub fn discard(&mut self, place: usize) -> u8 {
-        unsafe {
-            store_discard(
-                self.map.as_mut_ptr(),
-                self.map.len(),
-                self.owner.as_mut_ptr(),
-                self.owner.len(),
-                self.table.as_mut_ptr(),
-                self.table.len(),
-                place,
-            )
-        }
+        call!(store_discard[](self: map, owner, table)[place])
     }
 
     pub fn check(&self, place: usize) -> u8 {
-        unsafe {
-            store_check(
-                self.disk.as_ptr(),
-                self.disk.len(),
-                self.owner.as_ptr(),
-                self.owner.len(),
-                self.table.as_ptr(),
-                self.table.len(),
-                place,
-            )
-        }
+        call!(store_check[](&self: disk, owner, table)[place])
     }
 
     pub fn complete(&mut self, place: usize, time: u32) -> u8 {
-        unsafe {
-            store_complete(
-                self.disk.as_mut_ptr(),
-                self.disk.len(),
-                self.owner.as_ptr(),
-                self.owner.len(),
-                self.table.as_mut_ptr(),
-                self.table.len(),
-                place,
-                time,
-            )
-        }
+        call!(store_complete[](self: disk, owner, table)[place, time])
     }
 
     /// How many files were selected.
     pub fn select(&self, eq: &[u8], selected: &mut [u32], most: usize) -> Answer {
-        answer(unsafe {
-            store_select(
-                eq.as_ptr(),
-                eq.len(),
-                self.disk.as_ptr(),
-                self.disk.len(),
-                self.owner.as_ptr(),
-                self.owner.len(),
-                self.table.as_ptr(),
-                self.table.len(),
-                selected.as_mut_ptr(),
-                selected.len(),
-                most,
-            )
-        })
+        answer(
+            call!(store_select[eq.as_ptr(), eq.len()](&self: disk, owner, table)[
+                selected.as_mut_ptr(), selected.len(), most
+            ]),
+        )
     }
 
     pub fn sound(&self, last: u32, latest: u32) -> u8 {
-        unsafe {
-            store_sound(
-                self.map.as_ptr(),
-                self.map.len(),
-                self.owner.as_ptr(),
-                self.owner.len(),
-                self.table.as_ptr(),
-                self.table.len(),
-                last,
-                latest,
-            )
-        }
+        call!(store_sound[](&self: map, owner, table)[last, latest])
     }
 }

@@ -3,11 +3,8 @@
 
 pub mod model;
 
-use std::collections::BTreeSet;
-
 use reference::packet::{Packet, Type};
 use reference::server::{Answer, Downlink, Server, Sizes, Uplink};
-use reference::store::blocks_needed;
 
 /// Bytes from hex digits; blanks are passed over.
 pub fn hex(text: &str) -> Vec<u8> {
@@ -135,7 +132,7 @@ impl Desk {
         let before = self.server.clone();
         let mut output = [POISON; 300];
         let answer = call(&mut self.server, &mut output);
-        assert_sound(&self.server);
+        assert_eq!(self.server.sound(), Ok(()));
         let mut expected = [POISON; 300];
         match &answer {
             Answer::Refused(_) => assert_eq!(self.server, before),
@@ -242,87 +239,6 @@ pub fn tell(answer: &Answer) -> String {
         Answer::Quiet(_) => "quiet".to_string(),
         Answer::Sent(_, packet) => {
             format!("{} {}", packet.kind.name(), to_hex(&packet.information))
-        }
-    }
-}
-
-/// The facts on blocks, numbers, times, lengths and names that hold in every
-/// state that calls make from the empty store.
-pub fn assert_sound(server: &Server) {
-    let store = &server.store;
-    let sizes = server.sizes;
-    assert_eq!(store.free.len(), sizes.blocks);
-    assert_eq!(store.places.len(), sizes.files);
-    assert_eq!(server.sessions.len(), sizes.sessions);
-
-    let mut owned = BTreeSet::new();
-    let mut numbers = BTreeSet::new();
-    let mut times = BTreeSet::new();
-    let mut held = 0;
-    for file in store.places.iter().flatten() {
-        assert_eq!(file.blocks.len(), blocks_needed(file.length));
-        assert!(file.blocks.windows(2).all(|pair| pair[0] < pair[1]));
-        for block in &file.blocks {
-            assert!(owned.insert(*block), "a block of two files");
-        }
-        held += file.blocks.len();
-        assert!(numbers.insert(file.number), "a number given twice");
-        assert!((1..=store.last_number).contains(&file.number));
-        assert!(file.received <= file.length);
-        if let Some(time) = file.upload_time {
-            assert!(times.insert(time), "an upload time given twice");
-            assert!((1..=store.last_time).contains(&time));
-            assert_eq!(file.received, file.length);
-        }
-    }
-    for (block, free) in store.free.iter().enumerate() {
-        assert_ne!(*free, owned.contains(&block));
-    }
-    assert_eq!(store.held_blocks(), held);
-    assert_eq!(store.free_blocks() + held, sizes.blocks);
-    assert_sessions_sound(server);
-}
-
-fn assert_sessions_sound(server: &Server) {
-    let store = &server.store;
-    let mut uploading = BTreeSet::new();
-    for session in server.sessions.iter().flatten() {
-        if let Uplink::Receiving {
-            place,
-            offset,
-            received,
-        } = session.uplink
-        {
-            assert!(uploading.insert(place), "two sessions upload one file");
-            assert!(!store.file(place).is_complete());
-            assert_eq!(offset + received, store.file(place).received);
-        }
-        match session.downlink {
-            Downlink::Idle => {}
-            Downlink::Sending {
-                place,
-                offset,
-                sent,
-            } => {
-                assert!(store.file(place).is_complete());
-                assert!(offset + sent <= store.file(place).length);
-            }
-            Downlink::Ended { place } | Downlink::Aborting { place } => {
-                assert!(store.file(place).is_complete());
-            }
-        }
-        let selection = &session.selection;
-        assert!(selection.numbers.len() <= server.sizes.maxsel);
-        assert!(selection.position <= selection.numbers.len());
-        for &number in &selection.numbers {
-            let place = store.find(number).expect("a selected file");
-            assert!(store.file(place).is_complete());
-        }
-        let held = session.frame.held();
-        assert!(held.len() < 258);
-        if let [first, second, ..] = held {
-            let length = usize::from(*second >> 5) * 256 + usize::from(*first);
-            assert!(length <= 256 && held.len() < 2 + length);
         }
     }
 }

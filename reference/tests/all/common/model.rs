@@ -7,8 +7,6 @@ use reference::packet::{number, Framed, Type};
 use reference::script::{Call, Watch};
 use reference::server::{Answer, Server};
 
-use super::assert_sound;
-
 /// What the packets of the links say about the files.
 #[derive(Default)]
 pub struct Model {
@@ -126,7 +124,7 @@ impl Watch for Onlooker {
     }
 
     fn after(&mut self, server: &Server, call: Call, answer: &Answer) {
-        assert_sound(server);
+        assert_eq!(server.sound(), Ok(()));
         match (call, &self.framed, answer) {
             (_, _, Answer::Refused(_)) => {}
             (Call::Receive(session, _), Some(framed), _) => {

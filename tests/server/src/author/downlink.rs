@@ -1,7 +1,7 @@
 //! The packets of selections and downloads.
 use super::{files, Author};
 use crate::packets::{ack, download, nak, packet, select};
-use reference::generator::equation;
+use reference::generator::{destination, equation, offset};
 use reference::header;
 use reference::packet::Type;
 use reference::server::{Downlink, Server, Session};
@@ -74,32 +74,9 @@ impl Author {
             ),
             None => (100, 0),
         };
-        let offset = self.offset(length);
-        download(number, offset, self.destination(destinations))
-    }
-
-    fn offset(&mut self, length: u32) -> u32 {
-        match self.random.below(14) {
-            0 => length,
-            1 => length.saturating_add(1),
-            2 => length.saturating_sub(1),
-            3 => self.random.below(length as usize + 1) as u32,
-            4 => 256,
-            5 => length.saturating_sub(256),
-            6 if self.random.chance(1, 3) => u32::MAX,
-            _ => 0,
-        }
-    }
-
-    /// A destination number, mostly one that the file has.
-    fn destination(&mut self, destinations: usize) -> u8 {
-        let number = match self.random.below(8) {
-            0 => destinations + 1,
-            1 => 255,
-            2..=4 => self.random.below(destinations + 1),
-            _ => 0,
-        };
-        number.min(255) as u8
+        let offset = offset(&mut self.random, length);
+        let lock = destination(&mut self.random, destinations);
+        download(number, offset, lock)
     }
 
     /// The client's word after a download.
@@ -110,7 +87,7 @@ impl Author {
             2 | 3 => nak(),
             _ => {
                 let destinations = header::destinations(&server.store.contents(place));
-                ack(self.destination(destinations))
+                ack(destination(&mut self.random, destinations))
             }
         }
     }

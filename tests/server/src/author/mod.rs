@@ -5,7 +5,7 @@ mod uplink;
 
 use crate::call::{Act, Call};
 use crate::proved::Answer;
-use reference::generator::{Plan, Wishes};
+use reference::generator::{stray, Plan, Wishes};
 use reference::random::Random;
 use reference::server::{Downlink, Server, Session, Uplink, OUTPUT};
 use reference::store::File;
@@ -237,7 +237,7 @@ impl Author {
 
     fn compose(&mut self, server: &Server, session: &Session, index: usize) -> Vec<u8> {
         if self.chance(self.habits.stray) {
-            return self.stray();
+            return stray(&mut self.random);
         }
         // an upload for which there is no place is refused, which need not be seen often
         let vain = session.uplink == Uplink::Idle && is_full(server) && self.chance(80);
@@ -246,38 +246,6 @@ impl Author {
         } else {
             self.downlink_packet(server, session, index)
         }
-    }
-
-    /// A packet without regard to the session's state.
-    fn stray(&mut self) -> Vec<u8> {
-        let random = &mut self.random;
-        let (kind, length) = match random.below(10) {
-            0 => (random.below(32), random.between(250, 256)),
-            1 => (random.below(32), random.between(257, 2047)),
-            2 => (random.between(18, 31), random.below(6)),
-            3 => (
-                *random.pick(&[2, 4, 5, 6, 7, 9, 10, 11, 17]),
-                random.below(6),
-            ),
-            4 => (random.below(18), random.below(12)),
-            _ => *random.pick(&[
-                (0, 5),
-                (1, 0),
-                (1, 1),
-                (3, 8),
-                (8, 9),
-                (12, 1),
-                (13, 0),
-                (13, 1),
-                (14, 4),
-                (15, 4),
-                (16, 8),
-            ]),
-        };
-        let mut bytes = vec![(length % 256) as u8, (kind + 32 * (length / 256)) as u8];
-        // a link that is closed by the length takes no more
-        bytes.extend(random.bytes(if length > 256 { 20 } else { length }));
-        bytes
     }
 }
 

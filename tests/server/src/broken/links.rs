@@ -9,7 +9,7 @@ pub(super) fn upload_of_no_file(s: &State) -> Vec<Change> {
         let at = link.at + 2;
         s.nowhere()
             .into_iter()
-            .map(move |place| Word::State(at, place))
+            .map(move |place| Word::state(at, place))
     };
     each(s.uplinks(1).iter().flat_map(nowhere))
 }
@@ -20,9 +20,9 @@ pub(super) fn upload_of_a_complete_file(s: &State) -> Vec<Change> {
     for link in s.uplinks(1) {
         for file in s.complete() {
             changes.push(vec![
-                Word::State(link.at + 2, file.place as u64),
-                Word::State(link.at + 3, file.received.into()),
-                Word::State(link.at + 4, 0),
+                Word::state(link.at + 2, file.place as u64),
+                Word::state(link.at + 3, file.received.into()),
+                Word::state(link.at + 4, 0),
             ]);
         }
     }
@@ -34,13 +34,13 @@ pub(super) fn upload_bytes(s: &State) -> Vec<Change> {
     for link in s.uplinks(1) {
         let received = s.record(s.word(link.at + 2)).received;
         changes.extend(each([
-            Word::State(link.at + 3, s.word(link.at + 3) ^ 1),
-            Word::State(link.at + 4, s.word(link.at + 4) ^ 1),
-            Word::State(link.at + 4, u32::MAX.into()),
+            Word::state(link.at + 3, s.word(link.at + 3) ^ 1),
+            Word::state(link.at + 4, s.word(link.at + 4) ^ 1),
+            Word::state(link.at + 4, u32::MAX.into()),
         ]));
         if 0 < received {
             let at = s.record(s.word(link.at + 2)).word(2);
-            changes.push(vec![Word::Table(at, received - 1)]);
+            changes.push(vec![Word::table(at, received - 1)]);
         }
     }
     changes
@@ -51,8 +51,8 @@ pub(super) fn upload_bytes_wrapped(s: &State) -> Vec<Change> {
     let wrapped = |link: &Link| {
         let received = s.record(s.word(link.at + 2)).received;
         vec![
-            Word::State(link.at + 3, u32::MAX.into()),
-            Word::State(link.at + 4, u64::from(received) + 1),
+            Word::state(link.at + 3, u32::MAX.into()),
+            Word::state(link.at + 4, u64::from(received) + 1),
         ]
     };
     s.uplinks(1).iter().map(wrapped).collect()
@@ -65,7 +65,7 @@ pub(super) fn upload_twice(s: &State) -> Vec<Change> {
         for other in s.links().iter().filter(|other| other.index != one.index) {
             changes.push(
                 (1..5)
-                    .map(|word| Word::State(other.at + word, s.word(one.at + word)))
+                    .map(|word| Word::state(other.at + word, s.word(one.at + word)))
                     .collect(),
             );
         }
@@ -83,7 +83,7 @@ fn not_complete(s: &State, case: u64) -> Vec<Change> {
     each(
         links
             .iter()
-            .flat_map(|link| places.iter().map(|&place| Word::State(link.at + 6, place))),
+            .flat_map(|link| places.iter().map(|&place| Word::state(link.at + 6, place))),
     )
 }
 
@@ -104,8 +104,8 @@ pub(super) fn download_beyond(s: &State) -> Vec<Change> {
         let size = u64::from(s.record(s.word(link.at + 6)).size);
         let (offset, sent) = (s.word(link.at + 7), s.word(link.at + 8));
         [
-            Word::State(link.at + 7, size - sent + 1),
-            Word::State(link.at + 8, size - offset + 1),
+            Word::state(link.at + 7, size - sent + 1),
+            Word::state(link.at + 8, size - offset + 1),
         ]
     };
     each(s.downlinks(1).iter().flat_map(beyond))
@@ -115,8 +115,8 @@ pub(super) fn download_beyond(s: &State) -> Vec<Change> {
 pub(super) fn download_wrapped(s: &State) -> Vec<Change> {
     let wrapped = |link: &Link| {
         vec![
-            Word::State(link.at + 7, u32::MAX.into()),
-            Word::State(link.at + 8, 1),
+            Word::state(link.at + 7, u32::MAX.into()),
+            Word::state(link.at + 8, 1),
         ]
     };
     s.downlinks(1).iter().map(wrapped).collect()
@@ -129,13 +129,13 @@ pub(super) fn count_beyond(s: &State) -> Vec<Change> {
     each(
         s.links()
             .iter()
-            .flat_map(|link| counts.map(|count| Word::State(link.at + 10, count))),
+            .flat_map(|link| counts.map(|count| Word::state(link.at + 10, count))),
     )
 }
 
 pub(super) fn next_beyond(s: &State) -> Vec<Change> {
     let beyond = |link: &Link| {
-        [s.word(link.at + 10) + 1, u64::MAX].map(|next| Word::State(link.at + 11, next))
+        [s.word(link.at + 10) + 1, u64::MAX].map(|next| Word::state(link.at + 11, next))
     };
     each(s.links().iter().flat_map(beyond))
 }
@@ -148,7 +148,7 @@ pub(super) fn selected_of_none(s: &State) -> Vec<Change> {
     for link in s.links() {
         let first = link.index * s.most;
         for at in first..first + s.word(link.at + 10) as usize {
-            changes.extend(each(wrong.iter().map(|&number| Word::Selected(at, number))));
+            changes.extend(each(wrong.iter().map(|&number| Word::selected(at, number))));
         }
     }
     changes
@@ -168,7 +168,7 @@ fn part<'a>(s: &State<'a>, link: &Link) -> &'a [u8] {
 pub(super) fn held_beyond(s: &State) -> Vec<Change> {
     let beyond = |link: &Link| {
         let whole = 2 + announced(part(s, link));
-        [whole, 259, u64::MAX].map(|held| Word::State(link.at + 9, held))
+        [whole, 259, u64::MAX].map(|held| Word::state(link.at + 9, held))
     };
     each(s.links().iter().flat_map(beyond))
 }
@@ -178,32 +178,32 @@ pub(super) fn held_too_long(s: &State) -> Vec<Change> {
         .links()
         .into_iter()
         .filter(|link| 2 <= s.word(link.at + 9));
-    let long = |link: &Link| Word::Held(PART * link.index + 1, part(s, link)[1] | 0xe0);
+    let long = |link: &Link| Word::held(PART * link.index + 1, part(s, link)[1] | 0xe0);
     each(begun.map(|link| long(&link)))
 }
 
 // ---- words
 
 pub(super) fn session_beyond(s: &State) -> Vec<Change> {
-    each((s.sessions..4).map(|index| Word::State(HEAD + SESSION * index, 1)))
+    each((s.sessions..4).map(|index| Word::state(HEAD + SESSION * index, 1)))
 }
 
 pub(super) fn no_such_case(s: &State) -> Vec<Change> {
     let mut changes = each([
-        Word::State(4, s.word(4) + (1 << 32)),
-        Word::State(5, s.word(5) + (1 << 32)),
+        Word::state(4, s.word(4) + (1 << 32)),
+        Word::state(5, s.word(5) + (1 << 32)),
     ]);
     for at in (0..4).map(|index| HEAD + SESSION * index) {
         changes.extend(each([
-            Word::State(at, 2),
-            Word::State(at, u64::MAX),
-            Word::State(at + 1, 3),
-            Word::State(at + 1, s.word(at + 1) + (1 << 32)),
-            Word::State(at + 3, s.word(at + 3) + (1 << 32)),
-            Word::State(at + 4, s.word(at + 4) + (1 << 32)),
-            Word::State(at + 5, 4),
-            Word::State(at + 7, s.word(at + 7) + (1 << 32)),
-            Word::State(at + 8, s.word(at + 8) + (1 << 32)),
+            Word::state(at, 2),
+            Word::state(at, u64::MAX),
+            Word::state(at + 1, 3),
+            Word::state(at + 1, s.word(at + 1) + (1 << 32)),
+            Word::state(at + 3, s.word(at + 3) + (1 << 32)),
+            Word::state(at + 4, s.word(at + 4) + (1 << 32)),
+            Word::state(at + 5, 4),
+            Word::state(at + 7, s.word(at + 7) + (1 << 32)),
+            Word::state(at + 8, s.word(at + 8) + (1 << 32)),
         ]));
     }
     changes
@@ -213,14 +213,14 @@ pub(super) fn unused_word(s: &State) -> Vec<Change> {
     let mut changes = Vec::new();
     for at in (0..4).map(|index| HEAD + SESSION * index) {
         if s.word(at + 1) != 1 {
-            changes.extend(each((at + 2..at + 5).map(|word| Word::State(word, 1))));
+            changes.extend(each((at + 2..at + 5).map(|word| Word::state(word, 1))));
         }
         let unused = match s.word(at + 5) {
             0 => at + 6..at + 9,
             1 => at + 9..at + 9,
             _ => at + 7..at + 9,
         };
-        changes.extend(each(unused.map(|word| Word::State(word, 1))));
+        changes.extend(each(unused.map(|word| Word::state(word, 1))));
     }
     changes
 }

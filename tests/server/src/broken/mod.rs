@@ -5,32 +5,13 @@ mod store;
 
 use crate::image::{HEAD, SESSION};
 use crate::proved::Proved;
-
-/// Another value for one word of what is lent.
-#[derive(Clone, Copy, Debug, PartialEq, Eq)]
-pub enum Word {
-    State(usize, u64),
-    Map(usize, u64),
-    Owner(usize, u16),
-    Table(usize, u32),
-    Selected(usize, u32),
-    Held(usize, u8),
-}
+use crate::words::Word;
 
 /// Words that are changed together.
 pub type Change = Vec<Word>;
 
 pub fn apply(proved: &mut Proved, change: &[Word]) {
-    for word in change {
-        match *word {
-            Word::State(at, value) => proved.state[at] = value,
-            Word::Map(at, value) => proved.map[at] = value,
-            Word::Owner(at, value) => proved.owner[at] = value,
-            Word::Table(at, value) => proved.table[at] = value,
-            Word::Selected(at, value) => proved.selected[at] = value,
-            Word::Held(at, value) => proved.held[at] = value,
-        }
-    }
+    change.iter().for_each(|word| word.apply(proved));
 }
 
 /// A fact by its name, and the changes that break it.
@@ -245,7 +226,7 @@ impl State<'_> {
 
     /// The map's word of a block with its bit turned.
     fn turned(&self, block: usize) -> Word {
-        Word::Map(block / 64, self.lent.map[block / 64] ^ 1 << (block % 64))
+        Word::map(block / 64, self.lent.map[block / 64] ^ 1 << (block % 64))
     }
 }
 

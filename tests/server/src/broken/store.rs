@@ -5,7 +5,7 @@ use super::{each, Change, Record, State, Word};
 
 pub(super) fn owner_beyond(s: &State) -> Vec<Change> {
     let beyond = [s.files as u16 + 1, u16::MAX];
-    each((0..s.blocks).flat_map(|block| beyond.map(|owner| Word::Owner(block, owner))))
+    each((0..s.blocks).flat_map(|block| beyond.map(|owner| Word::owner(block, owner))))
 }
 
 pub(super) fn map_bit(s: &State) -> Vec<Change> {
@@ -24,7 +24,7 @@ pub(super) fn owner_of_another(s: &State) -> Vec<Change> {
     each((0..s.blocks).flat_map(|block| {
         owners(block)
             .take(3)
-            .map(move |other| Word::Owner(block, other))
+            .map(move |other| Word::owner(block, other))
     }))
 }
 
@@ -32,7 +32,7 @@ pub(super) fn owner_of_another(s: &State) -> Vec<Change> {
 
 pub(super) fn file_without_number(s: &State) -> Vec<Change> {
     let held = s.with(|file| file.number != 0 && file.size != 0);
-    each(held.iter().map(|file| Word::Table(file.word(0), 0)))
+    each(held.iter().map(|file| Word::table(file.word(0), 0)))
 }
 
 pub(super) fn block_without_file(s: &State) -> Vec<Change> {
@@ -41,24 +41,24 @@ pub(super) fn block_without_file(s: &State) -> Vec<Change> {
     };
     let blocks = (0..s.blocks).filter(|&block| s.is_free(block));
     blocks
-        .map(|block| vec![Word::Owner(block, free.place as u16 + 1), s.turned(block)])
+        .map(|block| vec![Word::owner(block, free.place as u16 + 1), s.turned(block)])
         .collect()
 }
 
 pub(super) fn number_not_given(s: &State) -> Vec<Change> {
     let mut changes = Vec::new();
     if let Some(next) = s.last_number.checked_add(1) {
-        changes = each(s.live().iter().map(|file| Word::Table(file.word(0), next)));
+        changes = each(s.live().iter().map(|file| Word::table(file.word(0), next)));
     }
     if let Some(highest) = s.live().iter().map(|file| file.number).max() {
-        changes.push(vec![Word::State(4, u64::from(highest) - 1)]);
+        changes.push(vec![Word::state(4, u64::from(highest) - 1)]);
     }
     changes
 }
 
 pub(super) fn received_beyond(s: &State) -> Vec<Change> {
     let beyond = |file: &Record| {
-        [file.size + 1, u32::MAX].map(|received| Word::Table(file.word(2), received))
+        [file.size + 1, u32::MAX].map(|received| Word::table(file.word(2), received))
     };
     each(s.live().iter().flat_map(beyond))
 }
@@ -67,7 +67,7 @@ pub(super) fn received_beyond(s: &State) -> Vec<Change> {
 pub(super) fn size_of_other_blocks(s: &State) -> Vec<Change> {
     let other = |file: &Record| {
         let longer = file.size.div_ceil(256) * 256 + 1;
-        [longer, u32::MAX].map(|size| Word::Table(file.word(1), size))
+        [longer, u32::MAX].map(|size| Word::table(file.word(1), size))
     };
     each(s.partial().iter().flat_map(other))
 }
@@ -78,11 +78,11 @@ pub(super) fn time_not_given(s: &State) -> Vec<Change> {
         changes = each(
             s.complete()
                 .iter()
-                .map(|file| Word::Table(file.word(3), next)),
+                .map(|file| Word::table(file.word(3), next)),
         );
     }
     if let Some(latest) = s.complete().iter().map(|file| file.time).max() {
-        changes.push(vec![Word::State(5, u64::from(latest) - 1)]);
+        changes.push(vec![Word::state(5, u64::from(latest) - 1)]);
     }
     changes
 }
@@ -91,7 +91,7 @@ pub(super) fn complete_with_fewer(s: &State) -> Vec<Change> {
     let mut changes = each(
         s.complete()
             .iter()
-            .map(|file| Word::Table(file.word(2), file.size - 1)),
+            .map(|file| Word::table(file.word(2), file.size - 1)),
     );
     let short = s.with(|file| file.is_partial() && file.received < file.size);
     let given: Vec<u32> = s.complete().iter().map(|file| file.time).collect();
@@ -101,7 +101,7 @@ pub(super) fn complete_with_fewer(s: &State) -> Vec<Change> {
         .find(|time| !given.contains(time))
     {
         changes.extend(each(
-            short.iter().map(|file| Word::Table(file.word(3), time)),
+            short.iter().map(|file| Word::table(file.word(3), time)),
         ));
     }
     changes
@@ -112,8 +112,8 @@ pub(super) fn number_twice(s: &State) -> Vec<Change> {
     let pairs = files.iter().zip(files.iter().skip(1));
     each(pairs.flat_map(|(one, other)| {
         [
-            Word::Table(one.word(0), other.number),
-            Word::Table(other.word(0), one.number),
+            Word::table(one.word(0), other.number),
+            Word::table(other.word(0), one.number),
         ]
     }))
 }
@@ -123,8 +123,8 @@ pub(super) fn time_twice(s: &State) -> Vec<Change> {
     let pairs = files.iter().zip(files.iter().skip(1));
     each(pairs.flat_map(|(one, other)| {
         [
-            Word::Table(one.word(3), other.time),
-            Word::Table(other.word(3), one.time),
+            Word::table(one.word(3), other.time),
+            Word::table(other.word(3), one.time),
         ]
     }))
 }

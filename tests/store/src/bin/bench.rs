@@ -1,12 +1,14 @@
 //! Times of the store's calls at three sizes: medians over many runs, and the ratios between the sizes. Nothing is asserted on times.
+#[path = "../../../clock.rs"]
+mod clock;
+
+use clock::measured;
 use std::hint::black_box;
-use std::time::Instant;
 use store::equation::after;
 use store::header::Draft;
 use store::store::Store;
 
 const SIZES: [(usize, usize); 3] = [(128, 32), (1024, 128), (4096, 256)];
-const RUNS: usize = 301;
 
 /// Complete files at all places but the last one and on all blocks but the last one; a place and a block are left.
 fn nearly_full(blocks: usize, files: usize) -> Store {
@@ -31,42 +33,16 @@ fn nearly_full(blocks: usize, files: usize) -> Store {
     s
 }
 
-/// The median time of one call in nanoseconds; each run makes so many calls that it takes long enough to be measured.
-fn median(mut call: impl FnMut()) -> f64 {
-    let mut calls = 1;
-    loop {
-        let began = Instant::now();
-        for _ in 0..calls {
-            call();
-        }
-        if 200_000 < began.elapsed().as_nanos() {
-            break;
-        }
-        calls *= 2;
-    }
-    let mut times: Vec<f64> = (0..RUNS)
-        .map(|_| {
-            let began = Instant::now();
-            for _ in 0..calls {
-                call();
-            }
-            began.elapsed().as_nanos() as f64 / calls as f64
-        })
-        .collect();
-    times.sort_by(f64::total_cmp);
-    times[RUNS / 2]
-}
-
 /// The two parts of `sound`: over the blocks, with one file that has them all, and over the files, with one block.
 fn parts_of_sound(blocks: usize, files: usize) -> (f64, f64) {
     let mut one_file = Store::empty(blocks, 1);
     assert_eq!(one_file.begin(0, 256 * blocks as u32), Ok(0));
-    let over_blocks = median(|| {
+    let over_blocks = measured(|| {
         assert_eq!(black_box(&one_file).sound(1, 0), 1);
     });
     let mut one_block = Store::empty(1, files);
     one_block.table = (1..=files as u32).flat_map(|n| [n, 0, 0, n]).collect();
-    let over_files = median(|| {
+    let over_files = measured(|| {
         assert_eq!(black_box(&one_block).sound(files as u32, files as u32), 1);
     });
     (over_blocks, over_files)
@@ -77,11 +53,11 @@ type Measured = (&'static str, f64);
 fn measure(blocks: usize, files: usize) -> Vec<Measured> {
     let mut s = nearly_full(blocks, files);
     let many = files as u32 - 1;
-    let sound = median(|| {
+    let sound = measured(|| {
         assert_eq!(black_box(&s).sound(many, many), 1);
     });
     let (over_blocks, over_files) = parts_of_sound(blocks, files);
-    let reserve = median(|| {
+    let reserve = measured(|| {
         let place = s.begin(many, 256).expect("room");
         assert_eq!(s.discard(place), 0);
     });
@@ -92,21 +68,21 @@ fn measure(blocks: usize, files: usize) -> Vec<Measured> {
     }
     .file();
     let place = s.begin(many, 256).expect("room");
-    let append = median(|| {
+    let append = measured(|| {
         s.table[4 * place + 2] = 0;
         assert_eq!(s.append(place, black_box(&file)), 0);
     });
-    let check = median(|| {
+    let check = measured(|| {
         assert_eq!(black_box(&s).check(place), 0);
     });
     let mut selected = [0; 50];
-    let none = median(|| {
+    let none = measured(|| {
         assert_eq!(
             black_box(&s).select(&after(u32::MAX), &mut selected, 50),
             Ok(0)
         );
     });
-    let first = median(|| {
+    let first = measured(|| {
         assert_eq!(
             black_box(&s).select(&after(0), &mut selected, 50),
             Ok(50.min(files - 1))
