@@ -1,0 +1,333 @@
+-- The theorems of the three demands at work: each that has hypotheses is applied to a small case of Example.antt that meets them, and what it gives
+-- is stated. Assumes nothing.
+use mathlib.Core.Path.{_≡_, refl, ap, _∙_, sym, subst}
+use mathlib.Core.Bool.{Bool, true, false, cond}
+use mathlib.Core.Logic.{_⊎_}
+use mathlib.Core.List.{List, [], _∷_, _++_, flatten}
+use Prim.Native.Nat.{ℕ, _+_, _≤_, _<_}
+use native.Mathlib.Omega.{arith}
+use lib.Dec.{ltb}
+use lib.ListN.{length, getD, replicate, take, drop, length-replicate}
+use borrow.Author.Tests.{ltb-true}
+use Rattle.packet.specs.Packet.{writeAnswer, leftIn}
+use Rattle.header.proofs.Examples.{smallest}
+use Rattle.header.specs.Header.{verdict}
+use Rattle.header.specs.Fields.{fieldsSet}
+use Rattle.blocks.specs.Owners.{blocks}
+use Rattle.table.specs.declared.File.{File}
+use Rattle.server.specs.State.{linkOf, ownerPart}
+use Rattle.server.specs.Making.{newServer, emptied, emptyOf, makes, makeOf}
+use Rattle.server.specs.Calls.{Opened, loginOf}
+use Rattle.history.specs.Calls.{Call, login, receive, callOf, Start, History, start, _▸_, after}
+use Rattle.history.specs.Good.{Good}
+use Rattle.history.proofs.Histories.{good-after}
+use Rattle.demands.specs.Events.{uploading, typeOf}
+use Rattle.demands.specs.Accepted.{accepted, reserved, numbersGiven, Completion, completion, completions, times}
+use Rattle.demands.specs.Closing.{ClosesBy, SameAsLost, Unwelcome, eventAt}
+use Rattle.demands.specs.Cut.{SameAfter, joined, passed, untaken, _▸▸_}
+use Rattle.demands.specs.Feeding.{feed, feedAll, feedPieces}
+use Rattle.demands.specs.Demand1.{RefusedBy, Reachable, Naks, NothingElse}
+use Rattle.demands.specs.Demand2.{Reads, SentReads}
+use Rattle.demands.specs.Demand3.{serverAt, lentAt, filesAt, sentAt, AreBytes, OfBytes, Live, Free, Owned, OnlyFour, Listed, Stands}
+use Rattle.demands.proofs.Answered.{demand-1}
+use Rattle.demands.proofs.Demand2.{demand-2}
+use Rattle.demands.proofs.Unique.{calls-determined}
+use Rattle.demands.proofs.Whole.{demand-3}
+use Rattle.demands.proofs.Example.{small, small-legal, pair, pair-legal, output, rx, of, upload, dataEnd, shortUpload, largeUpload, nextFile}
+use Rattle.demands.proofs.Example.{titleAboveM, data41, type18, length257, opened, halfway, beforeUpload, lostOnce, tooEarly, uploads, both}
+use Rattle.demands.proofs.Example.{with255, withOwner, computed}
+
+room : 258 ≤ length {A = ℕ} output
+room = omega (arith, length-replicate {A = ℕ} 258 0)
+
+-- ---- demand 1
+
+-- the small server, its link being open, answers these bytes and leaves all as it was, but for the packet itself, which is gone
+abbrev pub NothingElseBy : List ℕ → Type 0
+NothingElseBy bytes =
+    NothingElse (serverAt small opened) (lentAt small opened) 1 (callOf (serverAt small opened) (lentAt small opened) (rx 6 bytes))
+
+-- UL_ERROR_RESP 1 to an UPLOAD_CMD of one byte
+pub short-upload-leaves : NothingElseBy shortUpload
+short-upload-leaves = demand-1 .upload-errors _ _ _ _ _ _ _ (computed .refusals .short-upload) .left
+
+-- UL_ERROR_RESP 13 to one for which there is no room
+pub no-room-leaves : NothingElseBy largeUpload
+no-room-leaves = demand-1 .upload-errors _ _ _ _ _ _ _ (computed .refusals .no-room) .left
+
+-- DL_ERROR_RESP 5 to a download of the next file, where none is selected
+pub none-selected-leaves : NothingElseBy nextFile
+none-selected-leaves = demand-1 .download-errors _ _ _ _ _ _ _ (computed .refusals .none-selected) .left
+
+-- DL_ERROR_RESP 8 to a SELECT for titles greater than "m": "a refused SELECT keeps the old selection"
+pub title-above-m-leaves : NothingElseBy titleAboveM
+title-above-m-leaves = demand-1 .download-errors _ _ _ _ _ _ _ (computed .refusals .title-above-m) .left
+
+-- UL_NAK_RESP 16 to a DATA_END that comes too early: the upload is over, and nothing else of the session changed
+pub too-few-naks : Naks (serverAt small halfway) (lentAt small halfway) 1 8 dataEnd output 16
+too-few-naks = demand-1 .naks _ _ _ _ _ _ _ (computed .refusals .too-few)
+
+-- UL_NAK_RESP 16 to a DATA that passes the announced length
+pub too-many-naks : Naks (serverAt small halfway) (lentAt small halfway) 1 8 data41 output 16
+too-many-naks = demand-1 .naks _ _ _ _ _ _ _ (computed .refusals .too-many)
+
+-- a state that calls made fits and is sound, so its calls are never refused by 33 or 35
+good : Good (serverAt small opened) (lentAt small opened)
+good = good-after small small-legal opened
+
+reached : (clock : ℕ) (bytes out : List ℕ) → Reachable (serverAt small opened) (receive 1 clock bytes out)
+reached clock bytes out =
+    record { from-one = omega arith; in-range = omega (arith, computed .locals .sessions); in-state = computed .locals .linked }
+
+-- 33: whatever is called with a disk that is one byte too short
+pub short-disk-by-33 : (c : Call) → RefusedBy (serverAt small opened) (with255 (lentAt small opened)) c 33
+short-disk-by-33 c = demand-1 .locals _ _ c .by33 (computed .locals .short-disk)
+
+-- 35: whatever is called in a state that names a file place which is not there
+pub unsound-by-35 : (c : Call) → RefusedBy (serverAt small opened) (withOwner 2 (lentAt small opened)) c 35
+unsound-by-35 c = demand-1 .locals _ _ c .by35 (computed .locals .lost-block) (computed .locals .unsound)
+
+-- 34: a login of session 2, where there is one session
+pub second-by-34 : RefusedBy (serverAt small opened) (lentAt small opened) (login 2 6 output) 34
+second-by-34 =
+    demand-1 .locals _ _ (login 2 6 output) .by34 (good .fits) (good .sound) (λ r. omega (arith, r .in-range, computed .locals .sessions))
+
+-- 32: an output of 257 bytes
+pub output-by-32 : RefusedBy (serverAt small opened) (lentAt small opened) (receive 1 6 (upload 0) (replicate 257 0)) 32
+output-by-32 =
+    demand-1 .locals _ _ (receive 1 6 (upload 0) (replicate 257 0)) .by32 (good .fits) (good .sound) (reached _ _ _)
+    (omega (arith, length-replicate {A = ℕ} 257 0))
+
+-- none of these: an output of 258 bytes
+pub none-refused : (n : ℕ) → RefusedBy (serverAt small opened) (lentAt small opened) (rx 6 (upload 0)) n → ⊥
+none-refused = demand-1 .locals _ _ (rx 6 (upload 0)) .by-none (good .fits) (good .sound) (reached _ _ _) room
+
+-- making with 0 blocks is refused by 33, and what was lent stays as it was
+pub no-blocks-by-33 :
+    makeOf 0 1 1 1 256 (0 ∷ []) (0 ∷ []) (replicate 4 0) (0 ∷ []) output
+    ≡ makes (record { refused = 33; server = newServer 0 1 1 1 }) (emptied (0 ∷ []) (0 ∷ []) (replicate 4 0) (0 ∷ []) output)
+no-blocks-by-33 = demand-1 .making 0 1 1 1 256 _ _ _ _ _ .by33 (computed .locals .no-blocks)
+
+-- making with one of each is not refused
+pub least-made :
+    makeOf 1 1 1 1 256 (0 ∷ []) (0 ∷ []) (replicate 4 0) (0 ∷ []) output
+    ≡ makes (record { refused = 0; server = newServer 1 1 1 1 }) (emptyOf 1 1 1 1 (0 ∷ []) (0 ∷ []) (replicate 4 0) (0 ∷ []) output)
+least-made = demand-1 .making 1 1 1 1 256 _ _ _ _ _ .by-none (computed .locals .least)
+
+-- ---- demand 2
+
+-- SELECT_RESP with number 3 reads back
+pub select-resp-reads : Reads (leftIn (writeAnswer 17 (3 ∷ 0 ∷ []) output) 17 (3 ∷ 0 ∷ []) output) 17 (3 ∷ 0 ∷ [])
+select-resp-reads = demand-2 .written 17 (3 ∷ 0 ∷ []) output (omega arith) (omega arith) (omega (arith, room))
+
+-- and so does the UL_GO_RESP that the server sends
+pub go-reads : SentReads (callOf (serverAt small opened) (lentAt small opened) (rx 6 (upload 0))) 10
+go-reads = demand-2 .sent _ _ (rx 6 (upload 0)) 10 10 (computed .packets .go)
+
+-- a packet of type 18 closes the link at its second byte
+pub type-18-closes : ClosesBy (serverAt small opened) (lentAt small opened) 1 6 type18 output 2
+type-18-closes =
+    subst (ClosesBy (serverAt small opened) (lentAt small opened) 1 6 type18 output) (computed .closings .taken-18)
+    (demand-2 .closing _ _ 1 6 type18 output 0 (computed .closings .goes) .closes (computed .closings .type-18))
+
+-- so does an announced length of 257
+pub length-257-closes : ClosesBy (serverAt small opened) (lentAt small opened) 1 6 length257 output 2
+length-257-closes =
+    subst (ClosesBy (serverAt small opened) (lentAt small opened) 1 6 length257 output) (computed .closings .taken-257)
+    (demand-2 .closing _ _ 1 6 length257 output 0 (computed .closings .goes) .closes (computed .closings .length-257))
+
+-- and where a link was closed, its bytes ended in something unwelcome
+pub closed-for-a-reason : Unwelcome (linkOf (serverAt small opened) 0) (eventAt (serverAt small opened) (lentAt small opened) 0 length257)
+closed-for-a-reason = demand-2 .closing _ _ 1 6 length257 output 0 (computed .closings .goes) .only 2 length-257-closes
+
+-- the closed link leaves what a lost one leaves
+pub type-18-as-lost : SameAsLost (serverAt small opened) (lentAt small opened) 1 6 type18 output
+type-18-as-lost = demand-2 .closing-is-losing _ _ 1 6 type18 output 2 type-18-closes
+
+-- UPLOAD_CMD lent in two calls, cut behind its second byte, or in one
+pub cut-in-two : SameAfter small (beforeUpload ▸ rx 10 (8 ∷ 3 ∷ []) ▸ rx 11 (drop 2 (upload 1))) (beforeUpload ▸ rx 11 (upload 1))
+cut-in-two =
+    demand-2 .cut small small-legal _ _
+    (joined beforeUpload 1 10 11 (8 ∷ 3 ∷ []) (drop 2 (upload 1)) output output (computed .lost-once .ends) room room)
+
+-- the first byte of the one link's DATA_END before or after the other link's DATA_END
+pub passes-the-other : SameAfter pair (uploads ▸ of 1 6 (0 ∷ []) ▸ of 2 7 dataEnd) (uploads ▸ of 2 7 dataEnd ▸ of 1 6 (0 ∷ []))
+passes-the-other =
+    demand-2 .cut pair pair-legal _ _
+    (passed uploads 1 6 (0 ∷ []) output (of 2 7 dataEnd) (computed .packets .first-byte) (λ e. omega (arith, e)))
+
+-- bytes behind a packet's end are not taken
+pub behind-the-end : SameAfter pair (uploads ▸ of 1 7 (dataEnd ++ upload 0)) (uploads ▸ of 1 7 dataEnd)
+behind-the-end = demand-2 .cut pair pair-legal _ _ (untaken uploads 1 7 dataEnd (upload 0) output _ (computed .packets .last-byte))
+
+-- the first byte lent earlier, before the other link's DATA_END
+pub byte-earlier :
+    SameAfter pair ((uploads ▸ of 1 6 (0 ∷ [])) ▸▸ (of 2 7 dataEnd ∷ []) ▸ of 1 7 (1 ∷ [])) (uploads ▸▸ (of 2 7 dataEnd ∷ []) ▸ of 1 7 dataEnd)
+byte-earlier =
+    demand-2 .earlier pair pair-legal uploads 1 6 7 (0 ∷ []) (1 ∷ []) output output (of 2 7 dataEnd ∷ []) (omega arith)
+    (computed .packets .first-byte) refl room room
+
+-- a driver that may call 100 times gets no further than one that calls 10 times for 10 bytes
+pub ten-calls : feed 100 (after small opened) 1 6 output (upload 0) ≡ feedAll (after small opened) 1 6 output (upload 0)
+ten-calls = demand-2 .enough (after small opened) 1 6 output (upload 0) 100 (omega arith)
+
+-- the same bytes in one piece and in three
+pub three-pieces :
+    feedPieces (after small opened) 1 6 output (upload 0 ∷ [])
+    ≡ feedPieces (after small opened) 1 6 output ((8 ∷ []) ∷ (3 ∷ 0 ∷ 0 ∷ []) ∷ (0 ∷ 0 ∷ 80 ∷ 0 ∷ 0 ∷ 0 ∷ []) ∷ [])
+unfolding flatten
+three-pieces =
+    demand-2 .pieces small small-legal opened 1 6 output room (upload 0 ∷ [])
+    ((8 ∷ []) ∷ (3 ∷ 0 ∷ 0 ∷ []) ∷ (0 ∷ 0 ∷ 80 ∷ 0 ∷ 0 ∷ 0 ∷ []) ∷ []) refl
+
+-- uniqueness: whatever meets the contract of this login has left LOGIN_RESP in the output
+pub one-login : (one : Opened) → one ≡ loginOf (serverAt small start) (lentAt small start) output 1 5
+    → one .out ≡ 5 ∷ 2 ∷ 5 ∷ 0 ∷ 0 ∷ 0 ∷ 4 ∷ replicate 251 0
+one-login one e = ap (λ (o : Opened). o .out) (calls-determined .login _ _ output 1 5 one _ e refl) ∙ computed .packets .hello
+
+-- ---- demand 3
+
+-- a file is at a place, since its number is not 0
+live : (s : Start) (h : History) (place n size received time : ℕ)
+    → filesAt s h place .file ≡ record { number = n; size = size; received = received; time = time } → 1 ≤ n → Live (filesAt s h place)
+live s h place n size received time e above z = omega (arith, above, sym (ap (λ (f : File). f .number) e) ∙ z)
+
+-- and it is complete, since its time is not 0
+timed : (s : Start) (h : History) (place n size received time : ℕ)
+    → filesAt s h place .file ≡ record { number = n; size = size; received = received; time = time } → 1 ≤ time
+    → filesAt s h place .file .time ≡ 0 → ⊥
+timed s h place n size received time e above z = omega (arith, above, sym (ap (λ (f : File). f .time) e) ∙ z)
+
+live-half : Live (filesAt small beforeUpload 0)
+live-half = live small beforeUpload 0 1 80 40 0 (computed .lost-once .partial) (omega arith)
+
+live-whole : Live (filesAt small lostOnce 0)
+live-whole = live small lostOnce 0 1 80 80 4 (computed .lost-once .file) (omega arith)
+
+whole : filesAt small lostOnce 0 .file .time ≡ 0 → ⊥
+whole = timed small lostOnce 0 1 80 80 4 (computed .lost-once .file) (omega arith)
+
+-- the one block is free or belongs to one file
+pub one-block : Free (serverAt small lostOnce) (lentAt small lostOnce) 0 ⊎ Owned (serverAt small lostOnce) (lentAt small lostOnce) 0
+one-block = demand-3 small small-legal lostOnce .blocks 0 (unfold small in omega arith)
+
+-- file 1 has the one block that was reserved for it
+pub its-blocks : blocks 1 (ownerPart (serverAt small lostOnce) (lentAt small lostOnce)) ≡ 1
+its-blocks =
+    demand-3 small small-legal lostOnce .held .each 0 live-whole
+    ∙ ap (λ (f : File). reserved small lostOnce (f .number)) (computed .lost-once .file) ∙ computed .lost-once .blocks
+
+-- the second number given is above the first
+pub numbers-rise : getD (numbersGiven small tooEarly) 0 0 < getD (numbersGiven small tooEarly) 1 0
+numbers-rise =
+    let two : length (numbersGiven small tooEarly) ≡ 2 = ap (λ (ns : List ℕ). length ns) (computed .too-early .numbers) in
+    demand-3 small small-legal tooEarly .numbers .rising 0 1 (omega arith) (omega (arith, two))
+
+-- no other place has a file with number 1
+pub only-one : (q : ℕ) → filesAt pair both 0 .file .number ≡ filesAt pair both q .file .number → 0 ≡ q
+only-one q e = demand-3 pair pair-legal both .numbers .apart 0 q (live pair both 0 1 80 80 7 (computed .both .file) (omega arith)) e
+
+-- after the lost link the partial file is the 40 bytes of the whole DATA packet
+pub half-bytes : filesAt small beforeUpload 0 .bytes ≡ take 40 smallest
+half-bytes =
+    demand-3 small small-legal beforeUpload .contents 0 live-half .partial (ap (λ (f : File). f .time) (computed .lost-once .partial))
+    ∙ ap (λ (f : File). accepted small beforeUpload (f .number)) (computed .lost-once .partial) ∙ computed .lost-once .half
+
+-- the complete file is what was accepted, with its fields set to number 1 and time 4
+pub lost-once-bytes : filesAt small lostOnce 0 .bytes ≡ fieldsSet 1 4 smallest
+lost-once-bytes =
+    demand-3 small small-legal lostOnce .contents 0 live-whole .complete whole
+    ∙ ap (λ (f : File). fieldsSet (f .number) (f .time) (accepted small lostOnce (f .number))) (computed .lost-once .file)
+    ∙ ap (fieldsSet 1 4) (computed .lost-once .bytes)
+
+-- and what was accepted passes the checks of DATA_END
+pub lost-once-checked : verdict smallest (length smallest) ≡ 0
+lost-once-checked =
+    sym (ap (λ (bs : List ℕ). verdict bs (length bs))
+    (ap (λ (f : File). accepted small lostOnce (f .number)) (computed .lost-once .file) ∙ computed .lost-once .bytes))
+    ∙ demand-3 small small-legal lostOnce .contents 0 live-whole .checked whole
+
+-- the file that the server has session 2 upload is the one that UL_GO_RESP named to it
+pub second-uploads : uploading (serverAt pair uploads) (lentAt pair uploads) 1 ≡ 2
+second-uploads = demand-3 pair pair-legal uploads .under 1 (computed .both .linked) ∙ computed .both .second
+
+-- DATA_END of session 2 leaves file 1, the one of session 1, as it was
+pub other-file-kept : filesAt pair (uploads ▸ of 2 7 dataEnd) 0 ≡ filesAt pair uploads 0
+other-file-kept =
+    demand-3 pair pair-legal uploads .own (of 2 7 dataEnd) 0 (live pair uploads 0 1 80 80 0 (computed .both .beside) (omega arith))
+    (λ e. omega (arith, sym (ap (λ (f : File). f .number) (computed .both .beside)) ∙ e ∙ computed .both .second))
+
+-- the continuation offers 40, the length of what was accepted
+pub offers-40 : 40 ≡ length (accepted small beforeUpload 1)
+offers-40 =
+    let go : typeOf (sentAt small beforeUpload (rx 10 (upload 1))) ≡ 4 = ap typeOf (computed .lost-once .offer) in
+    sym (computed .lost-once .offered)
+    ∙ demand-3 small small-legal beforeUpload .offers (rx 10 (upload 1)) go (λ z. omega (arith, z, computed .lost-once .continued)) .1
+    ∙ ap (λ (n : ℕ). length (accepted small beforeUpload n)) (computed .lost-once .continued)
+
+-- of two files completed in one second the second one has the later time
+pub times-apart : getD (0 ∷ times (completions pair both)) 1 0 < getD (0 ∷ times (completions pair both)) 2 0
+times-apart =
+    let three : length (0 ∷ times (completions pair both)) ≡ 3 = ap (λ (cs : List Completion). length (0 ∷ times cs)) (computed .both .complete) in
+    demand-3 pair pair-legal both .times .rising 1 2 (omega arith) (omega (arith, three))
+
+-- a complete file has the time of its completion
+pub own-time : Listed (completion 1 7) (completions pair both)
+own-time =
+    subst (λ (f : File). Listed (completion (f .number) (f .time)) (completions pair both)) (computed .both .file)
+    (demand-3 pair pair-legal both .times .own 0 (live pair both 0 1 80 80 7 (computed .both .file) (omega arith))
+    (timed pair both 0 1 80 80 7 (computed .both .file) (omega arith)))
+
+-- and the file that was completed still stands
+pub still-stands : Stands (filesAt pair both) (completion 1 7)
+still-stands = demand-3 pair pair-legal both .times .kept (completion 1 7) own-time
+
+-- ---- "only the four", for a history of bytes
+
+unfoldable bytesTest : List ℕ → Bool
+bytesTest [] = true
+bytesTest (b ∷ bs) = cond (ltb b 256) (bytesTest bs) false
+
+by-test : (xs : List ℕ) → bytesTest xs ≡ true → AreBytes xs
+unfolding bytesTest
+by-test [] e = tt
+by-test (b ∷ bs) e = go (ltb b 256) refl e (by-test bs)
+  where
+    go : (t : Bool) → ltb b 256 ≡ t → cond t (bytesTest bs) false ≡ true → (bytesTest bs ≡ true → AreBytes bs) → (b < 256) × AreBytes bs
+    go true l e f = (ltb-true b 256 l, f e)
+    go false l e f = let z : _≡_ {A = ℕ} 0 1 = cc in absurd (omega arith)
+
+pub of-bytes : OfBytes small lostOnce
+unfolding small opened halfway beforeUpload lostOnce smallest bytesTest
+of-bytes = (
+  (
+    (
+      (
+        (
+          (
+            (((by-test (replicate 258 0) refl, tt), by-test (upload 0) refl), by-test (40 ∷ 0 ∷ take 40 smallest) refl),
+            by-test (40 ∷ 0 ∷ take 9 (drop 40 smallest)) refl,
+          ),
+          tt,
+        ),
+        tt,
+      ),
+      by-test (upload 1) refl,
+    ),
+    by-test (40 ∷ 0 ∷ drop 40 smallest) refl,
+  ),
+  by-test dataEnd refl,
+)
+
+four : OnlyFour smallest (filesAt small lostOnce 0 .bytes)
+four =
+    subst (λ (bs : List ℕ). OnlyFour bs (filesAt small lostOnce 0 .bytes))
+    (ap (λ (f : File). accepted small lostOnce (f .number)) (computed .lost-once .file) ∙ computed .lost-once .bytes)
+    (demand-3 small small-legal lostOnce .fields of-bytes 0 live-whole whole)
+
+-- file_size is none of the four fields, so its first byte is the 80 that was accepted
+pub file-size-kept : getD (filesAt small lostOnce 0 .bytes) 29 0 ≡ 80
+unfolding smallest
+file-size-kept =
+    let o = computed .lost-once .file-size in
+    four .rest 29 (o .0) (o .1) (o .2) (o .3)
