@@ -4,12 +4,12 @@
 use mathlib.Core.Path.{_≡_, refl}
 use mathlib.Core.Bool.{true, false}
 use mathlib.Core.Logic.{inl, inr}
-use mathlib.Core.List.{List, [], _∷_}
+use mathlib.Core.List.{List, [], _∷_, _++_}
 use mathlib.Core.Option.{none, some}
 use Prim.Native.Nat.{ℕ}
 use native.Mathlib.Omega.{arith}
 use lib.Count.{ones, trailingZeros}
-use lib.ListN.{replicate, take, drop}
+use lib.ListN.{length, getD, replicate, take, drop}
 use Rattle.packet.specs.Machine.{call}
 use Rattle.packet.specs.Frame.{Held, packet, byte}
 use Rattle.header.proofs.Examples.{smallest}
@@ -17,17 +17,20 @@ use Rattle.header.specs.Header.{placeOf}
 use Rattle.session.specs.declared.state.Uplink.the-variants as up
 use Rattle.session.specs.declared.reply.Answer.the-variants as answer
 use Rattle.server.specs.declared.check.Check.the-variants.{Go}
-use Rattle.server.specs.State.{Lent, lent, linkOf, part}
+use Rattle.blocks.specs.FreeMap.{bitAt}
+use Rattle.server.specs.State.{Lent, lent, linkOf, part, mapPart, ownerPart}
 use Rattle.server.specs.Check.{fits}
 use Rattle.server.specs.Making.{newServer}
 use Rattle.server.specs.Calls.{loginOf}
 use Rattle.decide.specs.Words.{wordAt}
-use Rattle.history.specs.Calls.{Call, login, receive, lose, callOf, Start, legal, History, start, _▸_}
+use Rattle.history.specs.Calls.{Call, login, receive, lose, callOf, Start, legal, History, start, _▸_, after}
 use Rattle.demands.specs.Parts.{checkIn}
 use Rattle.demands.specs.Closing.{eventAt, Unwelcome, long, unexpected}
-use Rattle.demands.specs.Cut.{endsIn}
-use Rattle.demands.specs.Accepted.{uploadOf, accepted, reserved, numbersGiven, completion, completions}
-use Rattle.demands.specs.Demand1.{Says, Fits, IsSound}
+use Rattle.demands.specs.Cut.{endsIn, seen, sent, closed}
+use Rattle.demands.specs.Feeding.{feedAll, feedPieces}
+use Rattle.demands.specs.Events.{given, added, finished, dropped}
+use Rattle.demands.specs.Accepted.{uploadOf, accepted, reserved, numbersGiven, total, completion, completions}
+use Rattle.demands.specs.Demand1.{Says, Fits, IsSound, forgotten, cleared}
 use Rattle.demands.specs.Demand3.{serverAt, lentAt, filesAt, sentAt, infoAt, Outside}
 use Rattle.packet.specs.Frame as packet-frame
 use Rattle.packet.specs.Machine as packet-machine
@@ -66,6 +69,8 @@ use Rattle.server.specs.Calls as server-calls
 use Rattle.server.specs.Turns as server-turns
 use Rattle.server.specs.Making as server-making
 use Rattle.history.specs.Calls as history-calls
+use Rattle.demands.specs.Cut as demands-cut
+use Rattle.demands.specs.Feeding as demands-feeding
 use Rattle.demands.specs.Events as demands-events
 use Rattle.demands.specs.Accepted as demands-accepted
 
@@ -141,8 +146,14 @@ unfoldable pub beforeUpload : History
 beforeUpload = halfway ▸ rx 8 (40 ∷ 0 ∷ take 9 (drop 40 smallest)) ▸ lose 1 ▸ on 9
 
 -- the file is continued and completed, and the clock runs backwards
+unfoldable pub continued : History
+continued = beforeUpload ▸ rx 10 (upload 1)
+
+abbrev pub rest : Call
+rest = rx 11 (40 ∷ 0 ∷ drop 40 smallest)
+
 unfoldable pub lostOnce : History
-lostOnce = beforeUpload ▸ rx 10 (upload 1) ▸ rx 11 (40 ∷ 0 ∷ drop 40 smallest) ▸ rx 4 dataEnd
+lostOnce = continued ▸ rest ▸ rx 4 dataEnd
 
 -- DATA_END comes too early, so the file is discarded; the next one gets the next number, and the same block
 unfoldable pub tooEarly : History
@@ -201,6 +212,9 @@ pub record Refusals : Type 0 where
   pub too-few : SaysAt halfway 8 dataEnd 7 16
   -- UL_NAK_RESP 16: "A DATA that would pass the announced length", 40 and 41 being more than 80; the session ignores further DATA
   pub too-many : SaysAt halfway 8 data41 7 16
+  -- a packet that is wholly taken leaves nothing unfinished
+  pub same-server : forgotten (serverAt small opened) 0 ≡ serverAt small opened
+  pub same-lent : cleared 0 (lentAt small opened) ≡ lentAt small opened
   pub ignoring : linkOf (callOf (serverAt small halfway) (lentAt small halfway) (rx 8 data41) .done .server) 0 .up ≡ up.Ignoring
 
 -- the lent slices with a disk of 255 bytes, and with the first block said to be of another owner
@@ -239,11 +253,21 @@ pub record Closings : Type 0 where
   pub length-257 : Unwelcome (linkOf (serverAt small opened) 0) (eventAt (serverAt small opened) (lentAt small opened) 0 length257)
   pub taken-257 : call byte (unfinished small opened) length257 .taken ≡ 2
 
+-- UL_GO_RESP (4): number 1, offset 0
+abbrev goResp : List ℕ
+goResp = 8 ∷ 4 ∷ 1 ∷ 0 ∷ 0 ∷ 0 ∷ 0 ∷ 0 ∷ 0 ∷ 0 ∷ []
+
 pub record Packets : Type 0 where
   -- LOGIN_RESP (2): the clock, 5, and the flags, 4
   pub hello : loginOf (serverAt small start) (lentAt small start) output 1 5 .out ≡ 5 ∷ 2 ∷ 5 ∷ 0 ∷ 0 ∷ 0 ∷ 4 ∷ replicate 251 0
   -- UPLOAD_CMD: its 10 bytes are taken, and 10 are sent
   pub go : callOf (serverAt small opened) (lentAt small opened) (rx 6 (upload 0)) .done .answer ≡ answer.Sent 10 10
+  -- what the links see: LOGIN_RESP, and the link closed
+  pub seen-two : seen small (opened ▸ rx 6 type18) ≡ sent 1 (5 ∷ 2 ∷ 5 ∷ 0 ∷ 0 ∷ 0 ∷ 4 ∷ []) ∷ closed 1 ∷ []
+  -- a driver that has UPLOAD_CMD and the packet of type 18 in one piece sees UL_GO_RESP, and the link closed
+  pub fed : feedAll (after small opened) 1 6 output (upload 0 ++ type18) .seen ≡ sent 1 goResp ∷ closed 1 ∷ []
+  -- one that has UPLOAD_CMD in two pieces sees UL_GO_RESP
+  pub fed-pieces : feedPieces (after small opened) 1 6 output ((8 ∷ 3 ∷ []) ∷ drop 2 (upload 0) ∷ []) .seen ≡ sent 1 goResp ∷ []
   -- the first byte of DATA_END ends nothing, and the second ends the packet
   pub first-byte : endsIn pair uploads 1 (0 ∷ []) ≡ none
   pub last-byte : endsIn pair uploads 1 dataEnd ≡ some (packet 1 [])
@@ -254,7 +278,7 @@ pub record LostOnce : Type 0 where
   pub ends : endsIn small beforeUpload 1 (8 ∷ 3 ∷ []) ≡ none
   pub half : accepted small beforeUpload 1 ≡ take 40 smallest
   pub partial : filesAt small beforeUpload 0 .file ≡ record { number = 1; size = 80; received = 40; time = 0 }
-  pub continued : wordAt (infoAt small beforeUpload 1 (upload 1)) 0 ≡ 1
+  pub named : wordAt (infoAt small beforeUpload 1 (upload 1)) 0 ≡ 1
   pub offer : sentAt small beforeUpload (rx 10 (upload 1)) ≡ 8 ∷ 4 ∷ 1 ∷ 0 ∷ 0 ∷ 0 ∷ 40 ∷ 0 ∷ 0 ∷ 0 ∷ []
   pub offered : wordAt (sentAt small beforeUpload (rx 10 (upload 1))) 6 ≡ 40
   pub numbers : numbersGiven small lostOnce ≡ 1 ∷ []
@@ -262,8 +286,18 @@ pub record LostOnce : Type 0 where
   pub blocks : reserved small lostOnce 1 ≡ 1
   pub complete : completions small lostOnce ≡ completion 1 4 ∷ []
   pub file : filesAt small lostOnce 0 .file ≡ record { number = 1; size = 80; received = 80; time = 4 }
-  -- byte 29 is the first of file_size, and of none of the four items that the server sets
-  pub file-size : Outside 29 (placeOf 1 smallest) × Outside 29 (placeOf 6 smallest) × Outside 29 (placeOf 10 smallest) × Outside 29 (placeOf 18 smallest)
+  -- the block is free at first, and then owned by place 0
+  pub free : bitAt (mapPart (serverAt small start) (lentAt small start)) 0 ≡ 1
+  pub bit : bitAt (mapPart (serverAt small lostOnce) (lentAt small lostOnce)) 0 ≡ 0
+  pub owner : getD (ownerPart (serverAt small lostOnce) (lentAt small lostOnce)) 0 0 ≡ 1
+  pub sum : total (length (numbersGiven small lostOnce)) (reserved small lostOnce) ≡ 1
+  -- what the packets tell
+  pub begun : demands-accepted.eventAt small opened (rx 6 (upload 0)) ≡ given 1 80
+  pub more : demands-accepted.eventAt small continued rest ≡ added 1 (drop 40 smallest)
+  pub ended : demands-accepted.eventAt small (continued ▸ rest) (rx 4 dataEnd) ≡ finished 1 4
+  -- bytes 4 and 9 stand just before and just behind file_number, and in none of the four items that the server sets
+  pub before : Outside 4 (placeOf 1 smallest) × Outside 4 (placeOf 6 smallest) × Outside 4 (placeOf 10 smallest) × Outside 4 (placeOf 18 smallest)
+  pub behind : Outside 9 (placeOf 1 smallest) × Outside 9 (placeOf 6 smallest) × Outside 9 (placeOf 10 smallest) × Outside 9 (placeOf 18 smallest)
 
 pub record TooEarly : Type 0 where
   pub numbers : numbersGiven small tooEarly ≡ 1 ∷ 2 ∷ []
@@ -272,6 +306,7 @@ pub record TooEarly : Type 0 where
   pub freed : reserved small tooEarly 1 ≡ 0
   pub blocks : reserved small tooEarly 2 ≡ 1
   pub complete : completions small tooEarly ≡ []
+  pub gone : demands-accepted.eventAt small halfway (rx 8 dataEnd) ≡ dropped 1
   pub file : filesAt small tooEarly 0 .file ≡ record { number = 2; size = 80; received = 0; time = 0 }
 
 -- two links, two files: each link uploads its own, and the second of the two completed at time 7 gets time 8
@@ -298,7 +333,7 @@ clash e = let z : _≡_ {A = ℕ} 0 1 = cc in omega arith
 
 pub computed : Computed
 unfolding
-    small opened halfway beforeUpload lostOnce tooEarly pair uploads both smallest ones trailingZeros links-sound.downlinkSound demands-events.sentBy demands-accepted.namedBy
+    small opened halfway beforeUpload continued lostOnce tooEarly pair uploads both smallest ones trailingZeros links-sound.downlinkSound demands-events.sentBy demands-accepted.namedBy
     demands-accepted.noneBy demands-accepted.uploadOf packet-frame.judged packet-frame.byte packet-frame.withoutPacket packet-frame.answerBy
     packet-frame.answerOf packet-frame.receiveOf packet-machine.called packet-machine.call packet-numbers.number packet-packet.packetOf
     session-expected.expectedUp session-expected.expected session-reply.tell session-reply.answered table-table.files table-table.putTable
@@ -323,7 +358,7 @@ unfolding
     server-check.roomFits server-check.soundParts server-check.inState server-check.sessionCheck server-check.checkParts server-calls.answeredBy
     server-calls.heardBy server-calls.stepOf server-calls.onCheck server-calls.receiveOf server-calls.onLogin server-calls.loginOf
     server-calls.onLose server-calls.loseOf server-turns.hearOf server-turns.sizeIn server-turns.putBack server-turns.actOf
-    server-making.emptyOf server-making.makeOf history-calls.made history-calls.after demands-events.onQuiet demands-events.onGo
+    server-making.emptyOf server-making.makeOf history-calls.made history-calls.after demands-cut.seenIn demands-cut.seen demands-feeding.onward demands-feeding.feed demands-feeding.feedPieces demands-events.onQuiet demands-events.onGo
     demands-events.onSent demands-events.onAnswer demands-accepted.addedBy demands-accepted.accepted demands-accepted.reservedBy
     demands-accepted.reserved demands-accepted.total demands-accepted.givenBy demands-accepted.numbersGiven demands-accepted.fromOne
     demands-accepted.lastFrom demands-accepted.completedBy demands-accepted.completions
@@ -337,6 +372,8 @@ computed =
         title-above-m = record { taken = 7; answered = refl; packet = refl };
         too-few = record { taken = 2; answered = refl; packet = refl };
         too-many = record { taken = 43; answered = refl; packet = refl };
+        same-server = refl;
+        same-lent = refl;
         ignoring = refl;
       };
       locals = record {
@@ -355,12 +392,12 @@ computed =
         length-257 = long;
         taken-257 = refl;
       };
-      packets = record { hello = refl; go = refl; first-byte = refl; last-byte = refl };
+      packets = record { hello = refl; go = refl; seen-two = refl; fed = refl; fed-pieces = refl; first-byte = refl; last-byte = refl };
       lost-once = record {
         ends = refl;
         half = refl;
         partial = refl;
-        continued = refl;
+        named = refl;
         offer = refl;
         offered = refl;
         numbers = refl;
@@ -368,8 +405,16 @@ computed =
         blocks = refl;
         complete = refl;
         file = refl;
-        file-size = (inr (omega arith), inl (omega arith), inl (omega arith), inl (omega arith));
+        free = refl;
+        bit = refl;
+        owner = refl;
+        sum = refl;
+        begun = refl;
+        more = refl;
+        ended = refl;
+        before = (inl (omega arith), inl (omega arith), inl (omega arith), inl (omega arith));
+        behind = (inr (omega arith), inl (omega arith), inl (omega arith), inl (omega arith));
       };
-      too-early = record { numbers = refl; first = refl; second = refl; freed = refl; blocks = refl; complete = refl; file = refl };
+      too-early = record { numbers = refl; first = refl; second = refl; freed = refl; blocks = refl; complete = refl; gone = refl; file = refl };
       both = record { linked = refl; second = refl; beside = refl; numbers = refl; complete = refl; file = refl; other = refl };
     }
