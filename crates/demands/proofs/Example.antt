@@ -1,25 +1,37 @@
--- Two small passes by computation, so that the theorems of demand 3 are seen to speak of files that are there. The store has one block and one
--- file place, and the file is document 01's smallest one of 80 bytes.
-use mathlib.Core.Path.{_≡_, refl, ap, _∙_}
-use mathlib.Core.Bool.{Bool, true, false, cond}
-use mathlib.Core.List.{List, [], _∷_}
-use Prim.Native.Nat.{ℕ, _≤_, _<_}
+-- Small passes and calls, and what the server answers to them: by computation, from the definitions that the contracts cite. AtWork.antt applies
+-- the theorems of the three demands to them, so that each is seen to speak of states, files and packets that are there. The file is document 01's
+-- smallest one of 80 bytes. Assumes nothing.
+use mathlib.Core.Path.{_≡_, refl}
+use mathlib.Core.Bool.{true, false}
+use mathlib.Core.Logic.{inl, inr}
+use mathlib.Core.List.{List, [], _∷_, _++_}
+use mathlib.Core.Option.{none, some}
+use Prim.Native.Nat.{ℕ}
 use native.Mathlib.Omega.{arith}
 use lib.Count.{ones, trailingZeros}
-use lib.Dec.{ltb}
-use lib.ListN.{length, replicate, take, drop, length-replicate}
-use borrow.Author.Tests.{ltb-true}
+use lib.ListN.{length, getD, replicate, take, drop}
+use Rattle.packet.specs.Machine.{call}
+use Rattle.packet.specs.Frame.{Held, packet, byte}
 use Rattle.header.proofs.Examples.{smallest}
-use Rattle.header.specs.Fields.{fieldsSet}
-use Rattle.table.specs.declared.File.{File}
-use Rattle.server.specs.State.{lent}
-use mathlib.Core.Option.{none}
-use Rattle.demands.specs.Cut.{endsIn, SameAfter, joined}
-use Rattle.demands.proofs.CutCalls.{cut-elsewhere}
-use Rattle.history.specs.Calls.{Call, login, receive, lose, Start, legal, History, start, _▸_}
-use Rattle.demands.specs.Accepted.{accepted, reserved, numbersGiven, completion, completions}
-use Rattle.demands.specs.Demand3.{filesAt, sentAt, AreBytes, OfBytes}
-use Rattle.demands.proofs.Theorems.{contents}
+use Rattle.header.specs.Header.{placeOf}
+use Rattle.session.specs.declared.state.Uplink.the-variants as up
+use Rattle.session.specs.declared.reply.Answer.the-variants as answer
+use Rattle.server.specs.declared.check.Check.the-variants.{Go}
+use Rattle.blocks.specs.FreeMap.{bitAt}
+use Rattle.server.specs.State.{Lent, lent, linkOf, part, mapPart, ownerPart}
+use Rattle.server.specs.Check.{fits}
+use Rattle.server.specs.Making.{newServer}
+use Rattle.server.specs.Calls.{loginOf}
+use Rattle.decide.specs.Words.{wordAt}
+use Rattle.history.specs.Calls.{Call, login, receive, lose, callOf, Start, legal, History, start, _▸_, after}
+use Rattle.demands.specs.Parts.{checkIn}
+use Rattle.demands.specs.Closing.{eventAt, Unwelcome, long, unexpected}
+use Rattle.demands.specs.Cut.{endsIn, seen, sent, closed}
+use Rattle.demands.specs.Feeding.{feedAll, feedPieces}
+use Rattle.demands.specs.Events.{given, added, finished, dropped}
+use Rattle.demands.specs.Accepted.{uploadOf, accepted, reserved, numbersGiven, total, completion, completions}
+use Rattle.demands.specs.Demand1.{Says, Fits, IsSound, forgotten, cleared}
+use Rattle.demands.specs.Demand3.{serverAt, lentAt, filesAt, sentAt, infoAt, Outside}
 use Rattle.packet.specs.Frame as packet-frame
 use Rattle.packet.specs.Machine as packet-machine
 use Rattle.packet.specs.Numbers as packet-numbers
@@ -37,12 +49,19 @@ use Rattle.stored.specs.Answers as stored-answers
 use Rattle.header.specs.Items as header-items
 use Rattle.header.specs.Header as header-header
 use Rattle.header.specs.Fields as header-fields
+use Rattle.equation.specs.Relation as equation-relation
+use Rattle.equation.specs.Symbols as equation-symbols
+use Rattle.equation.specs.Tree as equation-tree
+use Rattle.equation.specs.Answer as equation-answer
 use Rattle.files.specs.Uploads as files-uploads
 use Rattle.files.specs.Completion as files-completion
+use Rattle.files.specs.Selection as files-selection
 use Rattle.files.specs.Sound as files-sound
 use Rattle.decide.specs.Uplink as decide-uplink
+use Rattle.decide.specs.Downlink as decide-downlink
 use Rattle.decide.specs.Decide as decide-decide
 use Rattle.carry.specs.Upload as carry-upload
+use Rattle.carry.specs.Download as carry-download
 use Rattle.carry.specs.Carry as carry-carry
 use Rattle.links.specs.Sound as links-sound
 use Rattle.server.specs.Check as server-check
@@ -50,9 +69,14 @@ use Rattle.server.specs.Calls as server-calls
 use Rattle.server.specs.Turns as server-turns
 use Rattle.server.specs.Making as server-making
 use Rattle.history.specs.Calls as history-calls
+use Rattle.demands.specs.Cut as demands-cut
+use Rattle.demands.specs.Feeding as demands-feeding
 use Rattle.demands.specs.Events as demands-events
 use Rattle.demands.specs.Accepted as demands-accepted
 
+-- ---- the small store and what its one link brings
+
+-- one block, one file place, one session, MAXSEL 1
 unfoldable pub small : Start
 small =
     record {
@@ -63,12 +87,16 @@ small =
       lent = lent (replicate 256 0) (0 ∷ []) (0 ∷ []) (0 ∷ 0 ∷ 0 ∷ 0 ∷ []) (0 ∷ []) (replicate 258 0);
     }
 
+-- the output that the driver lends
+abbrev pub output : List ℕ
+output = replicate 258 0
+
 -- bytes of the one link at a clock reading
 abbrev pub rx : ℕ → List ℕ → Call
-rx clock bytes = receive 1 clock bytes (replicate 258 0)
+rx clock bytes = receive 1 clock bytes output
 
 abbrev pub on : ℕ → Call
-on clock = login 1 clock (replicate 258 0)
+on clock = login 1 clock output
 
 -- UPLOAD_CMD for a file of 80 bytes, new (0) or continued
 abbrev pub upload : ℕ → List ℕ
@@ -77,33 +105,199 @@ upload number = 8 ∷ 3 ∷ number ∷ 0 ∷ 0 ∷ 0 ∷ 80 ∷ 0 ∷ 0 ∷ 0 �
 abbrev pub dataEnd : List ℕ
 dataEnd = 0 ∷ 1 ∷ []
 
+-- UPLOAD_CMD (3) with one byte of information, where 8 are wanted
+abbrev pub shortUpload : List ℕ
+shortUpload = 1 ∷ 3 ∷ 0 ∷ []
+
+-- UPLOAD_CMD for a new file of 257 bytes, which needs two blocks
+abbrev pub largeUpload : List ℕ
+largeUpload = 8 ∷ 3 ∷ 0 ∷ 0 ∷ 0 ∷ 0 ∷ 1 ∷ 1 ∷ 0 ∷ 0 ∷ []
+
+-- DOWNLOAD_CMD (8) of number 0, the next selected file
+abbrev pub nextFile : List ℕ
+nextFile = 9 ∷ 8 ∷ 0 ∷ 0 ∷ 0 ∷ 0 ∷ 0 ∷ 0 ∷ 0 ∷ 0 ∷ 0 ∷ []
+
+-- SELECT_CMD (16) for titles (22h) greater than "m"
+abbrev pub titleAboveM : List ℕ
+titleAboveM = 5 ∷ 16 ∷ 147 ∷ 34 ∷ 0 ∷ 1 ∷ 109 ∷ []
+
+-- DATA (0) of 41 bytes
+abbrev pub data41 : List ℕ
+data41 = 41 ∷ 0 ∷ replicate 41 0
+
+-- a packet of type 18 with no information
+abbrev pub type18 : List ℕ
+type18 = 0 ∷ 18 ∷ []
+
+-- 01 20: an announced length of 257
+abbrev pub length257 : List ℕ
+length257 = 1 ∷ 32 ∷ []
+
+-- the link is made
+unfoldable pub opened : History
+opened = start ▸ on 5
+
+-- 40 bytes of a file of 80 are received
+unfoldable pub halfway : History
+halfway = opened ▸ rx 6 (upload 0) ▸ rx 7 (40 ∷ 0 ∷ take 40 smallest)
+
 -- the link is lost in the middle of the second DATA packet, and made again
 unfoldable pub beforeUpload : History
-beforeUpload =
-    start ▸ on 5 ▸ rx 6 (upload 0) ▸ rx 7 (40 ∷ 0 ∷ take 40 smallest) ▸ rx 8 (40 ∷ 0 ∷ take 9 (drop 40 smallest)) ▸ lose 1 ▸ on 9
+beforeUpload = halfway ▸ rx 8 (40 ∷ 0 ∷ take 9 (drop 40 smallest)) ▸ lose 1 ▸ on 9
 
 -- the file is continued and completed, and the clock runs backwards
+unfoldable pub continued : History
+continued = beforeUpload ▸ rx 10 (upload 1)
+
+abbrev pub rest : Call
+rest = rx 11 (40 ∷ 0 ∷ drop 40 smallest)
+
 unfoldable pub lostOnce : History
-lostOnce = beforeUpload ▸ rx 10 (upload 1) ▸ rx 11 (40 ∷ 0 ∷ drop 40 smallest) ▸ rx 4 dataEnd
+lostOnce = continued ▸ rest ▸ rx 4 dataEnd
 
 -- DATA_END comes too early, so the file is discarded; the next one gets the next number, and the same block
 unfoldable pub tooEarly : History
-tooEarly = start ▸ on 5 ▸ rx 6 (upload 0) ▸ rx 7 (40 ∷ 0 ∷ take 40 smallest) ▸ rx 8 dataEnd ▸ rx 9 (upload 0)
+tooEarly = halfway ▸ rx 8 dataEnd ▸ rx 9 (upload 0)
 
 pub small-legal : legal small ≡ true
 unfolding small server-check.sizesFit server-check.roomFits
 small-legal = refl
 
+-- ---- two links at once
+
+-- two blocks, two file places, two sessions
+unfoldable pub pair : Start
+pair =
+    record {
+      blocks = 2;
+      files = 2;
+      sessions = 2;
+      most = 1;
+      lent = lent (replicate 512 0) (0 ∷ []) (0 ∷ 0 ∷ []) (replicate 8 0) (0 ∷ 0 ∷ []) (replicate 516 0);
+    }
+
+-- bytes of the link of session i
+abbrev pub of : ℕ → ℕ → List ℕ → Call
+of i clock bytes = receive i clock bytes output
+
+-- both sessions upload the file, DATA of the first before that of the second
+unfoldable pub uploads : History
+uploads =
+    start ▸ login 1 5 output ▸ login 2 5 output ▸ of 1 6 (upload 0) ▸ of 2 6 (upload 0) ▸ of 1 6 (80 ∷ 0 ∷ smallest) ▸ of 2 6 (80 ∷ 0 ∷ smallest)
+
+-- both files are completed in the same second, 7
+unfoldable pub both : History
+both = uploads ▸ of 1 7 dataEnd ▸ of 2 7 dataEnd
+
+pub pair-legal : legal pair ≡ true
+unfolding pair server-check.sizesFit server-check.roomFits
+pair-legal = refl
+
+-- ---- what the definitions give, by computation
+
+-- the small server answers bytes by a packet of this type with this number
+abbrev pub SaysAt : History → ℕ → List ℕ → ℕ → ℕ → Type 0
+SaysAt h clock bytes kind e = Says (serverAt small h) (lentAt small h) 1 clock bytes output kind e
+
+pub record Refusals : Type 0 where
+  -- UL_ERROR_RESP (5) with number 1: "UPLOAD not 8 .. byte(s) long"
+  pub short-upload : SaysAt opened 6 shortUpload 5 1
+  -- UL_ERROR_RESP 13: "fewer free blocks than needed"
+  pub no-room : SaysAt opened 6 largeUpload 5 13
+  -- DL_ERROR_RESP (9) with number 5: "download of number 0 and no selected file left"
+  pub none-selected : SaysAt opened 6 nextFile 9 5
+  -- DL_ERROR_RESP 8: "equation refused", since "Text knows only equal and not equal"
+  pub title-above-m : SaysAt opened 6 titleAboveM 9 8
+  -- UL_NAK_RESP (7) with number 16: "fewer bytes than announced"
+  pub too-few : SaysAt halfway 8 dataEnd 7 16
+  -- UL_NAK_RESP 16: "A DATA that would pass the announced length", 40 and 41 being more than 80; the session ignores further DATA
+  pub too-many : SaysAt halfway 8 data41 7 16
+  -- a packet that is wholly taken leaves nothing unfinished
+  pub same-server : forgotten (serverAt small opened) 0 ≡ serverAt small opened
+  pub same-lent : cleared 0 (lentAt small opened) ≡ lentAt small opened
+  pub ignoring : linkOf (callOf (serverAt small halfway) (lentAt small halfway) (rx 8 data41) .done .server) 0 .up ≡ up.Ignoring
+
+-- the lent slices with a disk of 255 bytes, and with the first block said to be of another owner
+abbrev pub with255 : Lent → Lent
+with255 l = lent (replicate 255 0) (l .map) (l .owner) (l .table) (l .selected) (l .held)
+
+abbrev pub withOwner : ℕ → Lent → Lent
+withOwner o l = lent (l .disk) (l .map) (o ∷ []) (l .table) (l .selected) (l .held)
+
+pub record Locals : Type 0 where
+  -- 255 bytes are no room for one block: 33
+  pub short-disk : Fits (serverAt small opened) (with255 (lentAt small opened)) → ⊥
+  -- the one block is free by the map, and no place has number 2: 35
+  pub lost-block : Fits (serverAt small opened) (withOwner 2 (lentAt small opened))
+  pub unsound : IsSound (serverAt small opened) (withOwner 2 (lentAt small opened)) → ⊥
+  -- there is no session 2: 34
+  pub sessions : serverAt small opened .sessions ≡ 1
+  -- session 1 is open
+  pub linked : linkOf (serverAt small opened) 0 .linked ≡ true
+  -- no server has 0 blocks
+  pub no-blocks : fits (newServer 0 1 1 1) 256 (0 ∷ []) (0 ∷ []) (replicate 4 0) (0 ∷ []) output ≡ true → ⊥
+  -- one block, one file, one session and MAXSEL 1 are sizes of the table
+  pub least : fits (newServer 1 1 1 1) 256 (0 ∷ []) (0 ∷ []) (replicate 4 0) (0 ∷ []) output ≡ true
+
+-- the unfinished packet of the first session
+abbrev pub unfinished : Start → History → Held
+unfinished s h = record { count = linkOf (serverAt s h) 0 .held; part = part 0 258 (lentAt s h .held) }
+
+pub record Closings : Type 0 where
+  -- no local refusal
+  pub goes : checkIn (serverAt small opened) (lentAt small opened) (rx 6 type18) ≡ Go 0
+  -- "A type 18 to 31", two bytes being taken
+  pub type-18 : Unwelcome (linkOf (serverAt small opened) 0) (eventAt (serverAt small opened) (lentAt small opened) 0 type18)
+  pub taken-18 : call byte (unfinished small opened) type18 .taken ≡ 2
+  -- "An announced length above 256 closes the link at its second byte"
+  pub length-257 : Unwelcome (linkOf (serverAt small opened) 0) (eventAt (serverAt small opened) (lentAt small opened) 0 length257)
+  pub taken-257 : call byte (unfinished small opened) length257 .taken ≡ 2
+
+-- UL_GO_RESP (4): number 1, offset 0
+abbrev goResp : List ℕ
+goResp = 8 ∷ 4 ∷ 1 ∷ 0 ∷ 0 ∷ 0 ∷ 0 ∷ 0 ∷ 0 ∷ 0 ∷ []
+
+pub record Packets : Type 0 where
+  -- LOGIN_RESP (2): the clock, 5, and the flags, 4
+  pub hello : loginOf (serverAt small start) (lentAt small start) output 1 5 .out ≡ 5 ∷ 2 ∷ 5 ∷ 0 ∷ 0 ∷ 0 ∷ 4 ∷ replicate 251 0
+  -- UPLOAD_CMD: its 10 bytes are taken, and 10 are sent
+  pub go : callOf (serverAt small opened) (lentAt small opened) (rx 6 (upload 0)) .done .answer ≡ answer.Sent 10 10
+  -- what the links see: LOGIN_RESP, and the link closed
+  pub seen-two : seen small (opened ▸ rx 6 type18) ≡ sent 1 (5 ∷ 2 ∷ 5 ∷ 0 ∷ 0 ∷ 0 ∷ 4 ∷ []) ∷ closed 1 ∷ []
+  -- a driver that has UPLOAD_CMD and the packet of type 18 in one piece sees UL_GO_RESP, and the link closed
+  pub fed : feedAll (after small opened) 1 6 output (upload 0 ++ type18) .seen ≡ sent 1 goResp ∷ closed 1 ∷ []
+  -- one that has UPLOAD_CMD in two pieces sees UL_GO_RESP
+  pub fed-pieces : feedPieces (after small opened) 1 6 output ((8 ∷ 3 ∷ []) ∷ drop 2 (upload 0) ∷ []) .seen ≡ sent 1 goResp ∷ []
+  -- the first byte of DATA_END ends nothing, and the second ends the packet
+  pub first-byte : endsIn pair uploads 1 (0 ∷ []) ≡ none
+  pub last-byte : endsIn pair uploads 1 dataEnd ≡ some (packet 1 [])
+
 -- UL_GO_RESP offers the 40 bytes of the whole packet; the whole file is accepted and completed
 pub record LostOnce : Type 0 where
   -- two bytes of the next packet end nothing
   pub ends : endsIn small beforeUpload 1 (8 ∷ 3 ∷ []) ≡ none
+  pub half : accepted small beforeUpload 1 ≡ take 40 smallest
+  pub partial : filesAt small beforeUpload 0 .file ≡ record { number = 1; size = 80; received = 40; time = 0 }
+  pub named : wordAt (infoAt small beforeUpload 1 (upload 1)) 0 ≡ 1
   pub offer : sentAt small beforeUpload (rx 10 (upload 1)) ≡ 8 ∷ 4 ∷ 1 ∷ 0 ∷ 0 ∷ 0 ∷ 40 ∷ 0 ∷ 0 ∷ 0 ∷ []
+  pub offered : wordAt (sentAt small beforeUpload (rx 10 (upload 1))) 6 ≡ 40
   pub numbers : numbersGiven small lostOnce ≡ 1 ∷ []
   pub bytes : accepted small lostOnce 1 ≡ smallest
   pub blocks : reserved small lostOnce 1 ≡ 1
   pub complete : completions small lostOnce ≡ completion 1 4 ∷ []
   pub file : filesAt small lostOnce 0 .file ≡ record { number = 1; size = 80; received = 80; time = 4 }
+  -- the block is free at first, and then owned by place 0
+  pub free : bitAt (mapPart (serverAt small start) (lentAt small start)) 0 ≡ 1
+  pub bit : bitAt (mapPart (serverAt small lostOnce) (lentAt small lostOnce)) 0 ≡ 0
+  pub owner : getD (ownerPart (serverAt small lostOnce) (lentAt small lostOnce)) 0 0 ≡ 1
+  pub sum : total (length (numbersGiven small lostOnce)) (reserved small lostOnce) ≡ 1
+  -- what the packets tell
+  pub begun : demands-accepted.eventAt small opened (rx 6 (upload 0)) ≡ given 1 80
+  pub more : demands-accepted.eventAt small continued rest ≡ added 1 (drop 40 smallest)
+  pub ended : demands-accepted.eventAt small (continued ▸ rest) (rx 4 dataEnd) ≡ finished 1 4
+  -- bytes 4 and 9 stand just before and just behind file_number, and in none of the four items that the server sets
+  pub before : Outside 4 (placeOf 1 smallest) × Outside 4 (placeOf 6 smallest) × Outside 4 (placeOf 10 smallest) × Outside 4 (placeOf 18 smallest)
+  pub behind : Outside 9 (placeOf 1 smallest) × Outside 9 (placeOf 6 smallest) × Outside 9 (placeOf 10 smallest) × Outside 9 (placeOf 18 smallest)
 
 pub record TooEarly : Type 0 where
   pub numbers : numbersGiven small tooEarly ≡ 1 ∷ 2 ∷ []
@@ -112,11 +306,34 @@ pub record TooEarly : Type 0 where
   pub freed : reserved small tooEarly 1 ≡ 0
   pub blocks : reserved small tooEarly 2 ≡ 1
   pub complete : completions small tooEarly ≡ []
+  pub gone : demands-accepted.eventAt small halfway (rx 8 dataEnd) ≡ dropped 1
   pub file : filesAt small tooEarly 0 .file ≡ record { number = 2; size = 80; received = 0; time = 0 }
 
-pub passes : LostOnce × TooEarly
+-- two links, two files: each link uploads its own, and the second of the two completed at time 7 gets time 8
+pub record Both : Type 0 where
+  pub linked : linkOf (serverAt pair uploads) 1 .linked ≡ true
+  pub second : uploadOf pair uploads 1 ≡ 2
+  pub beside : filesAt pair uploads 0 .file ≡ record { number = 1; size = 80; received = 80; time = 0 }
+  pub numbers : numbersGiven pair both ≡ 1 ∷ 2 ∷ []
+  pub complete : completions pair both ≡ completion 1 7 ∷ completion 2 8 ∷ []
+  pub file : filesAt pair both 0 .file ≡ record { number = 1; size = 80; received = 80; time = 7 }
+  pub other : filesAt pair both 1 .file ≡ record { number = 2; size = 80; received = 80; time = 8 }
+
+pub record Computed : Type 0 where
+  pub refusals : Refusals
+  pub locals : Locals
+  pub closings : Closings
+  pub packets : Packets
+  pub lost-once : LostOnce
+  pub too-early : TooEarly
+  pub both : Both
+
+clash : false ≡ true → ⊥
+clash e = let z : _≡_ {A = ℕ} 0 1 = cc in omega arith
+
+pub computed : Computed
 unfolding
-    small beforeUpload lostOnce tooEarly smallest ones trailingZeros links-sound.downlinkSound demands-events.sentBy demands-accepted.namedBy
+    small opened halfway beforeUpload continued lostOnce tooEarly pair uploads both smallest ones trailingZeros links-sound.downlinkSound demands-events.sentBy demands-accepted.namedBy
     demands-accepted.noneBy demands-accepted.uploadOf packet-frame.judged packet-frame.byte packet-frame.withoutPacket packet-frame.answerBy
     packet-frame.answerOf packet-frame.receiveOf packet-machine.called packet-machine.call packet-numbers.number packet-packet.packetOf
     session-expected.expectedUp session-expected.expected session-reply.tell session-reply.answered table-table.files table-table.putTable
@@ -141,64 +358,63 @@ unfolding
     server-check.roomFits server-check.soundParts server-check.inState server-check.sessionCheck server-check.checkParts server-calls.answeredBy
     server-calls.heardBy server-calls.stepOf server-calls.onCheck server-calls.receiveOf server-calls.onLogin server-calls.loginOf
     server-calls.onLose server-calls.loseOf server-turns.hearOf server-turns.sizeIn server-turns.putBack server-turns.actOf
-    server-making.emptyOf server-making.makeOf history-calls.made history-calls.after demands-events.onQuiet demands-events.onGo
+    server-making.emptyOf server-making.makeOf history-calls.made history-calls.after demands-cut.seenIn demands-cut.seen demands-feeding.onward demands-feeding.feed demands-feeding.feedPieces demands-events.onQuiet demands-events.onGo
     demands-events.onSent demands-events.onAnswer demands-accepted.addedBy demands-accepted.accepted demands-accepted.reservedBy
     demands-accepted.reserved demands-accepted.total demands-accepted.givenBy demands-accepted.numbersGiven demands-accepted.fromOne
     demands-accepted.lastFrom demands-accepted.completedBy demands-accepted.completions
-passes = (
-  record { ends = refl; offer = refl; numbers = refl; bytes = refl; blocks = refl; complete = refl; file = refl },
-  record { numbers = refl; first = refl; second = refl; freed = refl; blocks = refl; complete = refl; file = refl },
-)
-
--- so the packet may be cut behind them, and the theorem on cutting gives the same state and the same answers
-pub cut-met : SameAfter small (beforeUpload ▸ rx 10 (8 ∷ 3 ∷ []) ▸ rx 11 (drop 2 (upload 1))) (beforeUpload ▸ rx 11 (upload 1))
-cut-met =
-    let room : 258 ≤ length {A = ℕ} (replicate 258 0) = omega (arith, length-replicate {A = ℕ} 258 0) in
-    cut-elsewhere small small-legal _ _
-    (joined beforeUpload 1 10 11 (8 ∷ 3 ∷ []) (drop 2 (upload 1)) (replicate 258 0) (replicate 258 0) (passes .0 .ends) room room)
-
--- so the theorem gives the stored bytes: what was accepted, with its fields set to number 1 and time 4
-pub lost-once-bytes : filesAt small lostOnce 0 .bytes ≡ fieldsSet 1 4 smallest
-lost-once-bytes =
-    let f = passes .0 .file in
-    let n : filesAt small lostOnce 0 .file .number ≡ 1 = ap (λ (x : File). x .number) f in
-    let t : filesAt small lostOnce 0 .file .time ≡ 4 = ap (λ (x : File). x .time) f in
-    contents small small-legal lostOnce 0 (λ z. omega arith) .complete (λ z. omega arith)
-    ∙ ap (λ (x : File). fieldsSet (x .number) (x .time) (accepted small lostOnce (x .number))) f ∙ ap (fieldsSet 1 4) (passes .0 .bytes)
-
--- ---- and it is a history of bytes
-
-unfoldable bytesTest : List ℕ → Bool
-bytesTest [] = true
-bytesTest (b ∷ bs) = cond (ltb b 256) (bytesTest bs) false
-
-by-test : (xs : List ℕ) → bytesTest xs ≡ true → AreBytes xs
-unfolding bytesTest
-by-test [] e = tt
-by-test (b ∷ bs) e = go (ltb b 256) refl e (by-test bs)
-  where
-    go : (t : Bool) → ltb b 256 ≡ t → cond t (bytesTest bs) false ≡ true → (bytesTest bs ≡ true → AreBytes bs) → (b < 256) × AreBytes bs
-    go true l e f = (ltb-true b 256 l, f e)
-    go false l e f = let z : _≡_ {A = ℕ} 0 1 = cc in absurd (omega arith)
-
-pub of-bytes : OfBytes small lostOnce
-unfolding small beforeUpload lostOnce smallest bytesTest
-of-bytes = (
-  (
-    (
-      (
-        (
-          (
-            (((by-test (replicate 258 0) refl, tt), by-test (upload 0) refl), by-test (40 ∷ 0 ∷ take 40 smallest) refl),
-            by-test (40 ∷ 0 ∷ take 9 (drop 40 smallest)) refl,
-          ),
-          tt,
-        ),
-        tt,
-      ),
-      by-test (upload 1) refl,
-    ),
-    by-test (40 ∷ 0 ∷ drop 40 smallest) refl,
-  ),
-  by-test dataEnd refl,
-)
+    session-expected.expectedDown decide-downlink.onFound decide-downlink.onNumbered decide-downlink.onDownload decide-downlink.onDownlink carry-download.closeTurn carry-download.selectedAs carry-download.selectTurn carry-carry.onChooses files-selection.selectNumber files-selection.selectOf equation-symbols.starsIn equation-symbols.goodText equation-symbols.goodNumber equation-symbols.good equation-symbols.connectiveOf equation-symbols.relationAt equation-symbols.tokenOf equation-symbols.follow equation-symbols.symbolsPast equation-tree.pushed equation-tree.joined equation-tree.result equation-tree.bind equation-tree.run equation-tree.parse equation-answer.refusal equation-answer.validityOf equation-relation.width
+computed =
+    record {
+      refusals = record {
+        short-upload = record { taken = 3; answered = refl; packet = refl };
+        no-room = record { taken = 10; answered = refl; packet = refl };
+        none-selected = record { taken = 11; answered = refl; packet = refl };
+        title-above-m = record { taken = 7; answered = refl; packet = refl };
+        too-few = record { taken = 2; answered = refl; packet = refl };
+        too-many = record { taken = 43; answered = refl; packet = refl };
+        same-server = refl;
+        same-lent = refl;
+        ignoring = refl;
+      };
+      locals = record {
+        short-disk = λ e. clash e;
+        lost-block = refl;
+        unsound = λ e. clash e;
+        sessions = refl;
+        linked = refl;
+        no-blocks = λ e. clash e;
+        least = refl;
+      };
+      closings = record {
+        goes = refl;
+        type-18 = unexpected 18 [] refl;
+        taken-18 = refl;
+        length-257 = long;
+        taken-257 = refl;
+      };
+      packets = record { hello = refl; go = refl; seen-two = refl; fed = refl; fed-pieces = refl; first-byte = refl; last-byte = refl };
+      lost-once = record {
+        ends = refl;
+        half = refl;
+        partial = refl;
+        named = refl;
+        offer = refl;
+        offered = refl;
+        numbers = refl;
+        bytes = refl;
+        blocks = refl;
+        complete = refl;
+        file = refl;
+        free = refl;
+        bit = refl;
+        owner = refl;
+        sum = refl;
+        begun = refl;
+        more = refl;
+        ended = refl;
+        before = (inl (omega arith), inl (omega arith), inl (omega arith), inl (omega arith));
+        behind = (inr (omega arith), inl (omega arith), inl (omega arith), inl (omega arith));
+      };
+      too-early = record { numbers = refl; first = refl; second = refl; freed = refl; blocks = refl; complete = refl; gone = refl; file = refl };
+      both = record { linked = refl; second = refl; beside = refl; numbers = refl; complete = refl; file = refl; other = refl };
+    }

@@ -32,3 +32,4 @@ pub mod Offering
 pub mod Naming
 pub mod Whole
 pub mod Example
+pub mod AtWork

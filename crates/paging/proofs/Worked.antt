@@ -1,5 +1,6 @@
--- The worked example, by computation. Assumes nothing.
-use mathlib.Core.Path.{refl}
+-- The worked example, by computation, and the theorems on paging applied to it. Assumes nothing.
+use mathlib.Core.Path.{_≡_, refl, sym, ap, _∙_, subst}
+use mathlib.Core.List.{List, [], _∷_, map, List·Memᴰ}
 use native.Mathlib.Omega.{arith}
 use lib.Count.{ones, onesIn, trailingZeros}
 use Rattle.packet.specs.Packet.{packetOf}
@@ -55,9 +56,18 @@ use Rattle.server.specs.Calls.{answeredBy, heardBy, stepOf, onCheck, onLogin, l
 use Rattle.server.specs.Calls as server
 use Rattle.history.specs.Calls.{made}
 use Rattle.history.specs.Calls as history
-use Rattle.paging.specs.Paging.{pageIn, newestOf, pagedBy}
+use Rattle.server.specs.State.{Outcome, tablePart}
+use Rattle.history.specs.Calls.{callOf, after}
+use Rattle.files.specs.Selection.{numbersAt}
+use Rattle.paging.specs.Client.{asking, pageOf, newerPlaces, Answers}
+use Rattle.paging.specs.Paging.{Entry, entry, stateOf, AllGiven, pageIn, newestOf, pagedBy}
+use Rattle.paging.proofs.Paging.{page-answered, paging, paging-whole}
 use Rattle.paging.specs.Examples.{smallest}
-use Rattle.paging.specs.Worked.{tiny, uploaded, reader, Met}
+use Rattle.paging.specs.Worked.{tiny, uploaded, sized, reader, output, Met}
+
+-- what the first request comes to
+abbrev asked-first : Outcome
+asked-first = callOf (after tiny uploaded .server) (after tiny uploaded .lent) (asking sized 0 1 8 output)
 
 pub met : Met
 unfolding
@@ -81,6 +91,9 @@ met =
       sizes = refl;
       accepted = refl;
       short = omega arith;
+      before = ((((tt, omega arith), omega arith), omega arith), omega arith);
+      may = record { first = omega arith; last = omega arith; linked = refl; idle = refl; nothing-held = refl; room = omega arith };
+      first = refl;
       allowed = (
         (tt, record { first = omega arith; last = omega arith; linked = refl; idle = refl; nothing-held = refl; room = omega arith }),
         record { first = omega arith; last = omega arith; linked = refl; idle = refl; nothing-held = refl; room = omega arith },
@@ -88,4 +101,34 @@ met =
       clocks = ((((((tt, omega arith), omega arith), omega arith), omega arith), omega arith), omega arith);
       finished = omega arith;
       given = refl;
+      complete = omega arith;
+      matched = refl;
+      is = refl;
     }
+
+-- ---- the theorems at work
+
+-- the server's answer to the first request is one page, and no file is changed
+pub first-answered : Answers (after tiny uploaded .server) (after tiny uploaded .lent) sized 0 1 8 output
+first-answered = page-answered tiny (met .sizes) uploaded (met .before) sized (met .accepted) (met .short) 0 (omega arith) 1 8 output (met .may)
+
+-- the page is file 1
+pub first-page : pageOf (asked-first .done .server) (asked-first .lent) 1 ≡ 1 ∷ []
+first-page = first-answered .page ∙ met .first
+
+-- the client has been given every matching complete file once, oldest first
+pub all-given : AllGiven tiny sized reader
+all-given = paging tiny (met .sizes) sized (met .accepted) (met .short) reader (met .allowed) (met .clocks) (met .finished)
+
+-- so the file with number 1 and upload time 7 is among them
+pub one-given : List·Memᴰ (entry 1 7) (pagedBy tiny sized reader .given)
+one-given = subst (λ e. List·Memᴰ e (pagedBy tiny sized reader .given)) (met .is) (all-given .every 0 (met .complete) (met .matched))
+
+-- in the words of the paper: what was given are the numbers of all matching complete files of the store, oldest first
+pub whole-given :
+    1 ∷ []
+    ≡ numbersAt (tablePart (stateOf tiny sized reader .server) (stateOf tiny sized reader .lent))
+    (newerPlaces (stateOf tiny sized reader .server) (stateOf tiny sized reader .lent) sized 0)
+whole-given =
+    ap (λ (es : List Entry). map (λ (e : Entry). e .number) es) (sym (met .given))
+    ∙ paging-whole tiny (met .sizes) sized (met .accepted) (met .short) reader (met .allowed) (met .clocks) (met .finished)

@@ -8,9 +8,10 @@ use Rattle.packet.specs.Numbers.{four}
 use Rattle.packet.specs.Packet.{packetOf}
 use Rattle.equation.specs.Answer.{validityOf}
 use Rattle.server.specs.State.{lent}
-use Rattle.history.specs.Calls.{Call, login, receive, legal, Start, History, start, _▸_}
+use Rattle.history.specs.Calls.{Call, login, receive, legal, Start, History, start, _▸_, after}
 use Rattle.paging.specs.Examples.{smallest}
-use Rattle.paging.specs.Paging.{entry, Client, begins, asks, pagedBy, Allowed, Finished, Clocks}
+use Rattle.paging.specs.Client.{Complete, matching, MayAsk, oldest}
+use Rattle.paging.specs.Paging.{entry, entryAt, filesIn, stateOf, Client, begins, asks, pagedBy, Allowed, Finished, Clocks}
 
 -- the sizes, and memory that has just room for them
 unfoldable pub tiny : Start
@@ -43,12 +44,22 @@ sized = 128 ∷ 4 ∷ 0 ∷ 1 ∷ 80 ∷ []
 unfoldable pub reader : Client
 reader = asks (asks (begins uploaded) 1 8 output) 1 9 output
 
--- the hypotheses of the theorem are met: the client has been given the one file, with number 1 and upload time 7, and its second page was empty
+-- The hypotheses of the theorems on paging are met: the client has been given the one file, with number 1 and upload time 7, and its second page was
+-- empty.
 pub record Met : Type 0 where
   pub sizes : legal tiny ≡ true
   pub accepted : validityOf sized ≡ 0
   pub short : length sized + 9 ≤ 256
+  -- of one page
+  pub before : Clocks uploaded
+  pub may : MayAsk (after tiny uploaded .server) 1 output
+  pub first : oldest (after tiny uploaded .server) (after tiny uploaded .lent) sized 0 ≡ 1 ∷ []
+  -- of the client
   pub allowed : Allowed tiny sized reader
   pub clocks : Clocks (pagedBy tiny sized reader .history)
   pub finished : Finished tiny sized reader
   pub given : pagedBy tiny sized reader .given ≡ entry 1 7 ∷ []
+  -- of the file that it is owed
+  pub complete : Complete (filesIn (stateOf tiny sized reader) 0)
+  pub matched : matching sized (filesIn (stateOf tiny sized reader) 0) ≡ true
+  pub is : entryAt (filesIn (stateOf tiny sized reader)) 0 ≡ entry 1 7

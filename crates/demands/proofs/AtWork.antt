@@ -1,0 +1,642 @@
+-- The theorems of the three demands at work: each that has hypotheses is applied to a small case of Example.antt that meets them, and what it gives
+-- is stated. Assumes nothing.
+use mathlib.Core.Path.{_≡_, refl, ap, _∙_, sym, subst}
+use mathlib.Core.Bool.{Bool, true, false, cond}
+use mathlib.Core.Logic.{_⊎_, inl, inr}
+use mathlib.Core.List.{List, [], _∷_, _++_, flatten}
+use Prim.Native.Nat.{ℕ, _+_, _*_, _-_, _/_, _%_, _≤_, _<_}
+use native.Mathlib.Omega.{arith}
+use lib.Dec.{eqb, leb, ltb}
+use lib.ListN.{length, getD, replicate, take, drop, length-replicate}
+use borrow.Author.Tests.{ltb-true, leb-true, eqb-true}
+use Rattle.packet.specs.Packet.{packetOf, writeAnswer, leftIn, readAnswer}
+use Rattle.packet.specs.declared.plain.Plain.the-variants as plain
+use Rattle.header.proofs.Examples.{smallest}
+use Rattle.header.specs.Header.{verdict}
+use Rattle.header.specs.Fields.{fieldsSet}
+use Rattle.blocks.specs.FreeMap.{freeCount}
+use Rattle.blocks.specs.Owners.{blocks}
+use Rattle.table.specs.declared.File.{File}
+use Rattle.session.specs.declared.state.Session.{Session}
+use Rattle.session.specs.declared.state.Uplink.{Uplink}
+use Rattle.session.specs.declared.state.Uplink.the-variants as up
+use Rattle.session.specs.declared.reply.Answer.the-variants as answer
+use Rattle.server.specs.declared.Server.{Server}
+use Rattle.server.specs.State.{Lent, Outcome, outcome, doneWith, linkOf, mapPart, ownerPart}
+use Rattle.server.specs.Making.{newServer, emptied, emptyOf, makes, makeOf}
+use Rattle.server.specs.Calls.{Opened, loginOf}
+use Rattle.decide.specs.Words.{wordAt}
+use Rattle.history.specs.Calls.{Call, login, receive, callOf, Start, History, start, _▸_, after}
+use Rattle.history.specs.Good.{Good}
+use Rattle.history.proofs.Histories.{good-after}
+use Rattle.demands.specs.Events.{Event, uploading, typeOf}
+use Rattle.demands.specs.Effect.{Effect, Gives, Adds, Finishes, Drops}
+use Rattle.demands.specs.Accepted.{accepted, reserved, numbersGiven, Completion, completion, completions, times}
+use Rattle.demands.specs.Closing.{ClosesBy, SameAsLost, Unwelcome, eventAt}
+use Rattle.demands.specs.Cut.{SameAfter, joined, passed, untaken, _▸▸_}
+use Rattle.demands.specs.Feeding.{feed, feedAll, feedPieces}
+use Rattle.demands.specs.Parts.{sessionIn, bytesIn, outIn, oneOf}
+use Rattle.demands.specs.Demand1.{Answers, refuses, silent, closes, sends, RefusedBy, Reachable, Says, Naks, NothingElse, UploadOver, over, overrun}
+use Rattle.demands.specs.Demand1.{uploadErrors, downloadErrors, naks}
+use Rattle.demands.specs.Demand2.{SentReads}
+use Rattle.demands.specs.Demand3.{serverAt, lentAt, filesAt, sentAt, AreBytes, OfBytes, Live, Free, Owned, OnlyFour, Listed, Stands}
+use Rattle.demands.proofs.Answered.{demand-1}
+use Rattle.demands.proofs.Demand2.{demand-2}
+use Rattle.demands.proofs.Unique.{calls-determined}
+use Rattle.demands.proofs.Whole.{demand-3}
+use Rattle.demands.proofs.Example.{small, small-legal, pair, pair-legal, output, rx, of, upload, dataEnd, shortUpload, largeUpload, nextFile}
+use Rattle.demands.proofs.Example.{titleAboveM, data41, type18, length257, opened, halfway, beforeUpload, lostOnce, tooEarly, uploads, both}
+use Rattle.demands.proofs.Example.{continued, rest, with255, withOwner, computed}
+
+room : 258 ≤ length {A = ℕ} output
+room = omega (arith, length-replicate {A = ℕ} 258 0)
+
+-- ---- numbers in a list, by a test on the list
+
+unfoldable allAbove : ℕ → List ℕ → Bool
+allAbove k [] = true
+allAbove k (m ∷ ms) = cond (leb k m) (allAbove k ms) false
+
+unfoldable allBelow : ℕ → List ℕ → Bool
+allBelow k [] = true
+allBelow k (m ∷ ms) = cond (leb m k) (allBelow k ms) false
+
+unfoldable noneIn : List ℕ → List ℕ → Bool
+noneIn ns [] = true
+noneIn ns (m ∷ ms) = cond (oneOf m ns) false (noneIn ns ms)
+
+clash : {A : Type 0} → false ≡ true → A
+clash e = let z : _≡_ {A = ℕ} 0 1 = cc in absurd (omega arith)
+
+least-of : (k n : ℕ) (ms : List ℕ) → allAbove k ms ≡ true → oneOf n ms ≡ true → k ≤ n
+unfolding allAbove
+least-of k n [] t e = clash e
+least-of k n (m ∷ ms) t e = go (leb k m) refl (eqb n m) refl t e (least-of k n ms)
+  where
+    go : (a : Bool) → leb k m ≡ a → (b : Bool) → eqb n m ≡ b → cond a (allAbove k ms) false ≡ true → cond b true (oneOf n ms) ≡ true
+        → (allAbove k ms ≡ true → oneOf n ms ≡ true → k ≤ n) → k ≤ n
+    go true la true lb t e f = omega (arith, leb-true k m la, eqb-true n m lb)
+    go true la false lb t e f = f t e
+    go false la b lb t e f = clash t
+
+most-of : (k n : ℕ) (ms : List ℕ) → allBelow k ms ≡ true → oneOf n ms ≡ true → n ≤ k
+unfolding allBelow
+most-of k n [] t e = clash e
+most-of k n (m ∷ ms) t e = go (leb m k) refl (eqb n m) refl t e (most-of k n ms)
+  where
+    go : (a : Bool) → leb m k ≡ a → (b : Bool) → eqb n m ≡ b → cond a (allBelow k ms) false ≡ true → cond b true (oneOf n ms) ≡ true
+        → (allBelow k ms ≡ true → oneOf n ms ≡ true → n ≤ k) → n ≤ k
+    go true la true lb t e f = omega (arith, leb-true m k la, eqb-true n m lb)
+    go true la false lb t e f = f t e
+    go false la b lb t e f = clash t
+
+apart-from : (n : ℕ) (ms ns : List ℕ) → noneIn ns ms ≡ true → oneOf n ms ≡ true → oneOf n ns ≡ false
+unfolding noneIn
+apart-from n [] ns t e = clash e
+apart-from n (m ∷ ms) ns t e = go (oneOf m ns) refl (eqb n m) refl t e (apart-from n ms ns)
+  where
+    go : (a : Bool) → oneOf m ns ≡ a → (b : Bool) → eqb n m ≡ b → cond a false (noneIn ns ms) ≡ true → cond b true (oneOf n ms) ≡ true
+        → (noneIn ns ms ≡ true → oneOf n ms ≡ true → oneOf n ns ≡ false) → oneOf n ns ≡ false
+    go true la b lb t e f = clash t
+    go false la true lb t e f = ap (λ (k : ℕ). oneOf k ns) (eqb-true n m lb) ∙ la
+    go false la false lb t e f = f t e
+
+packet-type : (kind : ℕ) (info rest : List ℕ) → typeOf (packetOf kind info ++ rest) ≡ (kind + 32 * (length info / 256)) % 32
+unfolding packetOf
+packet-type kind info rest = refl
+
+below-32 : (kind q : ℕ) → kind ≤ 17 → (kind + 32 * q) % 32 ≡ kind
+below-32 kind q h = omega (arith, h)
+
+-- ---- demand 1
+
+-- For every server, in plain numbers, what `EveryCallAnswers` says of each answer. A call that refuses does it by 32, 33, 34 or 35, and leaves all
+-- as it was.
+pub refused-call : (sv : Server) (l : Lent) (c : Call) (n : ℕ) → callOf sv l c .done .answer ≡ answer.Refused n
+    → (32 ≤ n) × (n ≤ 35) × (callOf sv l c ≡ outcome (doneWith sv (answer.Refused n)) l (outIn c))
+unfolding allAbove allBelow
+refused-call sv l c n e = go (demand-1 .answers sv l c)
+  where
+    go : Answers sv l c (callOf sv l c) → (32 ≤ n) × (n ≤ 35) × (callOf sv l c ≡ outcome (doneWith sv (answer.Refused n)) l (outIn c))
+    go (refuses r) =
+        let q : answer.Refused (r .number) ≡ answer.Refused n = sym (ap (λ (o : Outcome). o .done .answer) (r .same)) ∙ e in
+        let m : r .number ≡ n = cc in (
+          omega (arith, m, least-of 32 (r .number) (32 ∷ 33 ∷ 34 ∷ 35 ∷ []) refl (r .listed)),
+          omega (arith, m, most-of 35 (r .number) (32 ∷ 33 ∷ 34 ∷ 35 ∷ []) refl (r .listed)),
+          r .same ∙ ap (λ (k : ℕ). outcome (doneWith sv (answer.Refused k)) l (outIn c)) m,
+        )
+    go (silent r) =
+        let q : answer.Quiet (r .taken) ≡ answer.Refused n = sym (r .answered) ∙ e in let z : _≡_ {A = ℕ} 0 1 = cc in absurd (omega arith)
+    go (closes r) =
+        let q : answer.Closed (r .taken) ≡ answer.Refused n = sym (r .answered) ∙ e in let z : _≡_ {A = ℕ} 0 1 = cc in absurd (omega arith)
+    go (sends r) =
+        let q : answer.Sent (r .taken) (2 + length (r .info)) ≡ answer.Refused n = sym (r .answered) ∙ e in
+        let z : _≡_ {A = ℕ} 0 1 = cc in absurd (omega arith)
+
+-- one that answers nothing took no more than the bytes lent, and wrote nothing
+pub quiet-call : (sv : Server) (l : Lent) (c : Call) (taken : ℕ) → callOf sv l c .done .answer ≡ answer.Quiet taken
+    → (taken ≤ length (bytesIn c)) × (callOf sv l c .out ≡ outIn c)
+quiet-call sv l c taken e = go (demand-1 .answers sv l c)
+  where
+    go : Answers sv l c (callOf sv l c) → (taken ≤ length (bytesIn c)) × (callOf sv l c .out ≡ outIn c)
+    go (refuses r) =
+        let q : answer.Refused (r .number) ≡ answer.Quiet taken = sym (ap (λ (o : Outcome). o .done .answer) (r .same)) ∙ e in
+        let z : _≡_ {A = ℕ} 0 1 = cc in absurd (omega arith)
+    go (silent r) =
+        let q : answer.Quiet (r .taken) ≡ answer.Quiet taken = sym (r .answered) ∙ e in
+        let m : r .taken ≡ taken = cc in (omega (arith, m, r .within), r .out)
+    go (closes r) =
+        let q : answer.Closed (r .taken) ≡ answer.Quiet taken = sym (r .answered) ∙ e in let z : _≡_ {A = ℕ} 0 1 = cc in absurd (omega arith)
+    go (sends r) =
+        let q : answer.Sent (r .taken) (2 + length (r .info)) ≡ answer.Quiet taken = sym (r .answered) ∙ e in
+        let z : _≡_ {A = ℕ} 0 1 = cc in absurd (omega arith)
+
+-- one that closes the link wrote nothing either, and the session is closed
+pub closed-call : (sv : Server) (l : Lent) (c : Call) (taken : ℕ) → callOf sv l c .done .answer ≡ answer.Closed taken
+    → (taken ≤ length (bytesIn c)) × (callOf sv l c .out ≡ outIn c)
+    × (linkOf (callOf sv l c .done .server) (sessionIn c - 1) .linked ≡ false)
+closed-call sv l c taken e = go (demand-1 .answers sv l c)
+  where
+    go : Answers sv l c (callOf sv l c)
+        → (taken ≤ length (bytesIn c)) × (callOf sv l c .out ≡ outIn c)
+        × (linkOf (callOf sv l c .done .server) (sessionIn c - 1) .linked ≡ false)
+    go (refuses r) =
+        let q : answer.Refused (r .number) ≡ answer.Closed taken = sym (ap (λ (o : Outcome). o .done .answer) (r .same)) ∙ e in
+        let z : _≡_ {A = ℕ} 0 1 = cc in absurd (omega arith)
+    go (silent r) =
+        let q : answer.Quiet (r .taken) ≡ answer.Closed taken = sym (r .answered) ∙ e in let z : _≡_ {A = ℕ} 0 1 = cc in absurd (omega arith)
+    go (closes r) =
+        let q : answer.Closed (r .taken) ≡ answer.Closed taken = sym (r .answered) ∙ e in
+        let m : r .taken ≡ taken = cc in
+        (omega (arith, m, r .within), r .out, ap (λ (s : Session). s .linked) (r .session))
+    go (sends r) =
+        let q : answer.Sent (r .taken) (2 + length (r .info)) ≡ answer.Closed taken = sym (r .answered) ∙ e in
+        let z : _≡_ {A = ℕ} 0 1 = cc in absurd (omega arith)
+
+-- one that sends a packet leaves one of a type up to 17, of 258 bytes at most, and does not change the output's length
+pub sent-call : (sv : Server) (l : Lent) (c : Call) (taken size : ℕ) → callOf sv l c .done .answer ≡ answer.Sent taken size
+    → (taken ≤ length (bytesIn c)) × (size ≤ 258) × (typeOf (callOf sv l c .out) ≤ 17) × (length (callOf sv l c .out) ≡ length (outIn c))
+sent-call sv l c taken size e = go (demand-1 .answers sv l c)
+  where
+    go : Answers sv l c (callOf sv l c)
+        → (taken ≤ length (bytesIn c)) × (size ≤ 258) × (typeOf (callOf sv l c .out) ≤ 17) × (length (callOf sv l c .out) ≡ length (outIn c))
+    go (refuses r) =
+        let q : answer.Refused (r .number) ≡ answer.Sent taken size = sym (ap (λ (o : Outcome). o .done .answer) (r .same)) ∙ e in
+        let z : _≡_ {A = ℕ} 0 1 = cc in absurd (omega arith)
+    go (silent r) =
+        let q : answer.Quiet (r .taken) ≡ answer.Sent taken size = sym (r .answered) ∙ e in
+        let z : _≡_ {A = ℕ} 0 1 = cc in absurd (omega arith)
+    go (closes r) =
+        let q : answer.Closed (r .taken) ≡ answer.Sent taken size = sym (r .answered) ∙ e in
+        let z : _≡_ {A = ℕ} 0 1 = cc in absurd (omega arith)
+    go (sends r) =
+        let q : answer.Sent (r .taken) (2 + length (r .info)) ≡ answer.Sent taken size = sym (r .answered) ∙ e in
+        let m : r .taken ≡ taken = cc in
+        let k : 2 + length (r .info) ≡ size = cc in
+        let t : typeOf (callOf sv l c .out) ≡ (r .kind + 32 * (length (r .info) / 256)) % 32 =
+        ap typeOf (r .out) ∙ packet-type (r .kind) (r .info) (drop (2 + length (r .info)) (outIn c)) in (
+          omega (arith, m, r .within),
+          omega (arith, k, r .most),
+          omega (arith, t, below-32 (r .kind) (length (r .info) / 256) (r .listed), r .listed),
+          r .same-length,
+        )
+
+-- the numbers of the table that UL_ERROR_RESP, DL_ERROR_RESP and UL_NAK_RESP never carry
+pub not-to-upload : (sv : Server) (l : Lent) (session clock : ℕ) (input out : List ℕ) (e : ℕ) → Says sv l session clock input out 5 e
+    → oneOf e (0 ∷ 5 ∷ 6 ∷ 7 ∷ 8 ∷ 9 ∷ 10 ∷ 11 ∷ 14 ∷ 15 ∷ 16 ∷ []) ≡ false
+unfolding noneIn
+not-to-upload sv l session clock input out e s =
+    apart-from e uploadErrors (0 ∷ 5 ∷ 6 ∷ 7 ∷ 8 ∷ 9 ∷ 10 ∷ 11 ∷ 14 ∷ 15 ∷ 16 ∷ []) refl
+    (demand-1 .upload-errors sv l session clock input out e s .listed)
+
+pub not-to-download : (sv : Server) (l : Lent) (session clock : ℕ) (input out : List ℕ) (e : ℕ) → Says sv l session clock input out 9 e
+    → oneOf e (0 ∷ 3 ∷ 6 ∷ 7 ∷ 9 ∷ 12 ∷ 13 ∷ 14 ∷ 15 ∷ 16 ∷ []) ≡ false
+unfolding noneIn
+not-to-download sv l session clock input out e s =
+    apart-from e downloadErrors (0 ∷ 3 ∷ 6 ∷ 7 ∷ 9 ∷ 12 ∷ 13 ∷ 14 ∷ 15 ∷ 16 ∷ []) refl
+    (demand-1 .download-errors sv l session clock input out e s .listed)
+
+pub not-to-data : (sv : Server) (l : Lent) (session clock : ℕ) (input out : List ℕ) (e : ℕ) → Says sv l session clock input out 7 e
+    → oneOf e (0 ∷ 1 ∷ 2 ∷ 4 ∷ 5 ∷ 8 ∷ 9 ∷ 10 ∷ 11 ∷ 12 ∷ 13 ∷ []) ≡ false
+unfolding noneIn
+not-to-data sv l session clock input out e s =
+    apart-from e naks (0 ∷ 1 ∷ 2 ∷ 4 ∷ 5 ∷ 8 ∷ 9 ∷ 10 ∷ 11 ∷ 12 ∷ 13 ∷ []) refl (demand-1 .naks sv l session clock input out e s .listed)
+
+-- a session that ignores further DATA got number 16
+pub ignoring-after-16 : (e : ℕ) (u : Uplink) → UploadOver e u → u ≡ up.Ignoring → e ≡ 16
+ignoring-after-16 e up.Idle over q = let z : _≡_ {A = ℕ} 0 1 = cc in absurd (omega arith)
+ignoring-after-16 e up.Ignoring (overrun is) q = is
+
+-- the small server, its link being open and no packet unfinished, answers these bytes and is exactly as it was, and so is what is lent
+pub record Unchanged (bytes : List ℕ) : Type 0 where
+  pub server : callOf (serverAt small opened) (lentAt small opened) (rx 6 bytes) .done .server ≡ serverAt small opened
+  pub lent : callOf (serverAt small opened) (lentAt small opened) (rx 6 bytes) .lent ≡ lentAt small opened
+
+unchanged : (bytes : List ℕ)
+    → NothingElse (serverAt small opened) (lentAt small opened) 1 (callOf (serverAt small opened) (lentAt small opened) (rx 6 bytes))
+    → Unchanged bytes
+unchanged bytes r = record { server = r .server ∙ computed .refusals .same-server; lent = r .lent ∙ computed .refusals .same-lent }
+
+-- UL_ERROR_RESP 1 to an UPLOAD_CMD of one byte
+pub short-upload-leaves : Unchanged shortUpload
+short-upload-leaves = unchanged shortUpload (demand-1 .upload-errors _ _ _ _ _ _ _ (computed .refusals .short-upload) .left)
+
+-- UL_ERROR_RESP 13 to one for which there is no room
+pub no-room-leaves : Unchanged largeUpload
+no-room-leaves = unchanged largeUpload (demand-1 .upload-errors _ _ _ _ _ _ _ (computed .refusals .no-room) .left)
+
+-- DL_ERROR_RESP 5 to a download of the next file, where none is selected
+pub none-selected-leaves : Unchanged nextFile
+none-selected-leaves = unchanged nextFile (demand-1 .download-errors _ _ _ _ _ _ _ (computed .refusals .none-selected) .left)
+
+-- DL_ERROR_RESP 8 to a SELECT for titles greater than "m": "a refused SELECT keeps the old selection"
+pub title-above-m-leaves : Unchanged titleAboveM
+title-above-m-leaves = unchanged titleAboveM (demand-1 .download-errors _ _ _ _ _ _ _ (computed .refusals .title-above-m) .left)
+
+-- UL_NAK_RESP 16 to a DATA_END that comes too early: the upload is over, and nothing else of the session changed
+pub too-few-naks : Naks (serverAt small halfway) (lentAt small halfway) 1 8 dataEnd output 16
+too-few-naks = demand-1 .naks _ _ _ _ _ _ _ (computed .refusals .too-few)
+
+-- UL_NAK_RESP 16 to a DATA that passes the announced length
+pub too-many-naks : Naks (serverAt small halfway) (lentAt small halfway) 1 8 data41 output 16
+too-many-naks = demand-1 .naks _ _ _ _ _ _ _ (computed .refusals .too-many)
+
+-- a state that calls made fits and is sound, so its calls are never refused by 33 or 35
+good : Good (serverAt small opened) (lentAt small opened)
+good = good-after small small-legal opened
+
+reached : (clock : ℕ) (bytes out : List ℕ) → Reachable (serverAt small opened) (receive 1 clock bytes out)
+reached clock bytes out =
+    record { from-one = omega arith; in-range = omega (arith, computed .locals .sessions); in-state = computed .locals .linked }
+
+-- 33: whatever is called with a disk that is one byte too short
+pub short-disk-by-33 : (c : Call) → RefusedBy (serverAt small opened) (with255 (lentAt small opened)) c 33
+short-disk-by-33 c = demand-1 .locals _ _ c .by33 (computed .locals .short-disk)
+
+-- 35: whatever is called in a state that names a file place which is not there
+pub unsound-by-35 : (c : Call) → RefusedBy (serverAt small opened) (withOwner 2 (lentAt small opened)) c 35
+unsound-by-35 c = demand-1 .locals _ _ c .by35 (computed .locals .lost-block) (computed .locals .unsound)
+
+-- 34: a login of session 2, where there is one session
+pub second-by-34 : RefusedBy (serverAt small opened) (lentAt small opened) (login 2 6 output) 34
+second-by-34 =
+    demand-1 .locals _ _ (login 2 6 output) .by34 (good .fits) (good .sound) (λ r. omega (arith, r .in-range, computed .locals .sessions))
+
+-- 32: an output of 257 bytes
+pub output-by-32 : RefusedBy (serverAt small opened) (lentAt small opened) (receive 1 6 (upload 0) (replicate 257 0)) 32
+output-by-32 =
+    demand-1 .locals _ _ (receive 1 6 (upload 0) (replicate 257 0)) .by32 (good .fits) (good .sound) (reached _ _ _)
+    (omega (arith, length-replicate {A = ℕ} 257 0))
+
+-- none of these: an output of 258 bytes
+pub none-refused : (n : ℕ) → RefusedBy (serverAt small opened) (lentAt small opened) (rx 6 (upload 0)) n → ⊥
+none-refused = demand-1 .locals _ _ (rx 6 (upload 0)) .by-none (good .fits) (good .sound) (reached _ _ _) room
+
+-- making with 0 blocks is refused by 33, and what was lent stays as it was
+pub no-blocks-by-33 :
+    makeOf 0 1 1 1 256 (0 ∷ []) (0 ∷ []) (replicate 4 0) (0 ∷ []) output
+    ≡ makes (record { refused = 33; server = newServer 0 1 1 1 }) (emptied (0 ∷ []) (0 ∷ []) (replicate 4 0) (0 ∷ []) output)
+no-blocks-by-33 = demand-1 .making 0 1 1 1 256 _ _ _ _ _ .by33 (computed .locals .no-blocks)
+
+-- making with one of each is not refused
+pub least-made :
+    makeOf 1 1 1 1 256 (0 ∷ []) (0 ∷ []) (replicate 4 0) (0 ∷ []) output
+    ≡ makes (record { refused = 0; server = newServer 1 1 1 1 }) (emptyOf 1 1 1 1 (0 ∷ []) (0 ∷ []) (replicate 4 0) (0 ∷ []) output)
+least-made = demand-1 .making 1 1 1 1 256 _ _ _ _ _ .by-none (computed .locals .least)
+
+-- ---- demand 2
+
+-- what the plain writer leaves of the longest packet of type 17, all its bytes being b
+abbrev longest : ℕ → List ℕ
+longest b = leftIn (writeAnswer 17 (replicate 2047 b) (replicate 2049 b)) 17 (replicate 2047 b) (replicate 2049 b)
+
+-- the longest packet of the last type reads back, in an output that it just fills
+pub longest-reads : (readAnswer (longest 0) ≡ plain.Packet 17 2047) × (take 2047 (drop 2 (longest 0)) ≡ replicate 2047 0)
+longest-reads =
+    let n : length {A = ℕ} (replicate 2047 0) ≡ 2047 = length-replicate {A = ℕ} 2047 0 in
+    let m : length {A = ℕ} (replicate 2049 0) ≡ 2049 = length-replicate {A = ℕ} 2049 0 in
+    let r = demand-2 .written 17 (replicate 2047 0) (replicate 2049 0) (omega arith) (omega (arith, n)) (omega (arith, n, m)) in (
+      r .accepted ∙ ap (λ (k : ℕ). plain.Packet 17 k) n,
+      subst (λ (k : ℕ). take k (drop 2 (longest 0)) ≡ replicate 2047 0) n (r .information),
+    )
+
+-- and so does the UL_GO_RESP that the server sends
+pub go-reads : SentReads (callOf (serverAt small opened) (lentAt small opened) (rx 6 (upload 0))) 10
+go-reads = demand-2 .sent _ _ (rx 6 (upload 0)) 10 10 (computed .packets .go)
+
+-- it has 8 bytes of information
+pub go-size : (length (go-reads .info) ≡ 8)
+    × (readAnswer (callOf (serverAt small opened) (lentAt small opened) (rx 6 (upload 0)) .out) ≡ plain.Packet (go-reads .kind) 8)
+go-size =
+    let n : length (go-reads .info) ≡ 8 = omega (arith, go-reads .size-is) in
+    (n, go-reads .reads .accepted ∙ ap (plain.Packet (go-reads .kind)) n)
+
+-- a packet of type 18 closes the link at its second byte
+pub type-18-closes : ClosesBy (serverAt small opened) (lentAt small opened) 1 6 type18 output 2
+type-18-closes =
+    subst (ClosesBy (serverAt small opened) (lentAt small opened) 1 6 type18 output) (computed .closings .taken-18)
+    (demand-2 .closing _ _ 1 6 type18 output 0 (computed .closings .goes) .closes (computed .closings .type-18))
+
+-- so does an announced length of 257
+pub length-257-closes : ClosesBy (serverAt small opened) (lentAt small opened) 1 6 length257 output 2
+length-257-closes =
+    subst (ClosesBy (serverAt small opened) (lentAt small opened) 1 6 length257 output) (computed .closings .taken-257)
+    (demand-2 .closing _ _ 1 6 length257 output 0 (computed .closings .goes) .closes (computed .closings .length-257))
+
+-- and where a link was closed, its bytes ended in something unwelcome
+pub closed-for-a-reason : Unwelcome (linkOf (serverAt small opened) 0) (eventAt (serverAt small opened) (lentAt small opened) 0 length257)
+closed-for-a-reason = demand-2 .closing _ _ 1 6 length257 output 0 (computed .closings .goes) .only 2 length-257-closes
+
+-- the closed link leaves what a lost one leaves
+pub type-18-as-lost : SameAsLost (serverAt small opened) (lentAt small opened) 1 6 type18 output
+type-18-as-lost = demand-2 .closing-is-losing _ _ 1 6 type18 output 2 type-18-closes
+
+-- UPLOAD_CMD lent in two calls, cut behind its second byte, or in one
+pub cut-in-two : SameAfter small (beforeUpload ▸ rx 10 (8 ∷ 3 ∷ []) ▸ rx 11 (drop 2 (upload 1))) (beforeUpload ▸ rx 11 (upload 1))
+cut-in-two =
+    demand-2 .cut small small-legal _ _
+    (joined beforeUpload 1 10 11 (8 ∷ 3 ∷ []) (drop 2 (upload 1)) output output (computed .lost-once .ends) room room)
+
+-- the first byte of the one link's DATA_END before or after the other link's DATA_END
+pub passes-the-other : SameAfter pair (uploads ▸ of 1 6 (0 ∷ []) ▸ of 2 7 dataEnd) (uploads ▸ of 2 7 dataEnd ▸ of 1 6 (0 ∷ []))
+passes-the-other =
+    demand-2 .cut pair pair-legal _ _
+    (passed uploads 1 6 (0 ∷ []) output (of 2 7 dataEnd) (computed .packets .first-byte) (λ e. omega (arith, e)))
+
+-- bytes behind a packet's end are not taken
+pub behind-the-end : SameAfter pair (uploads ▸ of 1 7 (dataEnd ++ upload 0)) (uploads ▸ of 1 7 dataEnd)
+behind-the-end = demand-2 .cut pair pair-legal _ _ (untaken uploads 1 7 dataEnd (upload 0) output _ (computed .packets .last-byte))
+
+-- the first byte lent earlier, before the other link's DATA_END
+pub byte-earlier :
+    SameAfter pair ((uploads ▸ of 1 6 (0 ∷ [])) ▸▸ (of 2 7 dataEnd ∷ []) ▸ of 1 7 (1 ∷ [])) (uploads ▸▸ (of 2 7 dataEnd ∷ []) ▸ of 1 7 dataEnd)
+byte-earlier =
+    demand-2 .earlier pair pair-legal uploads 1 6 7 (0 ∷ []) (1 ∷ []) output output (of 2 7 dataEnd ∷ []) (omega arith)
+    (computed .packets .first-byte) refl room room
+
+-- a driver that may call 100 times gets no further than one that calls 10 times for 10 bytes
+pub ten-calls : feed 100 (after small opened) 1 6 output (upload 0) ≡ feedAll (after small opened) 1 6 output (upload 0)
+ten-calls = demand-2 .enough (after small opened) 1 6 output (upload 0) 100 (omega arith)
+
+-- the same bytes in one piece and in three
+pub three-pieces :
+    feedPieces (after small opened) 1 6 output (upload 0 ∷ [])
+    ≡ feedPieces (after small opened) 1 6 output ((8 ∷ []) ∷ (3 ∷ 0 ∷ 0 ∷ []) ∷ (0 ∷ 0 ∷ 80 ∷ 0 ∷ 0 ∷ 0 ∷ []) ∷ [])
+unfolding flatten
+three-pieces =
+    demand-2 .pieces small small-legal opened 1 6 output room (upload 0 ∷ [])
+    ((8 ∷ []) ∷ (3 ∷ 0 ∷ 0 ∷ []) ∷ (0 ∷ 0 ∷ 80 ∷ 0 ∷ 0 ∷ 0 ∷ []) ∷ []) refl
+
+-- uniqueness: whatever meets the contract of this login has left LOGIN_RESP in the output
+pub one-login : (one : Opened) → one ≡ loginOf (serverAt small start) (lentAt small start) output 1 5
+    → one .out ≡ 5 ∷ 2 ∷ 5 ∷ 0 ∷ 0 ∷ 0 ∷ 4 ∷ replicate 251 0
+one-login one e = ap (λ (o : Opened). o .out) (calls-determined .login _ _ output 1 5 one _ e refl) ∙ computed .packets .hello
+
+-- ---- demand 3
+
+-- a file is at a place, since its number is not 0
+live : (s : Start) (h : History) (place n size received time : ℕ)
+    → filesAt s h place .file ≡ record { number = n; size = size; received = received; time = time } → 1 ≤ n → Live (filesAt s h place)
+live s h place n size received time e above z = omega (arith, above, sym (ap (λ (f : File). f .number) e) ∙ z)
+
+-- and it is complete, since its time is not 0
+timed : (s : Start) (h : History) (place n size received time : ℕ)
+    → filesAt s h place .file ≡ record { number = n; size = size; received = received; time = time } → 1 ≤ time
+    → filesAt s h place .file .time ≡ 0 → ⊥
+timed s h place n size received time e above z = omega (arith, above, sym (ap (λ (f : File). f .time) e) ∙ z)
+
+live-half : Live (filesAt small beforeUpload 0)
+live-half = live small beforeUpload 0 1 80 40 0 (computed .lost-once .partial) (omega arith)
+
+live-whole : Live (filesAt small lostOnce 0)
+live-whole = live small lostOnce 0 1 80 80 4 (computed .lost-once .file) (omega arith)
+
+whole : filesAt small lostOnce 0 .file .time ≡ 0 → ⊥
+whole = timed small lostOnce 0 1 80 80 4 (computed .lost-once .file) (omega arith)
+
+-- the one block is free or belongs to one file; it is not free, so it is that of the file at the one place
+pub its-owner : Live (filesAt small lostOnce 0)
+its-owner = go (demand-3 small small-legal lostOnce .blocks 0 (unfold small in omega arith))
+  where
+    go : Free (serverAt small lostOnce) (lentAt small lostOnce) 0 ⊎ Owned (serverAt small lostOnce) (lentAt small lostOnce) 0
+        → Live (filesAt small lostOnce 0)
+    go (inl f) = absurd (omega (arith, f .bit, computed .lost-once .bit))
+    go (inr o) =
+        let p : o .place ≡ 0 = omega (arith, o .owner, computed .lost-once .owner) in
+        subst (λ (k : ℕ). Live (filesAt small lostOnce k)) p (o .file)
+
+-- before the upload it is free, by the owners too
+pub free-before : getD (ownerPart (serverAt small start) (lentAt small start)) 0 0 ≡ 0
+free-before = go (demand-3 small small-legal start .blocks 0 (unfold small in omega arith))
+  where
+    go : Free (serverAt small start) (lentAt small start) 0 ⊎ Owned (serverAt small start) (lentAt small start) 0
+        → getD (ownerPart (serverAt small start) (lentAt small start)) 0 0 ≡ 0
+    go (inl f) = f .owner
+    go (inr o) = absurd (omega (arith, o .bit, computed .lost-once .free))
+
+-- one block is held, as reserved by history, and so none is free
+pub none-free : freeCount (mapPart (serverAt small lostOnce) (lentAt small lostOnce)) ≡ 0
+unfolding small
+none-free =
+    let b = demand-3 small small-legal lostOnce .held in
+    omega (arith, b .all, b .held, computed .lost-once .sum)
+
+-- file 1 has the one block that was reserved for it
+pub its-blocks : blocks 1 (ownerPart (serverAt small lostOnce) (lentAt small lostOnce)) ≡ 1
+its-blocks =
+    demand-3 small small-legal lostOnce .held .each 0 live-whole
+    ∙ ap (λ (f : File). reserved small lostOnce (f .number)) (computed .lost-once .file) ∙ computed .lost-once .blocks
+
+-- the second number given is above the first
+pub numbers-rise : getD (numbersGiven small tooEarly) 0 0 < getD (numbersGiven small tooEarly) 1 0
+numbers-rise =
+    let two : length (numbersGiven small tooEarly) ≡ 2 = ap (λ (ns : List ℕ). length ns) (computed .too-early .numbers) in
+    demand-3 small small-legal tooEarly .numbers .rising 0 1 (omega arith) (omega (arith, two))
+
+-- no file has a number above the last one given
+pub none-above : (place : ℕ) → filesAt small lostOnce place .file .number ≤ 1
+none-above place =
+    let one : length (numbersGiven small lostOnce) ≡ 1 = ap (λ (ns : List ℕ). length ns) (computed .lost-once .numbers) in
+    omega (arith, demand-3 small small-legal lostOnce .numbers .known place, one)
+
+-- no other place has a file with number 1
+pub only-one : (q : ℕ) → filesAt pair both 0 .file .number ≡ filesAt pair both q .file .number → 0 ≡ q
+only-one q e = demand-3 pair pair-legal both .numbers .apart 0 q (live pair both 0 1 80 80 7 (computed .both .file) (omega arith)) e
+
+-- after the lost link the partial file is the 40 bytes of the whole DATA packet
+pub half-bytes : filesAt small beforeUpload 0 .bytes ≡ take 40 smallest
+half-bytes =
+    demand-3 small small-legal beforeUpload .contents 0 live-half .partial (ap (λ (f : File). f .time) (computed .lost-once .partial))
+    ∙ ap (λ (f : File). accepted small beforeUpload (f .number)) (computed .lost-once .partial) ∙ computed .lost-once .half
+
+-- the complete file is what was accepted, with its fields set to number 1 and time 4
+pub lost-once-bytes : filesAt small lostOnce 0 .bytes ≡ fieldsSet 1 4 smallest
+lost-once-bytes =
+    demand-3 small small-legal lostOnce .contents 0 live-whole .complete whole
+    ∙ ap (λ (f : File). fieldsSet (f .number) (f .time) (accepted small lostOnce (f .number))) (computed .lost-once .file)
+    ∙ ap (fieldsSet 1 4) (computed .lost-once .bytes)
+
+-- and what was accepted passes the checks of DATA_END
+pub lost-once-checked : verdict smallest (length smallest) ≡ 0
+lost-once-checked =
+    sym (ap (λ (bs : List ℕ). verdict bs (length bs))
+    (ap (λ (f : File). accepted small lostOnce (f .number)) (computed .lost-once .file) ∙ computed .lost-once .bytes))
+    ∙ demand-3 small small-legal lostOnce .contents 0 live-whole .checked whole
+
+-- the file that the server has session 2 upload is the one that UL_GO_RESP named to it
+pub second-uploads : uploading (serverAt pair uploads) (lentAt pair uploads) 1 ≡ 2
+second-uploads = demand-3 pair pair-legal uploads .under 1 (computed .both .linked) ∙ computed .both .second
+
+-- DATA_END of session 2 leaves file 1, the one of session 1, as it was
+pub other-file-kept : filesAt pair (uploads ▸ of 2 7 dataEnd) 0 ≡ filesAt pair uploads 0
+other-file-kept =
+    demand-3 pair pair-legal uploads .own (of 2 7 dataEnd) 0 (live pair uploads 0 1 80 80 0 (computed .both .beside) (omega arith))
+    (λ e. omega (arith, sym (ap (λ (f : File). f .number) (computed .both .beside)) ∙ e ∙ computed .both .second))
+
+-- the continuation of file 1 offers 40, the length of what was accepted
+pub offers-40 : (wordAt (sentAt small beforeUpload (rx 10 (upload 1))) 2 ≡ 1) × (40 ≡ length (accepted small beforeUpload 1))
+offers-40 =
+    let go : typeOf (sentAt small beforeUpload (rx 10 (upload 1))) ≡ 4 = ap typeOf (computed .lost-once .offer) in
+    let r = demand-3 small small-legal beforeUpload .offers (rx 10 (upload 1)) go (λ z. omega (arith, z, computed .lost-once .named)) in (
+      r .0 ∙ computed .lost-once .named,
+      sym (computed .lost-once .offered) ∙ r .1 ∙ ap (λ (n : ℕ). length (accepted small beforeUpload n)) (computed .lost-once .named),
+    )
+
+-- what the packets tell is what happens: UL_GO_RESP begins a file with the next number and the announced length
+pub told-begun :
+    Gives 1 80 (serverAt small opened .last) (filesAt small opened) (serverAt small (opened ▸ rx 6 (upload 0)) .last)
+    (filesAt small (opened ▸ rx 6 (upload 0)))
+told-begun =
+    subst
+    (λ (e : Event).
+    Effect e (serverAt small opened .last) (filesAt small opened) (serverAt small (opened ▸ rx 6 (upload 0)) .last)
+    (filesAt small (opened ▸ rx 6 (upload 0))))
+    (computed .lost-once .begun) (demand-3 small small-legal opened .told (rx 6 (upload 0)))
+
+pub begun : (1 ≡ serverAt small opened .last .number + 1) × (told-begun .change .size ≡ 80)
+begun = (told-begun .number, told-begun .announced)
+
+-- DATA adds its bytes to the file of the session
+pub told-added :
+    Adds 1 (drop 40 smallest) (serverAt small continued .last) (filesAt small continued) (serverAt small (continued ▸ rest) .last)
+    (filesAt small (continued ▸ rest))
+told-added =
+    subst
+    (λ (e : Event).
+    Effect e (serverAt small continued .last) (filesAt small continued) (serverAt small (continued ▸ rest) .last)
+    (filesAt small (continued ▸ rest)))
+    (computed .lost-once .more) (demand-3 small small-legal continued .told rest)
+
+pub added-bytes : (filesAt small continued (told-added .change .place) .file .number ≡ 1) × (told-added .change .more ≡ drop 40 smallest)
+added-bytes = (told-added .number, told-added .bytes-are)
+
+-- DATA_END with UL_ACK_RESP completes it
+pub told-finished :
+    Finishes 1 4 (serverAt small (continued ▸ rest) .last) (filesAt small (continued ▸ rest)) (serverAt small lostOnce .last)
+    (filesAt small lostOnce)
+told-finished =
+    subst
+    (λ (e : Event).
+    Effect e (serverAt small (continued ▸ rest) .last) (filesAt small (continued ▸ rest)) (serverAt small lostOnce .last)
+    (filesAt small lostOnce))
+    (computed .lost-once .ended) (unfold lostOnce in demand-3 small small-legal (continued ▸ rest) .told (rx 4 dataEnd))
+
+pub finished-time :
+    (filesAt small (continued ▸ rest) (told-finished .change .place) .file .number ≡ 1)
+    × (told-finished .change .time ≡ cond (ltb 4 (serverAt small (continued ▸ rest) .last .time + 1))
+    (serverAt small (continued ▸ rest) .last .time + 1) 4)
+finished-time = (told-finished .number, told-finished .time-is)
+
+-- DATA_END with UL_NAK_RESP drops it
+pub told-dropped :
+    Drops 1 (serverAt small halfway .last) (filesAt small halfway) (serverAt small (halfway ▸ rx 8 dataEnd) .last)
+    (filesAt small (halfway ▸ rx 8 dataEnd))
+told-dropped =
+    subst
+    (λ (e : Event).
+    Effect e (serverAt small halfway .last) (filesAt small halfway) (serverAt small (halfway ▸ rx 8 dataEnd) .last)
+    (filesAt small (halfway ▸ rx 8 dataEnd)))
+    (computed .too-early .gone) (demand-3 small small-legal halfway .told (rx 8 dataEnd))
+
+pub dropped-file : filesAt small halfway (told-dropped .change .place) .file .number ≡ 1
+dropped-file = told-dropped .number
+
+-- of two files completed in one second the second one has the later time
+pub times-apart : getD (0 ∷ times (completions pair both)) 1 0 < getD (0 ∷ times (completions pair both)) 2 0
+times-apart =
+    let three : length (0 ∷ times (completions pair both)) ≡ 3 = ap (λ (cs : List Completion). length (0 ∷ times cs)) (computed .both .complete) in
+    demand-3 pair pair-legal both .times .rising 1 2 (omega arith) (omega (arith, three))
+
+-- a complete file has the time of its completion
+pub own-time : Listed (completion 1 7) (completions pair both)
+own-time =
+    subst (λ (f : File). Listed (completion (f .number) (f .time)) (completions pair both)) (computed .both .file)
+    (demand-3 pair pair-legal both .times .own 0 (live pair both 0 1 80 80 7 (computed .both .file) (omega arith))
+    (timed pair both 0 1 80 80 7 (computed .both .file) (omega arith)))
+
+-- and the file that was completed still stands
+pub still-stands : Stands (filesAt pair both) (completion 1 7)
+still-stands = demand-3 pair pair-legal both .times .kept (completion 1 7) own-time
+
+pub stands-so : (filesAt pair both (still-stands .place) .file .number ≡ 1) × (filesAt pair both (still-stands .place) .file .time ≡ 7)
+stands-so = (still-stands .number, still-stands .time)
+
+-- ---- "only the four", for a history of bytes
+
+unfoldable bytesTest : List ℕ → Bool
+bytesTest [] = true
+bytesTest (b ∷ bs) = cond (ltb b 256) (bytesTest bs) false
+
+by-test : (xs : List ℕ) → bytesTest xs ≡ true → AreBytes xs
+unfolding bytesTest
+by-test [] e = tt
+by-test (b ∷ bs) e = go (ltb b 256) refl e (by-test bs)
+  where
+    go : (t : Bool) → ltb b 256 ≡ t → cond t (bytesTest bs) false ≡ true → (bytesTest bs ≡ true → AreBytes bs) → (b < 256) × AreBytes bs
+    go true l e f = (ltb-true b 256 l, f e)
+    go false l e f = let z : _≡_ {A = ℕ} 0 1 = cc in absurd (omega arith)
+
+pub of-bytes : OfBytes small lostOnce
+unfolding small opened halfway beforeUpload continued lostOnce smallest bytesTest
+of-bytes = (
+  (
+    (
+      (
+        (
+          (
+            (((by-test (replicate 258 0) refl, tt), by-test (upload 0) refl), by-test (40 ∷ 0 ∷ take 40 smallest) refl),
+            by-test (40 ∷ 0 ∷ take 9 (drop 40 smallest)) refl,
+          ),
+          tt,
+        ),
+        tt,
+      ),
+      by-test (upload 1) refl,
+    ),
+    by-test (40 ∷ 0 ∷ drop 40 smallest) refl,
+  ),
+  by-test dataEnd refl,
+)
+
+four : OnlyFour smallest (filesAt small lostOnce 0 .bytes)
+four =
+    subst (λ (bs : List ℕ). OnlyFour bs (filesAt small lostOnce 0 .bytes))
+    (ap (λ (f : File). accepted small lostOnce (f .number)) (computed .lost-once .file) ∙ computed .lost-once .bytes)
+    (demand-3 small small-legal lostOnce .fields of-bytes 0 live-whole whole)
+
+-- the bytes just before and just behind file_number stay as they were accepted: the item's length, 4, and the next item's id, 2
+pub around-number : (getD (filesAt small lostOnce 0 .bytes) 4 0 ≡ 4) × (getD (filesAt small lostOnce 0 .bytes) 9 0 ≡ 2)
+unfolding smallest
+around-number =
+    let b = computed .lost-once .before in
+    let o = computed .lost-once .behind in
+    (four .rest 4 (b .0) (b .1) (b .2) (b .3), four .rest 9 (o .0) (o .1) (o .2) (o .3))
+
+-- and its length is that of what was accepted
+pub same-length : length (filesAt small lostOnce 0 .bytes) ≡ 80
+unfolding smallest
+same-length = four .size
+
+-- 255 is a byte
+pub largest-byte : AreBytes (255 ∷ [])
+largest-byte = (omega arith, tt)
