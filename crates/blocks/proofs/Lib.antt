@@ -2,6 +2,7 @@
 pub mod Bits
 pub mod Lowest
 pub mod Owners
+pub mod Parts
 pub mod Held
 pub mod Agreement
 pub mod Reserving

@@ -26,7 +26,7 @@ walk-in v owner at n i b w h =
     subst (λ (x : ℕ). x < length owner) (sym (w .block h)) (nth-in v owner ((at + i) / 256) q)
 
 pub walk-next : (v : ℕ) (owner : List ℕ) (at n i b r e b′ : ℕ) → Walk v owner at n i b → i < n → r ≤ n - i → (r < n - i → (at + i) % 256 + r ≡ 256)
-    → e ≡ i + r → b′ ≡ nextOf v owner (b + 1) → Walk v owner at n e b′
+    → e ≡ i + r → (e < n → b′ ≡ nextOf v owner (b + 1)) → Walk v owner at n e b′
 walk-next v owner at n i b r e b′ w h l f q s =
     record { few = w .few; room = w .room; done = omega arith; block = λ k. next k }
   where
@@ -34,7 +34,7 @@ walk-next v owner at n i b r e b′ w h l f q s =
     next k =
         let g : (at + i) % 256 + r ≡ 256 = f (omega arith) in
         let m : suc ((at + i) / 256) ≡ (at + e) / 256 = omega arith in
-        s ∙ ap (nextOf v owner) (add-one b) ∙ ap (λ (x : ℕ). nextOf v owner (suc x)) (w .block h)
+        s k ∙ ap (nextOf v owner) (add-one b) ∙ ap (λ (x : ℕ). nextOf v owner (suc x)) (w .block h)
         ∙ sym (nth-next v owner ((at + i) / 256)) ∙ ap (nth v owner) m
 
 -- a run of r elements from element i on is r long
@@ -54,7 +54,7 @@ pub record Writing (disk₀ owner : List ℕ) (v at : ℕ) (bytes disk : List �
 
 pub write-next : (disk₀ owner : List ℕ) (v at : ℕ) (bytes disk : List ℕ) (b i r : ℕ) → Writing disk₀ owner v at bytes disk b i → i < length bytes
     → r ≤ length bytes - i → (at + i) % 256 + r ≤ 256 → (r < length bytes - i → (at + i) % 256 + r ≡ 256)
-    → (disk′ : List ℕ) (b′ : ℕ) → disk′ ≡ sets disk (256 * b + (at + i) % 256) (take (i + r - i) (drop i bytes)) → b′ ≡ nextOf v owner (b + 1)
+    → (disk′ : List ℕ) (b′ : ℕ) → disk′ ≡ sets disk (256 * b + (at + i) % 256) (take (i + r - i) (drop i bytes)) → (i + r < length bytes → b′ ≡ nextOf v owner (b + 1))
     → Writing disk₀ owner v at bytes disk′ b′ (i + r)
 write-next disk₀ owner v at bytes disk b i r t h l k f disk′ b′ d s =
     record {
@@ -90,7 +90,8 @@ pub record Reading (disk owner : List ℕ) (v at : ℕ) (out₀ out : List ℕ) 
 
 pub read-next : (disk owner : List ℕ) (v at : ℕ) (out₀ out : List ℕ) (b i r : ℕ) → Reading disk owner v at out₀ out b i → i < length out
     → r ≤ length out - i → (at + i) % 256 + r ≤ 256 → (r < length out - i → (at + i) % 256 + r ≡ 256)
-    → (run : List ℕ) (b′ : ℕ) → run ≡ take (length (take (i + r - i) (drop i out))) (drop (256 * b + (at + i) % 256) disk) → b′ ≡ nextOf v owner (b + 1)
+    → (run : List ℕ) (b′ : ℕ) → run ≡ take (length (take (i + r - i) (drop i out))) (drop (256 * b + (at + i) % 256) disk)
+    → (i + r < length (take i out ++ (run ++ drop (i + r - i) (drop i out))) → b′ ≡ nextOf v owner (b + 1))
     → Reading disk owner v at out₀ (take i out ++ (run ++ drop (i + r - i) (drop i out))) b′ (i + r)
 read-next disk owner v at out₀ out b i r t h l k f run b′ d s =
     let z = t .size in
@@ -103,10 +104,11 @@ read-next disk owner v at out₀ out b i r t h l k f run b′ d s =
     let u : run ≡ take (i + r - i) (drop i (drop at (held v owner disk))) =
     x ∙ sym (held-run v owner disk b ((at + i) / 256) ((at + i) % 256) (at + i) r g (t .walk .block (omega arith)) (omega arith) k (omega arith) j)
     ∙ ap₂ (λ (n : ℕ) (q : List ℕ). take n q) (sym c) (sym (drop-drop i at (held v owner disk))) in
+    let whole : length (take i out ++ (run ++ drop (i + r - i) (drop i out))) ≡ length out = length-part i (i + r - i) (y ∙ sym c) (omega arith) in
     record {
-      walk = walk-next v owner at (length out₀) i b r (i + r) b′ (t .walk) (omega arith) (omega arith) (λ q. f (omega arith)) refl s;
+      walk = walk-next v owner at (length out₀) i b r (i + r) b′ (t .walk) (omega arith) (omega arith) (λ q. f (omega arith)) refl (λ q. s (omega (arith, whole)));
       fits = g;
-      size = length-part i (i + r - i) (y ∙ sym c) (omega arith) ∙ z;
+      size = whole ∙ z;
       same = run-read out run (drop at (held v owner disk)) i (i + r) (omega arith) (omega arith) (y ∙ sym c) (t .same) u;
     }
   where

@@ -13,6 +13,7 @@ ghost use mathlib.Core.List.{List};
 ghost use Prim.Native.Nat.{ℕ, _+_, _-_, _*_, _/_, _%_, _^_, _≤_, _<_};
 ghost use lib.ListN.{length, getD, set, take, drop, replicate};
 ghost use lib.Seq.{sets};
+ghost use lib.Dec.{eqb};
 ghost use Rattle.blocks.specs.FreeMap.{freeCount, lowest, cleared, marked, reservedMap};
 ghost use Rattle.blocks.specs.Owners.{isFree, blocks, heldCount, countsOf, nextOf, nth, reservedOwner, releasedOwner, releasedMap, wordOf, mapOf};
 ghost use Rattle.blocks.specs.Contents.{held, stored};
@@ -46,11 +47,23 @@ pub fn free_count(map: &[u64]) -> usize
     count_bits(&map[..end])
 }
 
-// The number of blocks with owner v.
-fn count_of(owner: &[u16], v: u16) -> usize
+// The end of the part of at most `size` blocks from block `from` on.
+fn part_end(n: usize, from: usize, size: usize) -> usize
+    requires { ⌜ (from < n) × (n ≤ 9223372036854775807) × (0 < size) × (size ≤ 4096) ⌝ }
+    ensures { λ r. ⌜ (from < r) × (r ≤ n) × (r ≤ from + size) × (r < from + size → r ≡ n) ⌝ }
+{
+    if n - from < size {
+        return n;
+    }
+    from + size
+}
+
+// The number of blocks with owner v, of few: in 16 bits, so that the compiler counts eight at a time.
+fn count_few(owner: &[u16], v: u16) -> u16
+    requires { ⌜ length (now owner) ≤ 4096 ⌝ }
     ensures { λ r. ⌜ r ≡ blocks v (now (owner .entry)) ⌝ }
 {
-    let mut n: usize = 0;
+    let mut n: u16 = 0;
     let mut i = 0;
     while i < owner.len() {
         if owner[i] == v {
@@ -59,6 +72,20 @@ fn count_of(owner: &[u16], v: u16) -> usize
         } else {
             i += 1;
         }
+    }
+    n
+}
+
+// The number of blocks with owner v.
+fn count_of(owner: &[u16], v: u16) -> usize
+    ensures { λ r. ⌜ r ≡ blocks v (now (owner .entry)) ⌝ }
+{
+    let mut n: usize = 0;
+    let mut from = 0;
+    while from < owner.len() {
+        let end = part_end(owner.len(), from, 4096);
+        n += count_few(&owner[from..end], v) as usize;
+        from = end;
     }
     n
 }
@@ -80,28 +107,62 @@ pub fn block_count(owner: &[u16], place: u16) -> usize
     count_of(owner, place + 1)
 }
 
-// The number of free blocks at 0, and of the blocks of each file place p at p + 1, in one pass.
+// Adds a run of blocks to the count of their owner; an owner past the last place has none.
+fn add_run(n: &mut [usize; 257], v: u16, run: usize)
+    requires { ⌜ (length (now n) ≡ 257) × (getD (now n) v 0 + run ≤ 9223372036854775807) ⌝ }
+    ensures { λ r. ⌜ now (n .exit) ≡ set (now (n .entry)) v (getD (now (n .entry)) v 0 + run) ⌝ }
+{
+    let at = v as usize;
+    if at < 257 {
+        n[at] = n[at] + run;
+    }
+}
+
+// The number of free blocks at 0, and of the blocks of each file place p at p + 1, in one pass. Blocks of one owner mostly stand together:
+// their run is counted by itself and added once.
 pub fn counts(owner: &[u16]) -> [usize; 257]
     ensures { λ r. ⌜ r ≡ countsOf (now (owner .entry)) ⌝ }
 {
     let mut n = [0usize; 257];
+    let mut v: u16 = 0;
+    let mut run: usize = 0;
     let mut i = 0;
     while i < owner.len() {
-        let v = owner[i] as usize;
-        if v < 257 {
-            n[v] = n[v] + 1;
+        if owner[i] == v {
+            run += 1;
             i += 1;
         } else {
+            add_run(&mut n, v, run);
+            v = owner[i];
+            run = 1;
             i += 1;
         }
     }
+    add_run(&mut n, v, run);
     n
 }
 
 // ---- finding a place's blocks
 
-// The lowest block from block `from` on with owner v, or the number of blocks.
-fn next_of(owner: &[u16], v: u16, from: usize) -> usize
+// From block `from` on, past each 64 blocks that are none of owner v's.
+fn pass_parts(owner: &[u16], v: u16, from: usize) -> usize
+    requires { ⌜ from ≤ length (now owner) ⌝ }
+    ensures { λ r. ⌜ nextOf v (now (owner .entry)) from ≡ nextOf v (now (owner .entry)) r ⌝ }
+{
+    let mut b = from;
+    while 64 <= owner.len() - b {
+        let end = b + 64;
+        if count_few(&owner[b..end], v) == 0 {
+            b = end;
+        } else {
+            return b;
+        }
+    }
+    b
+}
+
+// The lowest block from block `from` on with owner v, or the number of blocks, one block after the other.
+fn scan_of(owner: &[u16], v: u16, from: usize) -> usize
     ensures { λ r. ⌜ r ≡ nextOf v (now (owner .entry)) from ⌝ }
 {
     let mut b = from;
@@ -114,6 +175,19 @@ fn next_of(owner: &[u16], v: u16, from: usize) -> usize
     owner.len()
 }
 
+// The lowest block from block `from` on with owner v, or the number of blocks. Mostly it is block `from` itself.
+fn next_of(owner: &[u16], v: u16, from: usize) -> usize
+    ensures { λ r. ⌜ r ≡ nextOf v (now (owner .entry)) from ⌝ }
+{
+    if owner.len() <= from {
+        return owner.len();
+    }
+    if owner[from] == v {
+        return from;
+    }
+    scan_of(owner, v, pass_parts(owner, v, from))
+}
+
 // The lowest block from block `from` on that the file place has, or the number of blocks where there is none.
 pub fn next_block(owner: &[u16], place: u16, from: usize) -> usize
     ensures { λ r. ⌜ r ≡ nextOf (place + 1) (now (owner .entry)) from ⌝ }
@@ -124,17 +198,58 @@ pub fn next_block(owner: &[u16], place: u16, from: usize) -> usize
     next_of(owner, place + 1, from)
 }
 
+// Where the search for a block of an owner goes on, and how many of the owner's blocks it still has to pass.
+struct Spot {
+    from: usize,
+    left: usize,
+}
+
+// The search for the k-th block of owner v, past each 64 blocks that do not have it.
+fn skip_parts(owner: &[u16], v: u16, k: usize) -> Spot
+    ensures { λ r. ⌜ (r .from ≤ length (now (owner .entry))) × (nth v (now (owner .entry)) k ≡ r .from + nth v (drop (r .from) (now (owner .entry))) (r .left)) ⌝ }
+{
+    let mut from = 0;
+    let mut left = k;
+    while 64 <= owner.len() - from {
+        let end = from + 64;
+        let has = count_few(&owner[from..end], v) as usize;
+        if left < has {
+            return Spot {
+                from: from,
+                left: left,
+            };
+        }
+        left -= has;
+        from = end;
+    }
+    Spot {
+        from: from,
+        left: left,
+    }
+}
+
 // The k-th block of owner v, counted from 0, or the number of blocks. Each search goes on where the last one ended.
 fn find_block(owner: &[u16], v: u16, k: usize) -> usize
     ensures { λ r. ⌜ r ≡ nth v (now (owner .entry)) k ⌝ }
 {
-    let mut b = next_of(owner, v, 0);
+    let spot = skip_parts(owner, v, k);
+    let mut b = next_of(owner, v, spot.from);
     let mut i = 0;
-    while i < k {
+    while i < spot.left {
         b = next_of(owner, v, b + 1);
         i += 1;
     }
     b
+}
+
+// The next block of owner v, where there are bytes left to move to or from it.
+fn next_before(owner: &[u16], v: u16, from: usize, done: usize, n: usize) -> usize
+    ensures { λ r. ⌜ (done < n → r ≡ nextOf v (now (owner .entry)) from) ⌝ }
+{
+    if done < n {
+        return next_of(owner, v, from);
+    }
+    from
 }
 
 // ---- the map that belongs to the owners
@@ -146,24 +261,13 @@ fn free_bit(o: u16) -> u64
     if o == 0 { 1 } else { 0 }
 }
 
-// The end of the blocks of word i.
-fn word_end(n: usize, i: usize) -> usize
-    requires { ⌜ (64 * i < n) × (n ≤ 9223372036854775807) ⌝ }
-    ensures { λ r. ⌜ (64 * i ≤ r) × (r ≤ n) × (r ≤ 64 * i + 64) × (r < 64 * i + 64 → r ≡ n) ⌝ }
-{
-    if n - 64 * i < 64 {
-        return n;
-    }
-    64 * i + 64
-}
-
 // The word of the 64 blocks from block 64 * i on, built from its highest bit down.
 fn word_of(owner: &[u16], i: usize) -> u64
     requires { ⌜ 64 * i < length (now owner) ⌝ }
     ensures { λ r. ⌜ r ≡ wordOf 64 (drop (64 * i) (now (owner .entry))) ⌝ }
 {
     let start = 64 * i;
-    let mut b = word_end(owner.len(), i);
+    let mut b = part_end(owner.len(), start, 64);
     let mut w: u64 = 0;
     while start < b {
         b -= 1;
@@ -247,6 +351,23 @@ fn owners_within(owner: &[u16], files: u16) -> bool
     good
 }
 
+// Whether a word is that of the 64 blocks from block 64 * i on. Where all of them are owned or all are free, their count tells it.
+fn word_is(w: u64, owner: &[u16], i: usize) -> bool
+    requires { ⌜ 64 * i < length (now owner) ⌝ }
+    ensures { λ r. ⌜ r ≡ eqb w (wordOf 64 (drop (64 * i) (now (owner .entry)))) ⌝ }
+{
+    let from = 64 * i;
+    let end = part_end(owner.len(), from, 64);
+    let free = count_few(&owner[from..end], 0);
+    if free == 0 {
+        return w == 0;
+    }
+    if free == 64 {
+        return w == 18446744073709551615;
+    }
+    w == word_of(owner, i)
+}
+
 // Whether each word of the map is the word of its 64 blocks.
 fn map_is(map: &[u64], owner: &[u16]) -> bool
     requires { ⌜ 64 * length (now map) < length (now owner) + 64 ⌝ }
@@ -254,7 +375,7 @@ fn map_is(map: &[u64], owner: &[u16]) -> bool
 {
     let mut i = 0;
     while i < map.len() {
-        if map[i] == word_of(owner, i) {
+        if word_is(map[i], owner, i) {
             i += 1;
         } else {
             return false;
@@ -512,7 +633,7 @@ fn put_runs(disk: &mut [u8], owner: &[u16], v: u16, at: usize, bytes: &[u8])
     while i < bytes.len() {
         let e = i + run_length(at + i, bytes.len() - i);
         put_run(disk, 256 * b + (at + i) % 256, &bytes[i..e]);
-        b = next_of(owner, v, b + 1);
+        b = next_before(owner, v, b + 1, e, bytes.len());
         i = e;
     }
 }
@@ -549,7 +670,7 @@ fn get_runs(disk: &[u8], owner: &[u16], v: u16, at: usize, out: &mut [u8])
     while i < out.len() {
         let e = i + run_length(at + i, out.len() - i);
         get_run(disk, 256 * b + (at + i) % 256, &mut out[i..e]);
-        b = next_of(owner, v, b + 1);
+        b = next_before(owner, v, b + 1, e, out.len());
         i = e;
     }
 }

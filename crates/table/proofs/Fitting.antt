@@ -1,12 +1,12 @@
 -- The tests of the table are true exactly where the facts hold, and each change of the store keeps the facts.
-use mathlib.Core.Path.{_≡_, refl, sym, ap, _∙_}
+use mathlib.Core.Path.{_≡_, refl, sym, ap, _∙_, subst}
 use mathlib.Core.Bool.{Bool, true, false, cond, _&&_}
 use mathlib.Core.List.{List, [], _∷_}
 use Prim.Native.Nat.{ℕ, zero, suc, _+_, _≤_, _<_}
 use native.Mathlib.Omega.{arith}
 use native.Mathlib.Numerals.{add-one}
 use lib.ListN.{length, getD, take, drop, drop-of-length-le}
-use lib.Seq.{drop-cons}
+use lib.Seq.{drop-cons, getD-drop}
 use lib.Dec.{eqb, leb}
 use borrow.Author.Tests.{eqb-true, eqb-false, eq-eqb, ne-eqb, leb-true, le-leb, lt-leb}
 use Rattle.table.specs.declared.File.{File}
@@ -16,7 +16,7 @@ use Rattle.table.specs.Table.{noFile, fileAt, uploaded, keyOf, keys, num
 use Rattle.table.specs.Given.{blocksFor}
 use Rattle.table.specs.Fit.{fileFits, recordFits, recordsFitFrom, recordsFit, same, among, apart, distinctOf, FileFits, Fits, Distinct, Sound}
 use Rattle.table.proofs.Records.{key-at}
-use Rattle.table.proofs.Finding.{within}
+use Rattle.table.proofs.Finding.{by-equal, within}
 
 -- both parts of a test
 both-left : (a b : Bool) → a && b ≡ true → a ≡ true
@@ -221,6 +221,79 @@ module _ (xs : List ℕ) (p : ℕ) where
   unfolding apart
   apart-end h = rw (drop-of-length-le xs h)
 
+-- ---- from the last value down
+
+-- the values from place `at` on are apart, and those that are not 0 are at least `low`
+pub record Down (xs : List ℕ) (at low : ℕ) : Type 0 where
+  pub size : at ≤ length xs
+  pub rest : apart (drop at xs) ≡ true
+  pub above : (q : ℕ) → at ≤ q → (getD xs q 0 ≡ 0 → ⊥) → low ≤ getD xs q 0
+
+pub down-start : (xs : List ℕ) (low : ℕ) → Down xs (length xs) low
+down-start xs low =
+    record {
+      size = omega arith;
+      rest = apart-end xs (length xs) (omega arith);
+      above = λ q h n. absurd (past q h (within xs q n));
+    }
+  where
+    past : (q : ℕ) → length xs ≤ q → q < length xs → ⊥
+    past q h l = omega arith
+
+module _ (xs : List ℕ) (at low : ℕ) (d : Down xs at low) (p : ℕ) (e : at ≡ p + 1) where
+  -- one value more that is none of the later ones
+  down-next : (low′ : ℕ) → among (getD xs p 0) (drop (p + 1) xs) ≡ false
+      → ((getD xs p 0 ≡ 0 → ⊥) → low′ ≤ getD xs p 0) → ((q : ℕ) → p + 1 ≤ q → (getD xs q 0 ≡ 0 → ⊥) → low′ ≤ getD xs q 0) → Down xs p low′
+  down-next low′ a here later =
+      record {
+        size = omega (arith, d .size);
+        rest = apart-next xs p false (omega (arith, d .size)) a ∙ ap (λ (k : ℕ). apart (drop k xs)) (sym e) ∙ d .rest;
+        above = λ q h n. by-equal q p (λ s. subst (λ (k : ℕ). low′ ≤ getD xs k 0) (sym s) (here (λ z. n (ap (λ (k : ℕ). getD xs k 0) s ∙ z)))) (λ s. later q (further q h s) n);
+      }
+    where
+      further : (q : ℕ) → p ≤ q → (q ≡ p → ⊥) → p + 1 ≤ q
+      further q h s = by-equal q p (λ z. absurd (s z)) (λ z. above-it q h z)
+        where
+          above-it : (q : ℕ) → p ≤ q → (q ≡ p → ⊥) → p + 1 ≤ q
+          above-it q h z = omega arith
+
+  -- a value below all later ones is none of them
+  among-below : getD xs p 0 < low → among (getD xs p 0) (drop (p + 1) xs) ≡ false
+  among-below h =
+      among-test (getD xs p 0) (drop (p + 1) xs)
+      (λ q n s. let g : getD xs p 0 ≡ getD xs (p + 1 + q) 0 = s ∙ getD-drop (p + 1) xs q 0 in
+      let l = d .above (p + 1 + q) (omega arith) (λ z. n (g ∙ z)) in omega arith)
+
+  pub down-lower : (value low′ : ℕ) → value ≡ getD xs p 0 → value < low → low′ ≡ cond (eqb value 0) low value → Down xs p low′
+  down-lower value low′ v h w = go (eqb value 0) refl w
+    where
+      below : getD xs p 0 < low
+      below = subst (λ (k : ℕ). k < low) v h
+
+      go : (t : Bool) → eqb value 0 ≡ t → low′ ≡ cond t low value → Down xs p low′
+      go true z k = down-next low′ (among-below below) (λ n. absurd (n (sym v ∙ eqb-true value 0 z))) (λ q l n. let m = d .above q (omega arith) n in omega arith)
+      go false z k = down-next low′ (among-below below) (λ n. omega arith) (λ q l n. let m = d .above q (omega arith) n in omega arith)
+
+  pub down-other : low ≤ getD xs p 0 → among (getD xs p 0) (drop (p + 1) xs) ≡ false → Down xs p low
+  down-other h a = down-next low a (λ n. h) (λ q l n. d .above q (omega arith) n)
+
+pub down-done : (xs : List ℕ) (at low : ℕ) → at ≤ 0 → Down xs at low → apart xs ≡ true
+down-done xs at low h d = let z : 0 ≡ at = omega arith in ap (λ (k : ℕ). apart (drop k xs)) z ∙ d .rest
+
+-- where some values are not apart, all are not
+apart-part : (xs : List ℕ) (p : ℕ) → apart (drop p xs) ≡ false → apart xs ≡ false
+unfolding apart
+apart-part xs zero e = e
+apart-part [] (suc p) e = e
+apart-part (x ∷ xs) (suc p) e = go (among x xs) (apart-part xs p e)
+  where
+    go : (t : Bool) → apart xs ≡ false → cond t false (apart xs) ≡ false
+    go true f = refl
+    go false f = f
+
+pub down-twice : (xs : List ℕ) (p : ℕ) → p < length xs → among (getD xs p 0) (drop (p + 1) xs) ≡ true → apart xs ≡ false
+down-twice xs p h a = apart-part xs p (apart-next xs p true h a)
+
 -- the three tests in a row
 three-first : (a b c : Bool) → cond a (cond b c false) false ≡ true → b ≡ true
 three-first true true c e = refl
@@ -232,22 +305,15 @@ three-second true true c e = e
 three-second true false c e = absurd (let z : _≡_ {A = ℕ} 0 1 = cc in omega arith)
 three-second false b c e = absurd (let z : _≡_ {A = ℕ} 0 1 = cc in omega arith)
 
--- the test by the keys in a row
-module _ (fs : List File) (n : ℕ) where
-  pub distinct-by : (v w : List ℕ) → n ≡ length fs → n ≤ 256 → take (length fs) v ≡ numbers fs → take (length fs) w ≡ times fs
-      → distinctOf fs ≡ cond (apart (take n v)) (apart (take n w)) false
+-- the test by the numbers and then the times
+module _ (fs : List File) where
+  pub distinct-by : length fs ≤ 256 → distinctOf fs ≡ cond (apart (numbers fs)) (apart (times fs)) false
   unfolding distinctOf
-  distinct-by v w e m a b = rw (e, a, b, le-leb (length fs) 256 (omega arith))
+  distinct-by m = rw (le-leb (length fs) 256 m)
 
-  pub distinct-not : (v : List ℕ) → n ≡ length fs → n ≤ 256 → take (length fs) v ≡ numbers fs → apart (take n v) ≡ false → false ≡ distinctOf fs
+  pub distinct-past : 256 < length fs → false ≡ distinctOf fs
   unfolding distinctOf
-  distinct-not v e m a f =
-      let g : apart (numbers fs) ≡ false = ap apart (sym a) ∙ ap (λ (k : ℕ). apart (take k v)) (sym e) ∙ f in
-      rw (le-leb (length fs) 256 (omega arith), g)
-
-  pub distinct-past : n ≡ length fs → 256 < n → false ≡ distinctOf fs
-  unfolding distinctOf
-  distinct-past e m = rw (lt-leb (length fs) 256 (omega arith))
+  distinct-past m = rw (lt-leb (length fs) 256 m)
 
 pub distinct-facts : (fs : List File) → distinctOf fs ≡ true → (key : Key) → Distinct (keys key fs)
 unfolding distinctOf

@@ -8,10 +8,10 @@
 // one there is refused by 33 and changes nothing. No function but `records_fit` and `distinct` checks the whole table: what the others find
 // where two files share a number or a time is defined too (the lowest place), and the laws in proofs/ say what they find where none do.
 ghost use mathlib.Core.Path.{_≡_};
-ghost use mathlib.Core.Bool.{cond};
+ghost use mathlib.Core.Bool.{true, cond};
 ghost use Prim.Native.Nat.{_+_, _/_, _≤_, _<_};
 ghost use lib.ListN.{length, getD, take, drop};
-ghost use lib.Dec.{ltb};
+ghost use lib.Dec.{eqb, ltb};
 ghost use Rattle.table.specs.Table.{files, fileAt, putNumber, putTable, isComplete, isPartial, isKind, uploaded, keyOf, keys, times, countOf, firstWith, findOf, freeOf};
 ghost use Rattle.table.specs.Given.{nextNumber, uploadTime, blocksFor};
 ghost use Rattle.table.specs.Order.{lesser, leastAbove, nextComplete};
@@ -361,32 +361,71 @@ fn stands_later(values: &[u32], at: usize) -> bool
     found
 }
 
-// Whether no value but 0 stands twice.
+// The lesser of two values, where 0 is none: the value, unless it is 0. The value is below `low`.
+fn lower(value: u32, low: u32) -> u32
+    ensures { λ r. ⌜ r ≡ cond (eqb value 0) low value ⌝ }
+{
+    if value == 0 { low } else { value }
+}
+
+// Whether no value but 0 stands twice. From the last value down, one that is below all later ones is none of them; any other is looked for.
 fn all_apart(values: &[u32]) -> bool
     ensures { λ r. ⌜ r ≡ apart (now (values .entry)) ⌝ }
 {
-    let mut at = 0;
-    while at < values.len() {
-        if stands_later(values, at) {
-            return false;
+    let mut at = values.len();
+    let mut low: u32 = 4294967295;
+    while 0 < at {
+        at -= 1;
+        if values[at] < low {
+            low = lower(values[at], low);
+        } else {
+            if stands_later(values, at) {
+                return false;
+            }
         }
-        at += 1;
     }
     true
+}
+
+// Whether the values that are not 0 rise with the places: then no two are the same. Files mostly stand in the order in which they came.
+fn rise(table: &[u32], key: Key) -> bool
+    ensures { λ r. ⌜ (r ≡ true → apart (keys key (files (now (table .entry)))) ≡ true) ⌝ }
+{
+    let mut at = places(table);
+    let mut low: u32 = 4294967295;
+    while 0 < at {
+        at -= 1;
+        let value = key_of(get(table, at), key);
+        if low <= value {
+            return false;
+        }
+        low = lower(value, low);
+    }
+    true
+}
+
+// Whether no two of at most 256 places have the same number, or the same time.
+fn keys_apart(table: &[u32], key: Key) -> bool
+    requires { ⌜ length (files (now table)) ≤ 256 ⌝ }
+    ensures { λ r. ⌜ r ≡ apart (keys key (files (now (table .entry)))) ⌝ }
+{
+    if rise(table, key) {
+        return true;
+    }
+    let n = places(table);
+    let values = keys_of(table, key);
+    all_apart(&values[..n])
 }
 
 // Whether no two of at most 256 places have the same file number, and no two complete files the same upload time.
 pub fn distinct(table: &[u32]) -> bool
     ensures { λ r. ⌜ r ≡ distinctOf (files (now (table .entry))) ⌝ }
 {
-    let n = places(table);
-    if 256 < n {
+    if 256 < places(table) {
         return false;
     }
-    let numbers = keys_of(table, Key::Number);
-    if all_apart(&numbers[..n]) {
-        let times = keys_of(table, Key::Time);
-        return all_apart(&times[..n]);
+    if keys_apart(table, Key::Number) {
+        return keys_apart(table, Key::Time);
     }
     false
 }

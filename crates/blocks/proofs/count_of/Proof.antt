@@ -1,62 +1,71 @@
 -- `blocks::count_of` meets its contract. The invariant: what is counted and what is left are all blocks of the owner.
-use Prim.Native.Nat.{_+_, _-_, _≤_}
-use mathlib.Core.Path.{_≡_, ap}
+use Prim.Native.Nat.{ℕ, _+_, _-_, _≤_}
+use mathlib.Core.Path.{_≡_, refl, ap}
 use native.Mathlib.Omega.{arith}
-use lib.ListN.{length, drop, drop-of-length-le}
+use native.Mathlib.Nat.{zero-add}
+use lib.ListN.{length, take, drop, drop-of-length-le}
 use Rattle.blocks.specs.Owners.{blocks}
-use Rattle.blocks.proofs.Owners.{blocks-hit, blocks-miss}
+use Rattle.blocks.proofs.Owners.{blocks-le}
+use Rattle.blocks.proofs.Parts.{part-count, part-size}
 use Rattle.blocks.proofs.count_of.Statement.{statement}
 use Rattle.blocks.proofs.count_of.Tie as tie
 
 abbrev Inv-loop : tie.InvT-loop
-Inv-loop owner v n₀ i₀ n i = (i ≤ length owner) × (n ≤ i) × (n + blocks v (drop i owner) ≡ blocks v owner)
+Inv-loop owner v n₀ from₀ n from = (from ≤ length owner) × (n + blocks v (drop from owner) ≡ blocks v owner)
 
 abbrev μ-loop : tie.MeasureT-loop
-μ-loop owner v n₀ i₀ n i = length owner - i
-
-rest : (c : tie.After-loop Inv-loop μ-loop) → blocks (c .before .before .args .v) (drop (c .before .loop .i) (c .before .before .args .owner .now)) ≡ 0
-    → c .before .loop .n ≡ blocks (c .before .before .args .v) (c .before .before .args .owner .now)
-rest c f = omega arith
+μ-loop owner v n₀ from₀ n from = length owner - from
 
 loop-holds : tie.Need-loop-holds Inv-loop μ-loop
-loop-holds c = omega arith
+loop-holds c = (omega arith, zero-add (blocks (c .before .args .v) (c .before .args .owner .now)))
 
-mul-if1 : tie.Need-mul-if1 Inv-loop μ-loop
-mul-if1 c = omega arith
+part-end-requires : tie.Need-part-end-requires Inv-loop μ-loop
+part-end-requires c κs = omega arith
 
-shared-slice-read-if1 : tie.Need-shared-slice-read-if1 Inv-loop μ-loop
-shared-slice-read-if1 c = omega arith
+mul-count-few : tie.Need-mul-count-few Inv-loop μ-loop
+mul-count-few c = omega arith
+
+sub-count-few : tie.Need-sub-count-few Inv-loop μ-loop
+sub-count-few c = omega arith
+
+part-count-few-start : tie.Need-part-count-few-start Inv-loop μ-loop
+part-count-few-start c = omega arith
+
+part-count-few-end : tie.Need-part-count-few-end Inv-loop μ-loop
+part-count-few-end c = omega arith
+
+count-few-requires : tie.Need-count-few-requires Inv-loop μ-loop
+count-few-requires c κs =
+    let l = c .before .before .before .loop in
+    omega (arith, part-size (c .before .before .before .before .before .args .owner .now) (l .from) (c .before .part-end .result) (omega arith) (omega arith))
+
+cast-n : tie.Need-cast-n Inv-loop μ-loop
+cast-n c = omega arith
 
 add-n : tie.Need-add-n Inv-loop μ-loop
-add-n c = omega arith
-
-add-i : tie.Need-add-i Inv-loop μ-loop
-add-i c = omega arith
+add-n c =
+    let l = c .before .before .before .before .loop in
+    let a = c .before .before .before .before .before .before .args in
+    let p = part-count (a .v) (a .owner .now) (l .from) (c .before .before .part-end .result) (omega arith) in
+    omega (arith, c .count-few .ensures, blocks-le (a .v) (a .owner .now))
 
 loop-less : tie.Need-loop-less Inv-loop μ-loop
 loop-less c = omega arith
 
 loop-again : tie.Need-loop-again Inv-loop μ-loop
 loop-again c =
-    let s = c .before .before .before in
-    let e = blocks-hit (s .before .args .v) (s .before .args .owner .now) (s .loop .i) (c .before .before .loop-test .taken) (c .if1 .taken) in
-    omega arith
-
-add-i-2 : tie.Need-add-i-2 Inv-loop μ-loop
-add-i-2 c = omega arith
-
-loop-less-2 : tie.Need-loop-less-2 Inv-loop μ-loop
-loop-less-2 c = omega arith
-
-loop-again-2 : tie.Need-loop-again-2 Inv-loop μ-loop
-loop-again-2 c =
-    let s = c .before .before .before in
-    let e = blocks-miss (s .before .args .v) (s .before .args .owner .now) (s .loop .i) (c .before .before .loop-test .taken) (c .if1 .left) in
-    omega arith
+    let l = c .before .before .before .before .loop in
+    let a = c .before .before .before .before .before .before .args in
+    let p = part-count (a .v) (a .owner .now) (l .from) (c .before .before .part-end .result) (omega arith) in
+    omega (arith, c .count-few .ensures)
 
 returns : tie.Need-returns Inv-loop μ-loop
 unfolding blocks
-returns c = rest c (ap (blocks (c .before .before .args .v)) (drop-of-length-le (c .before .before .args .owner .now) (c .loop-test .left)))
+returns c =
+    let l = c .before .loop in
+    let a = c .before .before .before .args in
+    let z = ap (blocks (a .v)) (drop-of-length-le (a .owner .now) (c .loop-test .left)) in
+    omega arith
 
 pub count-of-spec : {M : Type 1} → statement M
 count-of-spec =
@@ -65,13 +74,14 @@ count-of-spec =
     Inv-loop
     μ-loop
     loop-holds
-    mul-if1
-    shared-slice-read-if1
+    part-end-requires
+    mul-count-few
+    sub-count-few
+    part-count-few-start
+    part-count-few-end
+    count-few-requires
+    cast-n
     add-n
-    add-i
     loop-less
     loop-again
-    add-i-2
-    loop-less-2
-    loop-again-2
     returns)

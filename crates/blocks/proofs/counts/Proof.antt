@@ -1,49 +1,44 @@
--- `blocks::counts` meets its contract. The invariant: each entry and what is left are all blocks of its owner.
+-- `blocks::counts` meets its contract. The invariant is `Counted`: the counts, the run that is not in them yet and what is left are all blocks.
 use Prim.Native.Nat.{ℕ, _+_, _-_, _≤_, _<_}
-use mathlib.Core.Path.{_≡_, refl, ap, _∙_}
+use mathlib.Core.Path.{_≡_, refl, sym, ap, _∙_}
+use mathlib.Core.Bool.{Bool, true, false, cond}
 use native.Mathlib.Omega.{arith}
-use native.Mathlib.Nat.{zero-add}
-use lib.ListN.{getD-replicate, length, getD, drop, length-set, drop-of-length-le}
+use mathlib.Core.List.{List}
+use lib.ListN.{getD-replicate, length, getD, replicate, set, drop, length-set, drop-of-length-le}
+use lib.Dec.{eqb}
 use Rattle.blocks.specs.Owners.{blocks}
-use Rattle.blocks.proofs.Owners.{blocks-le, blocks-miss, counts-all, counts-step}
+use Rattle.blocks.proofs.Owners.{counts-all}
+use Rattle.blocks.proofs.Parts.{Counted, run-fits, run-more, run-added, run-next}
 use Rattle.blocks.proofs.counts.Statement.{statement}
 use Rattle.blocks.proofs.counts.Tie as tie
 
+start : (owner : List ℕ) (u : ℕ) → u < 257 → getD (replicate {A = ℕ} 257 0) u 0 + cond (eqb 0 u) 0 0 + blocks u owner ≡ blocks u owner
+start owner u h = go (eqb 0 u) (getD-replicate 257 u 0 0 h)
+  where
+    go : (t : Bool) → getD (replicate {A = ℕ} 257 0) u 0 ≡ 0 → getD (replicate {A = ℕ} 257 0) u 0 + cond t 0 0 + blocks u owner ≡ blocks u owner
+    go true z = omega arith
+    go false z = omega arith
+
+sized : (n n′ : List ℕ) (v x : ℕ) → length n ≡ 257 → n′ ≡ set n v x → length n′ ≡ 257
+sized n n′ v x l e = ap length e ∙ length-set n v x ∙ l
+
 abbrev Inv-loop : tie.InvT-loop
-Inv-loop owner n₀ i₀ n i = (i ≤ length owner) × (length n ≡ 257) × ((u : ℕ) → u < 257 → getD n u 0 + blocks u (drop i owner) ≡ blocks u owner)
+Inv-loop owner n₀ v₀ run₀ i₀ n v run i = Counted owner n v run i
 
 abbrev μ-loop : tie.MeasureT-loop
-μ-loop owner n₀ i₀ n i = length owner - i
+μ-loop owner n₀ v₀ run₀ i₀ n v run i = length owner - i
 
 loop-holds : tie.Need-loop-holds Inv-loop μ-loop
-loop-holds c = (omega arith, refl, λ u q. ap (λ (x : ℕ). x + blocks u (c .args .owner .now)) (getD-replicate 257 u 0 0 q) ∙ zero-add (blocks u (c .args .owner .now)))
+loop-holds c = record { done = omega arith; size = refl; few = omega arith; all = start (c .before .args .owner .now) }
 
-mul-v : tie.Need-mul-v Inv-loop μ-loop
-mul-v c = omega arith
+mul-if1 : tie.Need-mul-if1 Inv-loop μ-loop
+mul-if1 c = omega arith
 
-shared-slice-read-v : tie.Need-shared-slice-read-v Inv-loop μ-loop
-shared-slice-read-v c = omega arith
+shared-slice-read-if1 : tie.Need-shared-slice-read-if1 Inv-loop μ-loop
+shared-slice-read-if1 c = omega arith
 
-cast-v : tie.Need-cast-v Inv-loop μ-loop
-cast-v c = omega (arith, c .shared-slice-known .given (c .before .before .loop .i))
-
-mul-n : tie.Need-mul-n Inv-loop μ-loop
-mul-n c = omega arith
-
-array-read-n : tie.Need-array-read-n Inv-loop μ-loop
-array-read-n c = omega arith
-
-add-n : tie.Need-add-n Inv-loop μ-loop
-add-n c =
-    let s = c .before .before .before in
-    let v = getD (s .before .args .owner .now) (s .loop .i) 0 in
-    omega (arith, s .loop .inv .2 v (omega arith), blocks-le v (s .before .args .owner .now))
-
-mul-n-2 : tie.Need-mul-n-2 Inv-loop μ-loop
-mul-n-2 c = omega arith
-
-array-write-n : tie.Need-array-write-n Inv-loop μ-loop
-array-write-n c = omega arith
+add-run : tie.Need-add-run Inv-loop μ-loop
+add-run c = omega (arith, c .before .before .before .loop .inv .few)
 
 add-i : tie.Need-add-i Inv-loop μ-loop
 add-i c = omega arith
@@ -53,12 +48,19 @@ loop-less c = omega arith
 
 loop-again : tie.Need-loop-again Inv-loop μ-loop
 loop-again c =
-    let s = c .before .before .before in
-    let v = getD (s .before .args .owner .now) (s .loop .i) 0 in (
-      omega arith,
-      simp length-set (s .loop .inv .1),
-      counts-step (s .loop .n) (s .before .args .owner .now) (s .loop .i) v (s .loop .inv .1) (c .before .before .loop-test .taken) refl (omega arith) (s .loop .inv .2),
-    )
+    let l = c .before .before .before .loop in
+    run-more (c .before .before .before .before .before .args .owner .now) (l .n) (l .v) (l .run) (l .i) (l .inv) (c .before .before .loop-test .taken) (c .if1 .taken)
+
+add-run-requires : tie.Need-add-run-requires Inv-loop μ-loop
+add-run-requires c κs =
+    let l = c .before .before .before .before .loop in
+    (l .inv .size, omega (arith, run-fits (c .before .before .before .before .before .before .args .owner .now) (l .n) (l .v) (l .run) (l .i) (l .inv)))
+
+mul-v : tie.Need-mul-v Inv-loop μ-loop
+mul-v c = omega arith
+
+shared-slice-read-v : tie.Need-shared-slice-read-v Inv-loop μ-loop
+shared-slice-read-v c = omega arith
 
 add-i-2 : tie.Need-add-i-2 Inv-loop μ-loop
 add-i-2 c = omega arith
@@ -68,20 +70,25 @@ loop-less-2 c = omega arith
 
 loop-again-2 : tie.Need-loop-again-2 Inv-loop μ-loop
 loop-again-2 c =
-    let s = c .before .before .before in (
-      omega arith,
-      s .loop .inv .1,
-      λ u q.
-          let e = blocks-miss u (s .before .args .owner .now) (s .loop .i) (c .before .before .loop-test .taken) (λ z. omega arith) in
-          omega (arith, s .loop .inv .2 u q),
-    )
+    let l = c .before .before .before .before .before .before .loop in
+    let o = c .before .before .before .before .before .before .before .before .args .owner .now in
+    let e = c .before .add-run .ensures in
+    run-next o (l .n) (l .v) (l .run) (l .i) (l .inv) _ e (sized (l .n) _ (l .v) _ (l .inv .size) e) (c .before .before .before .before .before .loop-test .taken)
+
+add-run-requires-2 : tie.Need-add-run-requires-2 Inv-loop μ-loop
+add-run-requires-2 c κs =
+    let l = c .before .before .loop in
+    (l .inv .size, omega (arith, run-fits (c .before .before .before .before .args .owner .now) (l .n) (l .v) (l .run) (l .i) (l .inv)))
 
 returns : tie.Need-returns Inv-loop μ-loop
 unfolding blocks
 returns c =
-    let s = c .before in
-    counts-all (s .loop .n) (s .before .args .owner .now) (s .loop .inv .1) (λ v q.
-    let e = ap (blocks v) (drop-of-length-le (s .before .args .owner .now) (c .loop-test .left)) in omega (arith, s .loop .inv .2 v q))
+    let l = c .before .before .before .loop in
+    let o = c .before .before .before .before .before .args .owner .now in
+    let e = c .add-run2 .ensures in
+    counts-all _ o (sized (l .n) _ (l .v) _ (l .inv .size) e) (λ u q.
+    let z = ap (blocks u) (drop-of-length-le o (c .before .before .loop-test .left)) in
+    let a = run-added o (l .n) (l .v) (l .run) (l .i) (l .inv) _ e u q in omega arith)
 
 pub counts-spec : {M : Type 1} → statement M
 counts-spec =
@@ -90,18 +97,17 @@ counts-spec =
     Inv-loop
     μ-loop
     loop-holds
-    mul-v
-    shared-slice-read-v
-    cast-v
-    mul-n
-    array-read-n
-    add-n
-    mul-n-2
-    array-write-n
+    mul-if1
+    shared-slice-read-if1
+    add-run
     add-i
     loop-less
     loop-again
+    add-run-requires
+    mul-v
+    shared-slice-read-v
     add-i-2
     loop-less-2
     loop-again-2
+    add-run-requires-2
     returns)

@@ -1,27 +1,36 @@
--- `blocks::find_block` meets its contract. The invariant: the block reached is the i-th of the owner.
-use Prim.Native.Nat.{ℕ, suc, _-_, _≤_}
+-- `blocks::find_block` meets its contract. The invariant: the block reached is the i-th of the owner from the place where the search goes on.
+use Prim.Native.Nat.{ℕ, _+_, _-_, _≤_}
 use mathlib.Core.Path.{_≡_, sym, ap, _∙_}
 use native.Mathlib.Omega.{arith}
-use native.Mathlib.Numerals.{add-one}
-use Rattle.blocks.specs.Owners.{nth, nextOf}
-use Rattle.blocks.proofs.Owners.{nth-zero, nth-next, nth-le}
+use lib.ListN.{length, drop}
+use Rattle.blocks.specs.Owners.{nth}
+use Rattle.blocks.proofs.Parts.{find-start, find-next, find-le}
 use Rattle.blocks.proofs.find_block.Statement.{statement}
 use Rattle.blocks.proofs.find_block.Tie as tie
 
 abbrev Inv-loop : tie.InvT-loop
-Inv-loop owner v k b₀ i₀ b i = (i ≤ k) × (b ≡ nth v owner i)
+Inv-loop owner v k spot b₀ i₀ b i = (i ≤ spot .left) × (b ≡ spot .from + nth v (drop (spot .from) owner) i)
 
 abbrev μ-loop : tie.MeasureT-loop
-μ-loop owner v k b₀ i₀ b i = k - i
+μ-loop owner v k spot b₀ i₀ b i = spot .left - i
+
+skip-parts-requires : tie.Need-skip-parts-requires Inv-loop μ-loop
+skip-parts-requires c κs = omega arith
 
 next-of-requires : tie.Need-next-of-requires Inv-loop μ-loop
 next-of-requires c κs = omega arith
 
 loop-holds : tie.Need-loop-holds Inv-loop μ-loop
-loop-holds c = (omega arith, c .next-of .ensures ∙ nth-zero (c .before .before .args .v) (c .before .before .args .owner .now))
+loop-holds c =
+    let a = c .before .before .before .args in
+    (omega arith, c .next-of .ensures ∙ find-start (a .v) (a .owner .now) (c .before .skip-parts .result .from) (c .before .skip-parts .ensures .0))
 
 add-next-of : tie.Need-add-next-of Inv-loop μ-loop
-add-next-of c = let s = c .before in let a = s .before .before .before .args in omega (arith, nth-le (a .v) (a .owner .now) (s .loop .i))
+add-next-of c =
+    let l = c .before .before .loop in
+    let a = c .before .before .before .before .before .before .args in
+    let s = c .before .before .before .before .skip-parts in
+    omega (arith, find-le (a .v) (a .owner .now) (s .result .from) (s .ensures .0) (l .i))
 
 next-of-requires-2 : tie.Need-next-of-requires-2 Inv-loop μ-loop
 next-of-requires-2 c κs = omega arith
@@ -34,16 +43,18 @@ loop-less c = omega arith
 
 loop-again : tie.Need-loop-again Inv-loop μ-loop
 loop-again c =
-    let s = c .before .before in
-    let a = s .before .before .before .args in
-    (omega arith, c .next-of2 .ensures ∙ rw (add-one, add-one) (ap (λ (b : ℕ). nextOf (a .v) (a .owner .now) (suc b)) (s .loop .inv .1) ∙ sym (nth-next (a .v) (a .owner .now) (s .loop .i))))
+    let l = c .before .before .before .loop in
+    let a = c .before .before .before .before .before .before .before .args in
+    let s = c .before .before .before .before .before .skip-parts in
+    (omega arith, c .next-of2 .ensures ∙ find-next (a .v) (a .owner .now) (s .result .from) (s .ensures .0) (l .b) (l .i) (l .inv .1))
 
 returns : tie.Need-returns Inv-loop μ-loop
 returns c =
-    let s = c .before in
-    let a = s .before .before .before .args in
-    let e : s .loop .i ≡ a .k = omega arith in
-    s .loop .inv .1 ∙ ap (nth (a .v) (a .owner .now)) e
+    let l = c .before .before .loop in
+    let a = c .before .before .before .before .before .before .args in
+    let s = c .before .before .before .before .skip-parts in
+    let e : l .i ≡ s .result .left = omega arith in
+    l .inv .1 ∙ ap (λ (k : ℕ). s .result .from + nth (a .v) (drop (s .result .from) (a .owner .now)) k) e ∙ sym (s .ensures .1)
 
 pub find-block-spec : {M : Type 1} → statement M
 find-block-spec =
@@ -51,6 +62,7 @@ find-block-spec =
     (tie.spec
     Inv-loop
     μ-loop
+    skip-parts-requires
     next-of-requires
     loop-holds
     add-next-of

@@ -107,15 +107,15 @@ get-run-requires c κs =
     let n = run-size (s .loop .out) (s .loop .i) (r .result) (omega (arith, r .ensures .0)) in
     omega (arith, n, r .ensures .1, s .loop .inv .fits, walk-in (a .v) (a .owner .now) (a .at) (length (a .out .now)) (s .loop .i) (s .loop .b) t (omega arith))
 
-add-next-of : tie.Need-add-next-of Inv-loop μ-loop
-add-next-of c =
+add-next-before : tie.Need-add-next-before Inv-loop μ-loop
+add-next-before c =
     let s = c .before .before .before .before .before .before in
     let a = s .before .before .before .before .before .args in
     let t = s .loop .inv .walk in
     omega (arith, t .few, t .room, t .done, s .loop .inv .fits, s .loop .inv .size, walk-in (a .v) (a .owner .now) (a .at) (length (a .out .now)) (s .loop .i) (s .loop .b) t (omega (arith, s .loop .inv .size)))
 
-next-of-requires : tie.Need-next-of-requires Inv-loop μ-loop
-next-of-requires c κs = omega arith
+next-before-requires : tie.Need-next-before-requires Inv-loop μ-loop
+next-before-requires c κs = omega arith
 
 loop-less : tie.Need-loop-less Inv-loop μ-loop
 loop-less c =
@@ -131,7 +131,7 @@ loop-again c =
     let t = s .loop .inv .walk in
     let r = c .before .before .before .before .before .run-length in
     read-next (a .disk .now) (a .owner .now) (a .v) (a .at) (a .out .now) (s .loop .out) (s .loop .b) (s .loop .i) (r .result) (s .loop .inv) (c .before .before .before .before .before .before .loop-test .taken)
-    (r .ensures .0) (r .ensures .1) (r .ensures .3) _ _ (c .before .before .before .get-run .ensures) (c .next-of .ensures)
+    (r .ensures .0) (r .ensures .1) (r .ensures .3) _ _ (c .before .before .before .get-run .ensures) (c .next-before .ensures)
 
 same-length : tie.Need-same-length Inv-loop μ-loop
 same-length c = c .before .loop .inv .size
@@ -165,8 +165,8 @@ get-runs-spec =
     part-get-run-start
     part-get-run-end
     get-run-requires
-    add-next-of
-    next-of-requires
+    add-next-before
+    next-before-requires
     loop-less
     loop-again
     same-length

@@ -1,10 +1,10 @@
 -- `blocks::map_is` meets its contract. The invariant: the words passed are those of the owners.
 use Prim.Native.Nat.{ℕ, _+_, _*_, _-_, _≤_, _<_}
 use mathlib.Core.Path.{_≡_, refl, sym, ap, _∙_}
+use mathlib.Core.Bool.{Bool, _&&_}
 use native.Mathlib.Omega.{arith}
 use mathlib.Core.List.{List}
 use lib.ListN.{length, drop, drop-of-length-le}
-use borrow.Author.Tests.{eq-eqb, ne-eqb}
 use Rattle.blocks.specs.Check.{mapIs}
 use Rattle.blocks.proofs.Steps.{map-is-step}
 use Rattle.blocks.proofs.map_is.Statement.{statement}
@@ -19,14 +19,14 @@ abbrev μ-loop : tie.MeasureT-loop
 loop-holds : tie.Need-loop-holds Inv-loop μ-loop
 loop-holds c = (omega arith, c .before .before .pre, refl)
 
-mul-if1 : tie.Need-mul-if1 Inv-loop μ-loop
-mul-if1 c = omega arith
+mul-word-is : tie.Need-mul-word-is Inv-loop μ-loop
+mul-word-is c = omega arith
 
-shared-slice-read-if1 : tie.Need-shared-slice-read-if1 Inv-loop μ-loop
-shared-slice-read-if1 c = omega arith
+shared-slice-read-word-is : tie.Need-shared-slice-read-word-is Inv-loop μ-loop
+shared-slice-read-word-is c = omega arith
 
-word-of-requires : tie.Need-word-of-requires Inv-loop μ-loop
-word-of-requires c κs = omega arith
+word-is-requires : tie.Need-word-is-requires Inv-loop μ-loop
+word-is-requires c κs = omega arith
 
 add-i : tie.Need-add-i Inv-loop μ-loop
 add-i c = omega arith
@@ -41,7 +41,7 @@ loop-again c =
       omega arith,
       s .loop .inv .1,
       s .loop .inv .2 ∙ map-is-step (a .map .now) (a .owner .now) (s .loop .i) (c .before .before .before .loop-test .taken)
-          ∙ simp (eq-eqb _ _ (c .if1 .taken ∙ c .before .word-of .ensures)),
+          ∙ ap (λ (t : Bool). t && mapIs (drop (s .loop .i + 1) (a .map .now)) (drop (64 * (s .loop .i + 1)) (a .owner .now))) (sym (c .before .word-is .ensures) ∙ c .if1 .taken),
     )
 
 returns : tie.Need-returns Inv-loop μ-loop
@@ -49,7 +49,7 @@ returns c =
     let s = c .before .before .before .before in
     let a = s .before .before .before .args in
     sym (s .loop .inv .2 ∙ map-is-step (a .map .now) (a .owner .now) (s .loop .i) (c .before .before .before .loop-test .taken)
-    ∙ simp (ne-eqb _ _ (λ e. c .if1 .left (e ∙ sym (c .before .word-of .ensures)))))
+    ∙ ap (λ (t : Bool). t && mapIs (drop (s .loop .i + 1) (a .map .now)) (drop (64 * (s .loop .i + 1)) (a .owner .now))) (sym (c .before .word-is .ensures) ∙ c .if1 .left))
 
 returns-2 : tie.Need-returns-2 Inv-loop μ-loop
 unfolding mapIs
@@ -65,9 +65,9 @@ map-is-spec =
     Inv-loop
     μ-loop
     loop-holds
-    mul-if1
-    shared-slice-read-if1
-    word-of-requires
+    mul-word-is
+    shared-slice-read-word-is
+    word-is-requires
     add-i
     loop-less
     loop-again

@@ -1,59 +1,42 @@
--- `blocks::next_of` meets its contract. The invariant: the search from the block reached finds what the search from the start finds.
+-- `blocks::next_of` meets its contract. Where block `from` is not the owner's, parts that are none of the owner's are passed over first.
 use Prim.Native.Nat.{_-_}
 use mathlib.Core.Path.{_≡_, refl, sym, _∙_}
-use native.Mathlib.Omega.{arith}
-use lib.ListN.{length}
-use native.Mathlib.Numerals.{add-one}
-use Rattle.blocks.specs.Owners.{nextOf}
-use Rattle.blocks.proofs.Owners.{next-here, next-skip, next-end}
+use Rattle.blocks.proofs.Owners.{next-here, next-end}
+use borrow.Author.Needs.{needs}
 use Rattle.blocks.proofs.next_of.Statement.{statement}
 use Rattle.blocks.proofs.next_of.Tie as tie
 
-abbrev Inv-loop : tie.InvT-loop
-Inv-loop owner v from b₀ b = nextOf v owner from ≡ nextOf v owner b
+returns : tie.Need-returns
+returns c = sym (next-end (c .before .before .args .v) (c .before .before .args .owner .now) (c .before .before .args .from) (c .if1 .taken))
 
-abbrev μ-loop : tie.MeasureT-loop
-μ-loop owner v from b₀ b = length owner - b
+mul-if2 : tie.Need-mul-if2
+mul-if2 c = search needs
 
-loop-holds : tie.Need-loop-holds Inv-loop μ-loop
-loop-holds c = refl
+shared-slice-read-if2 : tie.Need-shared-slice-read-if2
+shared-slice-read-if2 c = search needs
 
-mul-if1 : tie.Need-mul-if1 Inv-loop μ-loop
-mul-if1 c = omega arith
+returns-2 : tie.Need-returns-2
+returns-2 c =
+    let a = c .before .before .before .before .args in
+    sym (next-here (a .v) (a .owner .now) (a .from) (c .before .before .if1 .left) (c .if2 .taken))
 
-shared-slice-read-if1 : tie.Need-shared-slice-read-if1 Inv-loop μ-loop
-shared-slice-read-if1 c = omega arith
+pass-parts-requires : tie.Need-pass-parts-requires
+pass-parts-requires c κs = search needs
 
-returns : tie.Need-returns Inv-loop μ-loop
-returns c =
-    let s = c .before .before .before in
-    sym (s .loop .inv ∙ next-here (s .before .args .v) (s .before .args .owner .now) (s .loop .b) (c .before .before .loop-test .taken) (c .if1 .taken))
+scan-of-requires : tie.Need-scan-of-requires
+scan-of-requires c κs = search needs
 
-add-b : tie.Need-add-b Inv-loop μ-loop
-add-b c = omega arith
-
-loop-less : tie.Need-loop-less Inv-loop μ-loop
-loop-less c = omega arith
-
-loop-again : tie.Need-loop-again Inv-loop μ-loop
-loop-again c =
-    let s = c .before .before .before in
-    rw add-one (s .loop .inv ∙ next-skip (s .before .args .v) (s .before .args .owner .now) (s .loop .b) (c .if1 .left))
-
-returns-2 : tie.Need-returns-2 Inv-loop μ-loop
-returns-2 c = let s = c .before in sym (s .loop .inv ∙ next-end (s .before .args .v) (s .before .args .owner .now) (s .loop .b) (c .loop-test .left))
+returns-3 : tie.Need-returns-3
+returns-3 c = c .scan-of .ensures ∙ sym (c .before .pass-parts .ensures)
 
 pub next-of-spec : {M : Type 1} → statement M
 next-of-spec =
     tie.close
     (tie.spec
-    Inv-loop
-    μ-loop
-    loop-holds
-    mul-if1
-    shared-slice-read-if1
     returns
-    add-b
-    loop-less
-    loop-again
-    returns-2)
+    mul-if2
+    shared-slice-read-if2
+    returns-2
+    pass-parts-requires
+    scan-of-requires
+    returns-3)

@@ -106,15 +106,15 @@ put-run-requires c κs =
     let n = run-size (a .bytes .now) (s .loop .i) (r .result) (omega (arith, r .ensures .0)) in
     omega (arith, n, r .ensures .1, s .loop .inv .fits, walk-in (a .v) (a .owner .now) (a .at) (length (a .bytes .now)) (s .loop .i) (s .loop .b) t (omega arith))
 
-add-next-of : tie.Need-add-next-of Inv-loop μ-loop
-add-next-of c =
+add-next-before : tie.Need-add-next-before Inv-loop μ-loop
+add-next-before c =
     let s = c .before .before .before .before .before .before .before in
     let a = s .before .before .before .before .before .args in
     let t = s .loop .inv .walk in
     omega (arith, t .few, t .room, t .done, s .loop .inv .fits, s .loop .inv .size, walk-in (a .v) (a .owner .now) (a .at) (length (a .bytes .now)) (s .loop .i) (s .loop .b) t (omega (arith, s .loop .inv .size)))
 
-next-of-requires : tie.Need-next-of-requires Inv-loop μ-loop
-next-of-requires c κs = omega arith
+next-before-requires : tie.Need-next-before-requires Inv-loop μ-loop
+next-before-requires c κs = omega arith
 
 loop-less : tie.Need-loop-less Inv-loop μ-loop
 loop-less c =
@@ -130,7 +130,7 @@ loop-again c =
     let t = s .loop .inv .walk in
     let r = c .before .before .before .before .before .before .run-length in
     write-next (a .disk .now) (a .owner .now) (a .v) (a .at) (a .bytes .now) (s .loop .disk) (s .loop .b) (s .loop .i) (r .result) (s .loop .inv) (c .before .before .before .before .before .before .before .loop-test .taken)
-    (r .ensures .0) (r .ensures .1) (r .ensures .3) _ _ (c .before .before .before .put-run .ensures) (c .next-of .ensures)
+    (r .ensures .0) (r .ensures .1) (r .ensures .3) _ _ (c .before .before .before .put-run .ensures) (c .next-before .ensures)
 
 same-length : tie.Need-same-length Inv-loop μ-loop
 same-length c = c .before .loop .inv .size
@@ -162,8 +162,8 @@ put-runs-spec =
     part-put-run-start
     part-put-run-end
     put-run-requires
-    add-next-of
-    next-of-requires
+    add-next-before
+    next-before-requires
     loop-less
     loop-again
     same-length

@@ -34,14 +34,14 @@ down c =
 mul-start : tie.Need-mul-start Inv-loop μ-loop
 mul-start c = omega arith
 
-word-end-requires : tie.Need-word-end-requires Inv-loop μ-loop
-word-end-requires c κs = omega arith
+part-end-requires : tie.Need-part-end-requires Inv-loop μ-loop
+part-end-requires c κs = omega arith
 
 loop-holds : tie.Need-loop-holds Inv-loop μ-loop
 loop-holds c =
-    let e = c .word-end .ensures in
+    let e = c .part-end .ensures in
     let a = c .before .before .args in
-    (refl, e .0, e .1, e .2, word-start (a .owner .now) (64 * a .i + 64) (c .word-end .result) (e .2) (e .3))
+    (refl, omega arith, e .1, e .2, word-start (a .owner .now) (64 * a .i + 64) (c .part-end .result) (e .2) (e .3))
 
 sub-b : tie.Need-sub-b Inv-loop μ-loop
 sub-b c = omega arith
@@ -84,7 +84,7 @@ word-of-spec =
     Inv-loop
     μ-loop
     mul-start
-    word-end-requires
+    part-end-requires
     loop-holds
     sub-b
     mul-free-bit
