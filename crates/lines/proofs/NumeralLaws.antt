@@ -136,7 +136,7 @@ and-good true = refl
 and-good false = refl
 
 module _ (line : List ℕ) (i : ℕ) where
-  pair : i + 1 < length line → drop i line ≡ getD line i 0 ∷ getD line (i + 1) 0 ∷ drop (i + 2) line
+  pub pair : i + 1 < length line → drop i line ≡ getD line i 0 ∷ getD line (i + 1) 0 ∷ drop (i + 2) line
   pair h =
       let e : i + 2 ≡ suc (i + 1) = omega arith in
       rw (drop-cons line i 0 (omega arith), ← add-one i, e, drop-cons line (i + 1) 0 h)

@@ -19,7 +19,8 @@ use Rattle.packet.specs.Machine.{Step, more, ends, Run, Call, called, fu
 use Rattle.packet.specs.Frame.{Held, Event, packet, too-long, none-held, announcedIn, packetIn, judged, byte}
 use Rattle.packet.specs.Feed.{Part, markOf, fedMore, afterByte, feedOf}
 use Rattle.packet.proofs.Cut.{cut-elsewhere, call-cut, call-end, step-more, step-ends}
-use Rattle.packet.proofs.FrameLaws.{more-short, feed-is-call}
+use Rattle.packet.proofs.FeedLaws.{more-short}
+use Rattle.packet.proofs.FrameLaws.{feed-is-call}
 use Rattle.packet.proofs.PacketLaws.{clash}
 
 -- ---- THEOREM: the bytes of a link, cut elsewhere, come to the same packets and the same state

@@ -2,7 +2,7 @@
 -- That this comes to Frame.antt is proved in proofs/FrameLaws.antt. Assumes nothing.
 use mathlib.Core.Bool.{Bool, true, false, cond}
 use mathlib.Core.List.{List, [], _∷_}
-use Prim.Native.Nat.{ℕ, _+_}
+use Prim.Native.Nat.{ℕ, _+_, _-_}
 use lib.Dec.{ltb}
 use lib.ListN.{set}
 use Rattle.packet.specs.Frame.{announcedIn}
@@ -13,6 +13,14 @@ use Rattle.packet.specs.declared.frame.Fed.{Fed}
 -- what the first n bytes of a part come to
 unfoldable pub markOf : ℕ → List ℕ → Mark
 markOf n p = cond (ltb n 2) More (cond (ltb 256 (announcedIn p)) Long (cond (ltb n (2 + announcedIn p)) More End))
+
+-- how many bytes a part of n bytes takes before it is judged again: those of the head, then those that the head announces; where that is too
+-- long or they are there, one
+unfoldable pub wantedOf : ℕ → List ℕ → ℕ
+wantedOf n p = cond (ltb n 2) (2 - n) (cond (ltb 256 (announcedIn p)) 1 (cond (ltb n (2 + announcedIn p)) (2 + announcedIn p - n) 1))
+
+abbrev pub leastOf : ℕ → ℕ → ℕ
+leastOf a b = cond (ltb a b) a b
 
 pub record Part : Type 0 where
   pub fed : Fed

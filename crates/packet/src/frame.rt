@@ -5,7 +5,7 @@ ghost use Prim.Native.Nat.{_+_, _<_, _≤_};
 ghost use lib.ListN.{length, take, drop, replicate};
 ghost use Rattle.packet.specs.Packet.{announced};
 ghost use Rattle.packet.specs.Frame.{padded, withoutPacket, heard, receiveOf};
-ghost use Rattle.packet.specs.Feed.{markOf, fedIn, feedOf};
+ghost use Rattle.packet.specs.Feed.{markOf, wantedOf, leastOf, fedIn, feedOf};
 
 // What the bytes came to.
 pub enum Frame {
@@ -65,7 +65,43 @@ fn mark_of(part: &[u8], n: usize) -> Mark
     Mark::End
 }
 
-// Stores bytes up to the end of a packet, or all of them.
+// How many bytes a part of n bytes takes before it is judged again: the two of the head, then all that they announce.
+fn wanted(part: &[u8], n: usize) -> usize
+    requires { ⌜ 1 < length (now part) ⌝ }
+    ensures { λ r. ⌜ r ≡ wantedOf n (now (part .entry)) ⌝ }
+{
+    if n < 2 {
+        return 2 - n;
+    }
+    let count = announced_by(part[0], part[1]);
+    if 256 < count {
+        return 1;
+    }
+    if n < 2 + count {
+        return 2 + count - n;
+    }
+    1
+}
+
+// The smaller of two numbers.
+fn least(a: usize, b: usize) -> usize
+    ensures { λ r. ⌜ r ≡ leastOf a b ⌝ }
+{
+    if a < b {
+        return a;
+    }
+    b
+}
+
+// How many of the bytes left are stored at once.
+fn run_length(part: &[u8], n: usize, left: usize) -> usize
+    requires { ⌜ (1 < length (now part)) × (n < 258) × (0 < left) ⌝ }
+    ensures { λ r. ⌜ (r ≡ leastOf (wantedOf n (now (part .entry))) left) × (0 < r) × (r ≤ left) × (n + r ≤ 258) ⌝ }
+{
+    least(wanted(part, n), left)
+}
+
+// Stores bytes up to the end of a packet, or all of them, as many at once as cannot end a packet before the last of them.
 fn feed(part: &mut [u8], held: usize, input: &[u8]) -> Fed
     requires { ⌜ (held < 258) × (length (now part) ≡ 258) ⌝ }
     ensures { λ r. ⌜ fedIn r (now (part .exit)) ≡ feedOf (now (part .entry)) held (now (input .entry)) ⌝ }
@@ -73,9 +109,10 @@ fn feed(part: &mut [u8], held: usize, input: &[u8]) -> Fed
     let mut n = held;
     let mut i = 0;
     while i < input.len() {
-        part[n] = input[i];
-        n += 1;
-        i += 1;
+        let k = run_length(&*part, n, input.len() - i);
+        store(part, n, &input[i..i + k]);
+        n += k;
+        i += k;
         let m = mark_of(&*part, n);
         match m {
             Mark::End => {

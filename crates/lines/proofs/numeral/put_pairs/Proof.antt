@@ -1,19 +1,19 @@
+use native.Mathlib.Omega.{arith}
+use mathlib.Core.Path.{_≡_, refl, sym, ap, _∙_}
+use mathlib.Core.Bool.{true}
+use Prim.Native.Nat.{_≤_, _-_, _+_, _*_}
+use borrow.Author.Needs.{needs}
+use lib.ListN.{length, drop}
+use lib.Seq.{sets}
+use Rattle.lines.specs.Numerals.{isHex, bytesIn}
+use Rattle.lines.proofs.NumeralLaws.{pairs-end}
+use Rattle.lines.proofs.PairLaws.{two-left, piece-good, piece-size, piece-back, piece-count, piece-next}
 use Rattle.lines.proofs.numeral.put_pairs.Statement.{statement}
 use Rattle.lines.proofs.numeral.put_pairs.Tie as tie
 use Rattle.lines.proofs.numeral.put_pairs.Reads as reads
 use Rattle.lines.proofs.numeral.put_pairs.Lts as lts
-use Rattle.lines.proofs.numeral.hex_value.Reads as hex-value-reads
-use native.Mathlib.Omega.{arith}
-use mathlib.Core.Path.{_≡_, refl, sym, _∙_}
-use Prim.Native.Nat.{_≤_, _-_, _+_, _*_}
-use borrow.Author.Needs.{needs}
-use borrow.Author.Tests.{lt-ltb, le-ltb}
-use mathlib.Core.Bool.{true}
-use lib.ListN.{length, drop, getD, length-set}
-use lib.Seq.{sets}
-use Rattle.lines.specs.Numerals.{isHex, bytesIn}
-use Rattle.lines.proofs.NumeralLaws.{next-pair, bytes-pair, pairs-step, pairs-end}
-use mathlib.Core.Path.{ap}
+use Rattle.lines.proofs.numeral.piece.Reads as piece-reads
+use Rattle.lines.proofs.numeral.put_piece.Reads as put-piece-reads
 
 abbrev Inv-loop : tie.InvT-loop
 Inv-loop line at bytes₀ i₀ k₀ bytes i k =
@@ -28,74 +28,59 @@ abbrev μ-loop : tie.MeasureT-loop
 loop-holds : tie.Need-loop-holds Inv-loop μ-loop
 loop-holds c = (c .before .before .pre .0, refl, omega arith, refl)
 
-shared-slice-read-hex-value : tie.Need-shared-slice-read-hex-value Inv-loop μ-loop
-shared-slice-read-hex-value c = omega arith
+sub-piece : tie.Need-sub-piece Inv-loop μ-loop
+sub-piece c = search needs
 
-hex-value-requires : tie.Need-hex-value-requires Inv-loop μ-loop
-hex-value-requires c κs = search needs
+piece-requires : tie.Need-piece-requires Inv-loop μ-loop
+piece-requires c κs = two-left (c .before .before .before .before .args .line .now) (c .before .loop .i) (c .loop-test .taken) (c .before .loop .inv .0)
 
-mul-bytes : tie.Need-mul-bytes Inv-loop μ-loop
-mul-bytes c = let l = c .before .before .before .loop in let p = next-pair (c .before .before .before .before .before .before .args .line
-    .now) (l .i) (omega arith) (l .inv .0) in rw (c .hex-value .ensures) (omega (arith, p .high))
+mul-put-piece : tie.Need-mul-put-piece Inv-loop μ-loop
+mul-put-piece c = search needs
 
-add-hex-value : tie.Need-add-hex-value Inv-loop μ-loop
-add-hex-value c = omega arith
+add-put-piece : tie.Need-add-put-piece Inv-loop μ-loop
+add-put-piece c = search needs
 
-shared-slice-read-hex-value-2 : tie.Need-shared-slice-read-hex-value-2 Inv-loop μ-loop
-shared-slice-read-hex-value-2 c = let l = c .before .before .before .before .loop in next-pair (c .before .before .before .before .before
-    .before .before .args .line .now) (l .i) (omega arith) (l .inv .0) .room
+sub-put-piece : tie.Need-sub-put-piece Inv-loop μ-loop
+sub-put-piece c = search needs
 
-hex-value-requires-2 : tie.Need-hex-value-requires-2 Inv-loop μ-loop
-hex-value-requires-2 c κs = search needs
+part-put-piece-start : tie.Need-part-put-piece-start Inv-loop μ-loop
+part-put-piece-start c = search needs
 
-add-bytes : tie.Need-add-bytes Inv-loop μ-loop
-add-bytes c = let l = c .before .before .before .before .before .loop in let p = next-pair (c .before .before .before .before .before
-    .before .before .before .args .line .now) (l .i) (omega arith) (l .inv .0) in rw (
-      c .before .before .hex-value .ensures,
-      c .hex-value2
-          .ensures,
-    ) (omega (arith, p .high, p .low))
+part-put-piece-end : tie.Need-part-put-piece-end Inv-loop μ-loop
+part-put-piece-end c = search needs
 
-slice-write-bytes : tie.Need-slice-write-bytes Inv-loop μ-loop
-slice-write-bytes c = let l = c .before .before .before .before .before .loop in let p = next-pair (c .before .before .before .before
-    .before .before .before .before .args .line .now) (l .i) (omega arith) (l .inv .0) in omega (
-      arith,
-      ap length (bytes-pair (c .before
-          .before .before .before .before .before .before .before .args .line .now) (l .i) (p .room)),
-    )
+put-piece-requires : tie.Need-put-piece-requires Inv-loop μ-loop
+put-piece-requires c κs = (
+  piece-good (c .before .before .before .before .before .before .before .args .line .now) (c .before .before .before .before .loop .i) (c .before .before .piece .result) (c .before .before .before .before .loop .inv .0) (c .before .before .piece .ensures .2),
+  omega (arith, piece-size (c .before .before .before .before .before .before .before .args .line .now) (c .before .before .before .before .loop .i) (c .before .before .piece .result) (c .before .before .before .before .loop .inv .0) (c .before .before .piece .ensures .2)),
+  omega (arith, piece-size (c .before .before .before .before .before .before .before .args .line .now) (c .before .before .before .before .loop .i) (c .before .before .piece .result) (c .before .before .before .before .loop .inv .0) (c .before .before .piece .ensures .2), piece-count (c .before .before .before .before .before .before .before .args .line .now) (c .before .before .before .before .loop .i) (c .before .before .piece .result) (c .before .before .before .before .loop .inv .0) (c .before .before .piece .ensures .2)),
+)
+
+mul-i : tie.Need-mul-i Inv-loop μ-loop
+mul-i c = search needs
 
 add-i : tie.Need-add-i Inv-loop μ-loop
-add-i c = let l = c .before .before .before .before .before .loop in let p = next-pair (c .before .before .before .before .before .before
-    .before .before .args .line .now) (l .i) (omega arith) (l .inv .0) in omega (arith, p .room)
+add-i c = search needs
 
 add-k : tie.Need-add-k Inv-loop μ-loop
-add-k c = let l = c .before .before .before .before .before .loop in let p = next-pair (c .before .before .before .before .before .before
-    .before .before .args .line .now) (l .i) (omega arith) (l .inv .0) in omega (
-      arith,
-      ap length (bytes-pair (c .before .before .before
-          .before .before .before .before .before .args .line .now) (l .i) (p .room)),
-    )
+add-k c = omega (arith, piece-count (c .before .before .before .before .before .before .before .before .before .before .args .line .now) (c .before .before .before .before .before .before .before .loop .i) (c .before .before .before .before .before .piece .result) (c .before .before .before .before .before .before .before .loop .inv .0) (c .before .before .before .before .before .piece .ensures .2))
 
 loop-less : tie.Need-loop-less Inv-loop μ-loop
-loop-less c = omega arith
+loop-less c = search needs
 
 loop-again : tie.Need-loop-again Inv-loop μ-loop
-loop-again c = let l = c .before .before .before .before .before .loop in let line = c .before .before .before .before .before .before
-    .before .before .args .line .now in let p = next-pair line (l .i) (omega arith) (l .inv .0) in let n = ap length (bytes-pair line (l .i)
-    (p .room)) in (
-      p .more,
-      simp length-set (omega arith),
-      omega arith,
-      rw (c .before .before .hex-value .ensures, c .hex-value2 .ensures)
-          (pairs-step (l .bytes) (l .k) line (l .i) _ (p .room) (l .inv .3)),
-    )
+loop-again c = (
+  piece-back (c .before .before .before .before .before .before .before .before .before .before .args .line .now) (c .before .before .before .before .before .before .before .loop .i) (c .before .before .before .before .before .piece .result) (c .before .before .before .before .before .before .before .loop .inv .0) (c .before .before .before .before .before .piece .ensures .2),
+  search needs,
+  omega (arith, piece-count (c .before .before .before .before .before .before .before .before .before .before .args .line .now) (c .before .before .before .before .before .before .before .loop .i) (c .before .before .before .before .before .piece .result) (c .before .before .before .before .before .before .before .loop .inv .0) (c .before .before .before .before .before .piece .ensures .2)),
+  piece-next (c .before .before .before .before .before .before .before .before .before .before .args .line .now) (c .before .before .before .before .before .before .before .loop .i) (c .before .before .before .before .before .piece .result) (c .before .before .before .before .before .before .before .loop .inv .0) (c .before .before .before .before .before .piece .ensures .2) (c .before .before .before .before .before .before .before .loop .bytes) (c .before .before .put-piece .last .1 .0) (c .before .before .before .before .before .before .before .loop .k) _ (c .before .before .put-piece .ensures) (c .before .before .before .before .before .before .before .loop .inv .3),
+)
 
 same-length : tie.Need-same-length Inv-loop μ-loop
-same-length c = omega arith
+same-length c = search needs
 
 returns : tie.Need-returns Inv-loop μ-loop
-returns c = let l = c .before .loop in pairs-end (l .bytes) (l .k) (c .before .before .before .before .args .line .now) (l .i) _ (omega
-    arith) (l .inv .3)
+returns c = let l = c .before .loop in pairs-end (l .bytes) (l .k) (c .before .before .before .before .args .line .now) (l .i) _ (omega arith) (l .inv .3)
 
 pub put-pairs-spec : {M : Type 1} → statement M
 put-pairs-spec =
@@ -104,14 +89,15 @@ put-pairs-spec =
     Inv-loop
     μ-loop
     loop-holds
-    shared-slice-read-hex-value
-    hex-value-requires
-    mul-bytes
-    add-hex-value
-    shared-slice-read-hex-value-2
-    hex-value-requires-2
-    add-bytes
-    slice-write-bytes
+    sub-piece
+    piece-requires
+    mul-put-piece
+    add-put-piece
+    sub-put-piece
+    part-put-piece-start
+    part-put-piece-end
+    put-piece-requires
+    mul-i
     add-i
     add-k
     loop-less
