@@ -3,7 +3,8 @@ use mathlib.Core.Path.{_∙_, ap}
 use Prim.Native.Nat.{ℕ, _+_}
 use mathlib.Core.List.{List}
 use Rattle.header.specs.Items.{fieldsOf}
-use Rattle.equation.specs.Marks.{settledBy, relationsOf}
+use Rattle.equation.specs.Marks.{settledBy}
+use Rattle.equation.specs.Parsed.{relationsBy}
 use Rattle.stored.proofs.LaidLaws.{part-lies, part-contents}
 use borrow.Author.Needs.{needs}
 use Rattle.stored.proofs.settle_file.Statement.{statement}
@@ -33,8 +34,8 @@ part-settle-laid-end c = search needs
 settle-laid-requires : tie.Need-settle-laid-requires
 settle-laid-requires c κs =
     let s = c .before .before .before .before .before in
-    let a = s .before .before .before .before .before .before .args in
-    let p = s .before .before .before .before .before .before .pre in
+    let a = s .before .before .before .before .before .before .before .args in
+    let p = s .before .before .before .before .before .before .before .pre in
     let n = c .before .before .before .least in
     part-lies (a .place + 1) (a .owner .now) (a .disk .now) _ (s .fill-row .result) (a .received) (n .result) (s .fill-row .ensures) (p .0) (p .1) (n .ensures .0) (n .ensures .1) (n .ensures .2)
 
@@ -44,11 +45,11 @@ same-length c = search needs
 returns : tie.Need-returns
 returns c =
     let s = c .before .before .before .before .before .before .before .before in
-    let a = s .before .before .before .before .before .before .args in
-    let p = s .before .before .before .before .before .before .pre in
+    let a = s .before .before .before .before .before .before .before .args in
+    let p = s .before .before .before .before .before .before .before .pre in
     let n = c .before .before .before .before .before .before .least in
     c .before .before .settle-laid .ensures
-    ∙ ap (λ (xs : List ℕ). settledBy (fieldsOf xs) (relationsOf (a .eq .now)) (a .truths .now))
+    ∙ ap (λ (xs : List ℕ). settledBy (fieldsOf xs) (relationsBy (a .eq .now) (a .steps .now)) (a .truths .now))
     (part-contents (a .place + 1) (a .owner .now) (a .disk .now) _ (s .fill-row .result) (a .received) (n .result) (s .fill-row .ensures) (p .0) (p .1) (n .ensures .0) (n .ensures .1) (n .ensures .2))
 
 pub settle-file-spec : {M : Type 1} → statement M
