@@ -217,7 +217,7 @@ pub fn set_fields(
 
 // Writes the blocks of a place to the row, in rising order, and answers how many they are.
 fn fill_row(owner: &[u16], place: u16, row: &mut [u16]) -> usize
-    requires { ⌜ (length (now owner) ≤ 4096) × (length (now row) ≡ 4096) × (place < 256) ⌝ }
+    requires { ⌜ (length (now owner) ≤ 4096) × (length (now owner) ≤ length (now row)) × (place < 256) ⌝ }
     ensures { λ r. ⌜ Row (place + 1) (now (owner .entry)) (now (row .exit)) r ⌝ }
 {
     let mut k = 0;
@@ -348,7 +348,27 @@ fn settle_laid(eq: &[u8], steps: &[u16], disk: &[u8], row: &[u16], n: usize, tru
     }
 }
 
-// Settles the equation's relations by the items of the file at a place.
+// Settles the equation's relations by the items of the file at a place, with a row that has room for its blocks.
+fn settle_in_row(
+    eq: &[u8],
+    steps: &[u16],
+    disk: &[u8],
+    owner: &[u16],
+    place: u16,
+    received: usize,
+    row: &mut [u16],
+    truths: &mut [u8],
+)
+    requires { ⌜ (length (now owner) ≤ 4096) × (256 * length (now owner) ≤ length (now disk)) × (place < 256) × (length (now owner) ≤ length (now row)) ⌝ }
+    ensures { λ r. ⌜ now (truths .exit) ≡ settledBy (fieldsOf (fileAt (now (disk .entry)) (now (owner .entry)) place received)) (relationsBy (now (eq .entry)) (now (steps .entry))) (now (truths .entry)) ⌝ }
+{
+    let count = fill_row(owner, place, row);
+    let n = least(received, 256 * count);
+    settle_laid(eq, steps, disk, &row[0..count], n, truths);
+}
+
+// Settles the equation's relations by the items of the file at a place. The row is set to zeros for each file, which would take longer than a
+// small store's header; so such a store has a short one.
 fn settle_file(
     eq: &[u8],
     steps: &[u16],
@@ -361,10 +381,13 @@ fn settle_file(
     requires { ⌜ (length (now owner) ≤ 4096) × (256 * length (now owner) ≤ length (now disk)) × (place < 256) ⌝ }
     ensures { λ r. ⌜ now (truths .exit) ≡ settledBy (fieldsOf (fileAt (now (disk .entry)) (now (owner .entry)) place received)) (relationsBy (now (eq .entry)) (now (steps .entry))) (now (truths .entry)) ⌝ }
 {
-    let mut row = [0u16; 4096];
-    let count = fill_row(owner, place, &mut row);
-    let n = least(received, 256 * count);
-    settle_laid(eq, steps, disk, &row[0..count], n, truths);
+    if owner.len() <= 256 {
+        let mut row = [0u16; 256];
+        settle_in_row(eq, steps, disk, owner, place, received, &mut row, truths);
+    } else {
+        let mut row = [0u16; 4096];
+        settle_in_row(eq, steps, disk, owner, place, received, &mut row, truths);
+    }
 }
 
 // ---- equations

@@ -34,10 +34,11 @@ returns-5 : tie.Need-returns-5
 unfolding selectNumber
 returns-5 c =
     let a = c .before .before .before .before .before .before .before .before .before .before .args in
-    let p = c .before .before .parse in
-    (parsed-number (a .eq .now) (a .steps .now) _ _ (p .ensures) (c .before .before .before .before .before .before .before .before .before .before .pre) (c .before .before .before .before .if4 .left)
-    ∙ simp (le-leb _ _ (c .before .before .before .before .before .before .before .if1 .left), le-leb _ _ (c .before .before .before .before .before .before .if2 .left), le-leb _ _ (c .before .before .before .before .before .if3 .left), le-leb _ _ (c .before .before .before .before .if4 .left)),
-    parsed-steps (a .eq .now) (a .steps .now) _ _ (p .ensures))
+    let p = c .before .before .parse in (
+      parsed-number (a .eq .now) (a .steps .now) _ _ (p .ensures) (c .before .before .before .before .before .before .before .before .before .before .pre) (c .before .before .before .before .if4 .left)
+          ∙ simp (le-leb _ _ (c .before .before .before .before .before .before .before .if1 .left), le-leb _ _ (c .before .before .before .before .before .before .if2 .left), le-leb _ _ (c .before .before .before .before .before .if3 .left), le-leb _ _ (c .before .before .before .before .if4 .left)),
+      parsed-steps (a .eq .now) (a .steps .now) _ _ (p .ensures),
+    )
 
 pub select-parse-spec : {M : Type 1} → statement M
 select-parse-spec =
