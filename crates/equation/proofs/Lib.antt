@@ -1,11 +1,13 @@
 pub mod RelationLaws
 pub mod TokenLaws
 pub mod SymbolLaws
+pub mod StepLaws
 pub mod Stacks
-pub mod Runs
 pub mod MarkLaws
 pub mod Trees
 pub mod Settled
+pub mod Runs
+pub mod Parsing
 pub mod Depth
 pub mod First
 pub mod Append

@@ -5,16 +5,15 @@ use mathlib.Core.List.{List, [], _∷_, _++_, map}
 use Prim.Native.Nat.{ℕ, zero, suc, _+_, _-_, _≤_, _<_}
 use native.Mathlib.Omega.{arith}
 use native.Mathlib.Numerals.{add-one}
-use lib.Dec.{eqb, ltb}
+use lib.Dec.{eqb}
 use lib.ListN.{length, getD, take, drop, replicate}
 use lib.Seq.{drop-drop, getD-drop, take-all}
-use borrow.Author.Tests.{ltb-false, ne-eqb}
+use borrow.Author.Tests.{ne-eqb}
 use Rattle.header.specs.Items.{Field, walk, marked, fieldsOf}
 use Rattle.equation.specs.Relation.{meets}
 use Rattle.equation.specs.Holds.{Relation, holds}
 use Rattle.equation.specs.Marks.{markAfter, settled, settledBy, relationsOf, markedTrue}
-use Rattle.equation.specs.Answer.{answer, outcomeOf, answerOn}
-use Rattle.equation.proofs.SymbolLaws.{few-relations}
+use Rattle.equation.specs.Answer.{outcomeOf, answerOn}
 use Rattle.equation.proofs.MarkLaws.{settled-length}
 use Rattle.equation.proofs.Trees.{Agree, answer-same}
 
@@ -103,17 +102,6 @@ pub settled-outcome : (eq : List ℕ) (xs : List Field) (n : ℕ)
 settled-outcome eq xs n h =
     answer-same (λ k r. markedTrue (settledBy xs (relationsOf eq) (replicate n 0)) k) (λ k r. holds r xs) eq
     (agree xs (settledBy xs (relationsOf eq) (replicate n 0)) (relationsOf eq) 0 n h refl)
-
--- 511 marks are enough for every equation that is taken
-pub enough-marks : (eq : List ℕ) (xs : List Field) → outcomeOf eq (settledBy xs (relationsOf eq) (replicate 511 0)) ≡ answerOn eq xs
-enough-marks eq xs = go (ltb 2047 (length eq)) refl
-  where
-    long : (f g : ℕ → Relation → Bool) → ltb 2047 (length eq) ≡ true → answer f eq ≡ answer g eq
-    long f g e = unfold answer in rw e
-
-    go : (x : Bool) → ltb 2047 (length eq) ≡ x → outcomeOf eq (settledBy xs (relationsOf eq) (replicate 511 0)) ≡ answerOn eq xs
-    go true e = long (λ k r. markedTrue (settledBy xs (relationsOf eq) (replicate 511 0)) k) (λ k r. holds r xs) e
-    go false e = settled-outcome eq xs 511 (omega (arith, few-relations eq, ltb-false 2047 (length eq) e))
 
 -- ---- the items of a file, by its first two bytes
 

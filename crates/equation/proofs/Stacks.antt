@@ -11,7 +11,8 @@ use lib.ListN.{length, getD, set}
 use lib.Seq.{getD-set-same, getD-set-other}
 use borrow.Author.Tests.{eqb-true, eqb-false, lt-ltb, le-ltb}
 use Rattle.equation.specs.Tree.{pushed, joined, result}
-use Rattle.equation.specs.Steps.{stackOf, verdict, finished}
+use Rattle.equation.specs.Answer.{verdict}
+use Rattle.equation.specs.Steps.{stackOf, finished}
 use Rattle.equation.specs.declared.evaluation.Truth.the-variants.{No, Yes, Refused}
 
 stack-length : (bits : List Bool) (d : ℕ) → length (stackOf bits d) ≡ d

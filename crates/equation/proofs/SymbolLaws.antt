@@ -1,33 +1,14 @@
--- Laws on the symbols of an equation: from token to token. Assumes nothing.
-use mathlib.Core.Path.{_≡_, refl, sym, ap, _∙_}
+-- Laws on the symbols of an equation. Assumes nothing.
+use mathlib.Core.Path.{_≡_, refl, sym, _∙_}
 use mathlib.Core.Bool.{Bool, true, false, cond}
 use mathlib.Core.List.{List, [], _∷_}
 use Prim.Native.Nat.{ℕ, zero, suc, _+_, _-_, _*_, _≤_}
 use native.Mathlib.Omega.{arith}
-use lib.ListN.{length, take, drop}
-use lib.Seq.{drop-drop}
-use Rattle.equation.specs.Holds.{relationOf}
-use Rattle.equation.specs.Symbols.{tokenOf, Symbol, rel, and, or, bad, follow, symbolsPast, symbols, relations}
+use lib.ListN.{length, drop}
+use Rattle.equation.specs.Symbols.{tokenOf, Symbol, and, or, follow, symbolsPast, symbols, relations}
 use Rattle.equation.specs.declared.tokens.Token.{Token}
 use Rattle.equation.specs.declared.tokens.Token.the-variants.{Bad, End, And, Or, Rel}
 use Rattle.equation.proofs.TokenLaws.{relation-fits, more-within}
-
--- the symbols past so many bytes are those of the bytes after them
-pub symbols-skip : (n : ℕ) (bs : List ℕ) → symbolsPast n bs ≡ symbols (drop n bs)
-unfolding symbolsPast
-symbols-skip zero bs = refl
-symbols-skip (suc n) [] = refl
-symbols-skip (suc n) (b ∷ bs) = symbols-skip n bs
-
--- the symbols by the first token
-at-token : (ys : List ℕ) (t : Token) → tokenOf ys ≡ t → symbols ys ≡ follow t ys (λ n. symbolsPast n (drop 1 ys))
-unfolding symbolsPast
-at-token [] t e = rw (← e) (unfold tokenOf follow in refl)
-at-token (c ∷ bs) t e = rw e
-
--- the constant of the relation at a place, as the code reads it
-pub constant-part : (eq : List ℕ) (at n : ℕ) → take (at + 4 + n - (at + 4)) (drop (at + 4) eq) ≡ take n (drop 4 (drop at eq))
-constant-part eq at n = let d : at + 4 + n - (at + 4) ≡ n = omega arith in rw (d, drop-drop 4 at eq)
 
 -- AND or OR
 abbrev pub joinToken : Bool → Token
@@ -35,33 +16,6 @@ joinToken all = cond all And Or
 
 abbrev pub joinSymbol : Bool → Symbol
 joinSymbol all = cond all and or
-
--- the symbols from a place on
-module _ (eq : List ℕ) (at : ℕ) where
-  pub symbols-bad : tokenOf (drop at eq) ≡ Bad → symbols (drop at eq) ≡ bad ∷ []
-  unfolding follow
-  symbols-bad e = at-token (drop at eq) Bad e
-
-  pub symbols-end : tokenOf (drop at eq) ≡ End → symbols (drop at eq) ≡ []
-  unfolding follow
-  symbols-end e = at-token (drop at eq) End e
-
-  pub symbols-join : (all : Bool) → tokenOf (drop at eq) ≡ joinToken all → symbols (drop at eq) ≡ joinSymbol all ∷ symbols (drop (at + 1) eq)
-  unfolding follow
-  symbols-join true e = at-token (drop at eq) And e ∙ ap (λ (l : List ℕ). and ∷ symbols l) (drop-drop 1 at eq)
-  symbols-join false e = at-token (drop at eq) Or e ∙ ap (λ (l : List ℕ). or ∷ symbols l) (drop-drop 1 at eq)
-
-  pub symbols-rel : (c i n : ℕ)
-      → tokenOf (drop at eq) ≡ Rel c i n
-      → symbols (drop at eq)
-      ≡ rel (relationOf c i (take (at + 4 + n - (at + 4)) (drop (at + 4) eq))) ∷ symbols (drop (at + 4 + n) eq)
-  unfolding follow
-  symbols-rel c i n e =
-      let q : at + (1 + (3 + n)) ≡ at + 4 + n = omega arith in
-      let far : symbolsPast (3 + n) (drop 1 (drop at eq)) ≡ symbols (drop (at + 4 + n) eq) =
-      symbols-skip (3 + n) (drop 1 (drop at eq))
-      ∙ ap (λ (l : List ℕ). symbols l) (drop-drop (3 + n) 1 (drop at eq) ∙ drop-drop (1 + (3 + n)) at eq ∙ ap (λ (j : ℕ). drop j eq) q) in
-      at-token (drop at eq) (Rel c i n) e ∙ rw (far, constant-part eq at n)
 
 -- AND and OR take a byte
 pub join-within : (eq : List ℕ) (at : ℕ) (all : Bool) → tokenOf (drop at eq) ≡ joinToken all → at + 1 ≤ length eq

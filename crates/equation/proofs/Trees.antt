@@ -12,9 +12,8 @@ use borrow.Author.Tests.{le-ltb, ltb-true, ltb-false}
 use Rattle.equation.specs.Holds.{Relation}
 use Rattle.equation.specs.Symbols.{Symbol, rel, and, or, bad, symbols, relations}
 use Rattle.equation.specs.Tree.{pushed, joined, result, bind, run, Tree, leaf, both, either, parse, truth}
-use Rattle.equation.specs.Marks.{relationsOf, markedTrue}
-use Rattle.equation.specs.Answer.{numberOf, said, answer, refusal, validityOf}
-use Rattle.equation.specs.Steps.{verdict, rest}
+use Rattle.equation.specs.Marks.{relationsOf}
+use Rattle.equation.specs.Answer.{numberOf, said, verdict, answer, refusal, validityOf}
 use Rattle.equation.specs.declared.evaluation.Truth.the-variants.{No, Yes, Refused}
 
 abbrev pub mapO : {A B : Type 0} → (A → B) → Option A → Option B
@@ -60,11 +59,9 @@ unfolding said verdict
 said-verdict f none = refl
 said-verdict f (some t) = refl
 
--- the evaluator's answer is the tree's
-pub evaluated : (eq ms : List ℕ) → verdict (rest ms 0 eq []) ≡ said (λ k r. markedTrue ms k) (parse eq)
-unfolding rest
-evaluated eq ms =
-    sym (said-verdict (λ k r. markedTrue ms k) (parse eq) ∙ ap verdict (run-is-truth (λ k r. markedTrue ms k) eq))
+-- a postfix run's answer is the tree's
+pub evaluated : (f : ℕ → Relation → Bool) (eq : List ℕ) → verdict (run f _&&_ _||_ 0 (symbols eq) []) ≡ said f (parse eq)
+evaluated f eq = sym (said-verdict f (parse eq) ∙ ap verdict (run-is-truth f eq))
 
 -- ---- refused or not, whatever the files
 
@@ -85,6 +82,16 @@ number-answer f eq = go (ltb 2047 (length eq))
     go : (x : Bool) → numberOf (cond x (Refused 33) (said f (parse eq))) ≡ cond x 33 (refusal (parse eq))
     go true = unfold numberOf in refl
     go false = number-said f (parse eq)
+
+-- a refused equation is refused on every file
+pub refused-answer : (f : ℕ → Relation → Bool) (eq : List ℕ) → (validityOf eq ≡ 0 → ⊥) → Refused (validityOf eq) ≡ answer f eq
+unfolding answer validityOf refusal said
+refused-answer f eq h = go (ltb 2047 (length eq)) (parse eq) h
+  where
+    go : (x : Bool) (o : Option Tree) → (cond x 33 (refusal o) ≡ 0 → ⊥) → Refused (cond x 33 (refusal o)) ≡ cond x (Refused 33) (said f o)
+    go true o h = refl
+    go false none h = refl
+    go false (some t) h = absurd (h refl)
 
 -- within 2,047 bytes: 8 exactly where there is no tree
 module _ (eq : List ℕ) (h : length eq ≤ 2047) where
@@ -155,12 +162,12 @@ abbrev pub Agree : {A : Type 0} → (ℕ → Relation → A) → (ℕ → Relati
 Agree f g k [] = Unit {0}
 Agree f g k (r ∷ rs) = (f k r ≡ g k r) × Agree f g (suc k) rs
 
-module _ {A : Type 0} (f g : ℕ → Relation → A) (b e : A → A → A) where
-  bind-same : {B C : Type 0} (o : Option B) (p q : B → Option C) → ((x : B) → p x ≡ q x) → bind o p ≡ bind o q
-  unfolding bind
-  bind-same none p q h = refl
-  bind-same (some x) p q h = h x
+pub bind-same : {B C : Type 0} (o : Option B) (p q : B → Option C) → ((x : B) → p x ≡ q x) → bind o p ≡ bind o q
+unfolding bind
+bind-same none p q h = refl
+bind-same (some x) p q h = h x
 
+module _ {A : Type 0} (f g : ℕ → Relation → A) (b e : A → A → A) where
   pub run-same : (k : ℕ) (ss : List Symbol) (st : List A) → Agree f g k (relations ss) → run f b e k ss st ≡ run g b e k ss st
   unfolding run relations
   run-same k [] st h = refl
@@ -175,7 +182,5 @@ pub answer-same : (f g : ℕ → Relation → Bool) (eq : List ℕ) → Agree f 
 unfolding answer
 answer-same f g eq h =
     let same : said f (parse eq) ≡ said g (parse eq) =
-    said-verdict f (parse eq)
-    ∙ ap verdict (run-is-truth f eq ∙ run-same f g _&&_ _||_ 0 (symbols eq) [] h ∙ sym (run-is-truth g eq))
-    ∙ sym (said-verdict g (parse eq)) in
+    sym (evaluated f eq) ∙ ap verdict (run-same f g _&&_ _||_ 0 (symbols eq) [] h) ∙ evaluated g eq in
     rw same

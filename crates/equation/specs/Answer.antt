@@ -24,6 +24,11 @@ unfoldable pub said : (ℕ → Relation → Bool) → Option Tree → Truth
 said f none = Refused 8
 said f (some t) = cond (truth f t) Yes No
 
+-- the same of a run's result
+unfoldable pub verdict : Option Bool → Truth
+verdict none = Refused 8
+verdict (some b) = cond b Yes No
+
 -- an equation, with the truth of its relations given
 unfoldable pub answer : (ℕ → Relation → Bool) → List ℕ → Truth
 answer f eq = cond (ltb 2047 (length eq)) (Refused 33) (said f (parse eq))

@@ -4,5 +4,6 @@ pub mod Symbols
 pub mod Tree
 pub mod Marks
 pub mod Answer
+pub mod Parsed
 pub mod Newer
 pub mod Steps

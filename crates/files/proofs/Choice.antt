@@ -11,6 +11,9 @@ use lib.Seq.{sets, sets-eq}
 use lib.Dec.{leb}
 use borrow.Author.Tests.{leb-true}
 use Rattle.equation.specs.Answer.{validityOf}
+use Rattle.equation.specs.Parsed.{stepsOf, parses, parseOf}
+use Rattle.equation.specs.declared.evaluation.Parsed.{Parsed}
+use Rattle.equation.proofs.Parsing.{taken, judged}
 use Rattle.table.specs.declared.File.{File}
 use Rattle.table.specs.declared.Found.the-variants.{Nothing, At}
 use Rattle.table.specs.Table.{noFile, files, times, uploaded}
@@ -197,6 +200,20 @@ select-room eq selected most e = go (leb 1 most && (leb most 50 && (leb most (le
     go : (t : Bool) → leb 1 most && (leb most 50 && (leb most (length selected) && leb (length eq) 256)) ≡ t → _≡_ {A = ℕ} (cond t (validityOf eq) 33) 0 → most ≤ length selected
     go true q e = leb-true most (length selected) (both-left _ (leb (length eq) 256) (both-right (leb most 50) _ (both-right (leb 1 most) _ q)))
     go false q e = absurd (omega arith)
+
+-- ---- the equation parsed
+
+-- a part from the first number on
+pub part-take : (n : ℕ) (l : List ℕ) → take (n - 0) (drop 0 l) ≡ take n l
+part-take n l = let e : n - 0 ≡ n = omega arith in rw e
+
+-- an equation of up to 256 bytes, with as many numbers lent for its steps
+module _ (eq steps steps′ : List ℕ) (p : Parsed) (e : parses p steps′ ≡ parseOf eq steps) where
+  pub parsed-number : 256 ≤ length steps → length eq ≤ 256 → p .refused ≡ validityOf eq
+  parsed-number r h = judged eq steps steps′ p e (λ l. omega arith)
+
+  pub parsed-steps : p .refused ≡ 0 → (p .count ≤ length steps′) × (take (p .count) steps′ ≡ stepsOf eq)
+  parsed-steps z = let t = taken eq steps steps′ p e z in (t .fits, sym (part-take (p .count) steps′) ∙ t .listed)
 
 module _ (eq disk owner table selected : List ℕ) (most : ℕ) where
   pub chosen-most : length (chosen most eq disk owner table) ≤ most

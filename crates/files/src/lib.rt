@@ -10,15 +10,18 @@ ghost use mathlib.Core.Path.{_≡_};
 ghost use Prim.Native.Nat.{_+_, _≤_, _<_};
 ghost use mathlib.Core.Bool.{cond};
 ghost use mathlib.Core.List.{_++_};
-ghost use lib.ListN.{length, set, drop, replicate};
+ghost use lib.ListN.{length, set, take, drop, replicate};
 ghost use lib.Seq.{sets};
+ghost use Rattle.equation.specs.Parsed.{stepsOf};
 ghost use Rattle.stored.specs.Answers.{truthAt};
 ghost use Rattle.table.specs.Table.{files, freeOf};
 ghost use Rattle.files.specs.Uploads.{begins, beginAt, beginIn, beginOf, after, placeNumber, writes, roomNumber, appendOf, frees, discardOf};
 ghost use Rattle.files.specs.Completion.{checkOf, completeOf, destinationsAt};
 ghost use Rattle.files.specs.Selection.{isYes, numbersAt, chosen, selectNumber, selects, selectOf};
 ghost use Rattle.files.specs.Sound.{soundTest};
+use equation::evaluation::Parsed;
 use equation::evaluation::Truth;
+use equation::evaluation::parse;
 use table::File;
 use table::Found;
 use table::Given;
@@ -238,14 +241,15 @@ pub struct Selection {
     pub count: usize,
 }
 
-// Whether the equation is true on the file at a place.
-fn meets(eq: &[u8], disk: &[u8], owner: &[u16], place: usize, received: u32) -> bool
+// Whether the equation is true on the file at a place; the steps are the equation's.
+fn meets(eq: &[u8], steps: &[u16], disk: &[u8], owner: &[u16], place: usize, received: u32) -> bool
+    requires { ⌜ now steps ≡ stepsOf (now eq) ⌝ }
     ensures { λ r. ⌜ r ≡ isYes (truthAt (now (eq .entry)) (now (disk .entry)) (now (owner .entry)) place received) ⌝ }
 {
     if 256 <= place {
         return false;
     }
-    let truth = stored::truth(eq, disk, owner, place as u16, received as usize);
+    let truth = stored::truth(eq, steps, disk, owner, place as u16, received as usize);
     match truth {
         Truth::No => false,
         Truth::Yes => true,
@@ -278,16 +282,17 @@ fn clear(selected: &mut [u32], most: usize)
     }
 }
 
-// Goes through the complete files, oldest first, until `most` are found; each header is read at most once.
+// Goes through the complete files, oldest first, until `most` are found; each header is read at most once, and the equation by its steps.
 fn choose(
     eq: &[u8],
+    steps: &[u16],
     disk: &[u8],
     owner: &[u16],
     table: &[u32],
     selected: &mut [u32],
     most: usize,
 ) -> usize
-    requires { ⌜ most ≤ length (now selected) ⌝ }
+    requires { ⌜ (now steps ≡ stepsOf (now eq)) × (most ≤ length (now selected)) ⌝ }
     ensures { λ r. ⌜ r ≡ length (chosen most (now (eq .entry)) (now (disk .entry)) (now (owner .entry)) (now (table .entry))) ⌝ }
     ensures { λ r. ⌜ now (selected .exit) ≡ sets (now (selected .entry)) 0 (numbersAt (now (table .entry)) (chosen most (now (eq .entry)) (now (disk .entry)) (now (owner .entry)) (now (table .entry)))) ⌝ }
 {
@@ -299,7 +304,7 @@ fn choose(
             Found::Nothing => return count,
             Found::At(place) => {
                 let file = table::get(table, place);
-                let met = meets(eq, disk, owner, place, file.received);
+                let met = meets(eq, steps, disk, owner, place, file.received);
                 count = note(selected, count, file.number, met);
                 after = table::upload_time_of(file);
             }
@@ -308,26 +313,42 @@ fn choose(
     count
 }
 
-// 33 for a MAXSEL outside 1 to 50, too few numbers lent or more equation bytes than the server accepts; 8 for an equation refused.
-fn select_number(eq: &[u8], n: usize, most: usize) -> u8
-    ensures { λ r. ⌜ r ≡ selectNumber (now (eq .entry)) n most ⌝ }
+// Parses the equation of a SELECT. 33 for a MAXSEL outside 1 to 50, too few numbers lent or more equation bytes than the server accepts; 8 for
+// an equation refused.
+fn select_parse(eq: &[u8], n: usize, most: usize, steps: &mut [u16]) -> Parsed
+    requires { ⌜ 256 ≤ length (now steps) ⌝ }
+    ensures { λ r. ⌜ r .refused ≡ selectNumber (now (eq .entry)) n most ⌝ }
+    ensures { λ r. ⌜ (r .refused ≡ 0 → (r .count ≤ length (now (steps .exit))) × (take (r .count) (now (steps .exit)) ≡ stepsOf (now (eq .entry)))) ⌝ }
 {
     if most < 1 {
-        return 33;
+        return Parsed {
+            refused: 33,
+            count: 0,
+        };
     }
     if 50 < most {
-        return 33;
+        return Parsed {
+            refused: 33,
+            count: 0,
+        };
     }
     if n < most {
-        return 33;
+        return Parsed {
+            refused: 33,
+            count: 0,
+        };
     }
     if 256 < eq.len() {
-        return 33;
+        return Parsed {
+            refused: 33,
+            count: 0,
+        };
     }
-    equation::evaluation::validity(eq)
+    parse(eq, steps)
 }
 
-// The numbers of the oldest `most` complete files on which the equation is true, oldest first, then zeros up to `most`.
+// The numbers of the oldest `most` complete files on which the equation is true, oldest first, then zeros up to `most`. The equation is parsed
+// once for all files.
 pub fn select(
     eq: &[u8],
     disk: &[u8],
@@ -338,13 +359,18 @@ pub fn select(
 ) -> Selection
     ensures { λ r. ⌜ selects r (now (selected .exit)) ≡ selectOf (now (eq .entry)) (now (disk .entry)) (now (owner .entry)) (now (table .entry)) (now (selected .entry)) most ⌝ }
 {
-    let refused = select_number(eq, selected.len(), most);
-    if refused == 0 {
+    let mut steps = [0u16; 256];
+    let parsed = select_parse(eq, selected.len(), most, &mut steps);
+    if parsed.refused == 0 {
+        let n = parsed.count;
         clear(selected, most);
-        let count = choose(eq, disk, owner, table, selected, most);
+        let count = choose(eq, &steps[0..n], disk, owner, table, selected, most);
         return Selection { refused: 0, count };
     }
-    Selection { refused, count: 0 }
+    Selection {
+        refused: parsed.refused,
+        count: 0,
+    }
 }
 
 // ---- the store as a whole

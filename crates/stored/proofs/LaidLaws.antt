@@ -44,29 +44,34 @@ nth-counted v (o ∷ os) (suc k) h = go (eqb o v) h (nth-counted v os)
     go false h ih = let z = ih (suc k) (omega arith) in omega arith
 
 -- k blocks are in the row, and b is the next one
-pub record Filling (v : ℕ) (owner row : List ℕ) (k b : ℕ) : Type 0 where
+pub record Filling (v : ℕ) (owner start row : List ℕ) (k b : ℕ) : Type 0 where
   pub few : length owner ≤ 4096
-  pub sized : length row ≡ 4096
+  pub room : length owner ≤ length start
+  pub sized : length row ≡ length start
   pub block : b ≡ nth v owner k
   pub counted : k ≤ blocks v owner
   pub each : (j : ℕ) → j < k → getD row j 0 ≡ nth v owner j
 
-pub fill-start : (v : ℕ) (owner row : List ℕ) (b : ℕ) → length owner ≤ 4096 → length row ≡ 4096 → b ≡ nextOf v owner 0 → Filling v owner row 0 b
+pub fill-start : (v : ℕ) (owner row : List ℕ) (b : ℕ) → length owner ≤ 4096 → length owner ≤ length row → b ≡ nextOf v owner 0 → Filling v owner row row 0 b
 fill-start v owner row b f s e =
-    record { few = f; sized = s; block = e ∙ nth-zero v owner; counted = omega arith; each = λ j h. absurd (omega arith) }
+    record { few = f; room = s; sized = refl; block = e ∙ nth-zero v owner; counted = omega arith; each = λ j h. absurd (omega arith) }
 
-module _ (v : ℕ) (owner row : List ℕ) (k b : ℕ) (f : Filling v owner row k b) where
+module _ (v : ℕ) (owner start row : List ℕ) (k b : ℕ) (f : Filling v owner start row k b) where
   pub fill-in : b < length owner → k < blocks v owner
   fill-in h = nth-counted v owner k (subst (λ (x : ℕ). x < length owner) (f .block) h)
 
   -- the row has a place for block b
-  pub fill-room : b < length owner → k < length row
-  fill-room h = let x = fill-in h in omega (arith, f .few, f .sized, blocks-le v owner)
+  pub fill-few : b < length owner → k < 4096
+  fill-few h = let x = fill-in h in omega (arith, f .few, blocks-le v owner)
 
-  pub fill-next : b < length owner → (b′ : ℕ) → b′ ≡ nextOf v owner (b + 1) → Filling v owner (set row k b) (k + 1) b′
+  pub fill-room : b < length owner → k < length row
+  fill-room h = let x = fill-in h in omega (arith, f .room, f .sized, blocks-le v owner)
+
+  pub fill-next : b < length owner → (b′ : ℕ) → b′ ≡ nextOf v owner (b + 1) → Filling v owner start (set row k b) (k + 1) b′
   fill-next h b′ e =
       record {
         few = f .few;
+        room = f .room;
         sized = length-set row k b ∙ f .sized;
         block = e ∙ ap (nextOf v owner) (add-one b) ∙ ap (λ (x : ℕ). nextOf v owner (suc x)) (f .block) ∙ sym (nth-next v owner k)
             ∙ ap (nth v owner) (sym (add-one k));
@@ -83,7 +88,7 @@ module _ (v : ℕ) (owner row : List ℕ) (k b : ℕ) (f : Filling v owner row k
   pub fill-done : length owner ≤ b → Row v owner row k
   fill-done h =
       let n : k < blocks v owner → ⊥ = λ z. omega (arith, nth-in v owner k z, f .block) in
-      record { all = go (ltb k (blocks v owner)) refl n; fit = omega (arith, f .few, f .sized, f .counted, blocks-le v owner); each = f .each }
+      record { all = go (ltb k (blocks v owner)) refl n; fit = omega (arith, f .room, f .sized, f .counted, blocks-le v owner); each = f .each }
     where
       go : (t : Bool) → ltb k (blocks v owner) ≡ t → (k < blocks v owner → ⊥) → k ≡ blocks v owner
       go true e n = absurd (n (ltb-true k (blocks v owner) e))

@@ -1,21 +1,29 @@
--- The theorems of files in blocks: what setting the fields leaves, that an accepted file is still accepted and reads as set, and that each
--- answer depends on the file's contents alone. Assumes nothing.
+-- The theorems of files in blocks: what setting the fields leaves, that an accepted file is still accepted and reads as set, that an equation by
+-- its steps has the equation's truth, and that each answer depends on the file's contents alone. Assumes nothing.
 use mathlib.Core.Path.{_≡_, refl, ap, _∙_}
 use mathlib.Core.Bool.{Bool, true, false, cond}
 use mathlib.Core.List.{List}
 use Prim.Native.Nat.{ℕ, _+_, _*_, _≤_, _<_}
 use native.Mathlib.Omega.{arith}
 use lib.Dec.{eqb, leb}
-use lib.ListN.{length, drop}
+use lib.ListN.{length, drop, replicate}
 use borrow.Author.Tests.{eqb-true, eq-eqb, leb-true, le-leb}
 use Rattle.blocks.specs.Owners.{blocks}
 use Rattle.blocks.specs.Contents.{held, contents, stored}
 use Rattle.blocks.proofs.Answers.{disk-fits}
+use Rattle.header.specs.Items.{fieldsOf}
 use Rattle.header.specs.Header.{verdict, checkItems}
 use Rattle.header.specs.Fields.{fieldsSet}
 use Rattle.header.proofs.Written.{Bytes}
 use Rattle.header.proofs.Set.{Reads, verdict-parts, set-length, set-verdict, set-reads}
-use Rattle.stored.specs.Answers.{fileAt, sizesFit, checkAt, headerAt, truthAt, setNumber, setDisk}
+use Rattle.equation.specs.Marks.{settledBy}
+use Rattle.equation.specs.Answer.{answerOf}
+use Rattle.equation.specs.Parsed.{relationsBy, outcomeBy, stepsOf}
+use Rattle.equation.specs.declared.evaluation.Truth.{Truth}
+use Rattle.equation.specs.declared.evaluation.Truth.the-variants.{Refused}
+use Rattle.equation.proofs.Depth.{at-most-64}
+use Rattle.equation.proofs.Runs.{answer-by}
+use Rattle.stored.specs.Answers.{fileAt, sizesFit, checkAt, headerAt, truthAt, truthBy, setNumber, setDisk}
 use Rattle.stored.proofs.Feeding.{bytes-contents}
 use Rattle.stored.proofs.Disks.{Changed, changed-none, stored-changed, file-length}
 
@@ -123,6 +131,21 @@ accepted disk owner place received announced number time b room e n t =
       still = fits-check (setDisk disk owner place received number time) owner place received announced s (ap (λ (x : List ℕ). verdict x announced) c ∙ set-verdict number time (fileAt disk owner place received) announced v (f .1));
       reads = rw c (set-reads number time (fileAt disk owner place received) v (p .1) n t);
     }
+
+-- ---- an equation by its steps
+
+-- THE LAW of parsing once: by the steps of an equation its truth is the equation's
+pub truth-by : (eq disk owner : List ℕ) (place received : ℕ) → truthBy eq (stepsOf eq) disk owner place received ≡ truthAt eq disk owner place received
+unfolding truthBy truthAt
+truth-by eq disk owner place received = go (leb (length eq) 256) refl
+  where
+    go : (t : Bool) → leb (length eq) 256 ≡ t
+        → cond t (cond (sizesFit disk owner place) (outcomeBy (stepsOf eq) (settledBy (fieldsOf (fileAt disk owner place received)) (relationsBy eq (stepsOf eq)) (replicate 64 0))) (Refused 33)) (Refused 33)
+        ≡ cond t (cond (sizesFit disk owner place) (answerOf eq (fileAt disk owner place received)) (Refused 33)) (Refused 33)
+    go true e =
+        let h = leb-true (length eq) 256 e in
+        ap (λ (a : Truth). cond (sizesFit disk owner place) a (Refused 33)) (answer-by eq (omega arith) (fieldsOf (fileAt disk owner place received)) 64 (at-most-64 eq h))
+    go false e = refl
 
 -- ---- the answers depend on the contents alone
 

@@ -4,14 +4,17 @@ use mathlib.Core.Bool.{Bool, cond}
 use mathlib.Core.List.{List}
 use Prim.Native.Nat.{ℕ, _+_, _*_}
 use lib.Dec.{leb, eqb}
-use lib.ListN.{length}
+use lib.ListN.{length, replicate}
 use Rattle.blocks.specs.Owners.{blocks}
 use Rattle.blocks.specs.Contents.{contents, stored}
 use Rattle.blocks.specs.Answers.{diskFits}
+use Rattle.header.specs.Items.{fieldsOf}
 use Rattle.header.specs.Header.{verdict, checkItems, headerOf, refusedWith}
 use Rattle.header.specs.Fields.{fieldsSet}
 use Rattle.header.specs.declared.scan.Header.{Header}
+use Rattle.equation.specs.Marks.{settledBy}
 use Rattle.equation.specs.Answer.{answerOf}
+use Rattle.equation.specs.Parsed.{relationsBy, outcomeBy}
 use Rattle.equation.specs.declared.evaluation.Truth.{Truth}
 use Rattle.equation.specs.declared.evaluation.Truth.the-variants.{Refused}
 
@@ -36,6 +39,15 @@ headerAt disk owner place received want =
 unfoldable pub truthAt : List ℕ → List ℕ → List ℕ → ℕ → ℕ → Truth
 truthAt eq disk owner place received =
     cond (leb (length eq) 256) (cond (sizesFit disk owner place) (answerOf eq (fileAt disk owner place received)) (Refused 33)) (Refused 33)
+
+-- the same by the equation's steps, and with marks for 64 relations: 256 bytes hold no more
+unfoldable pub truthBy : List ℕ → List ℕ → List ℕ → List ℕ → ℕ → ℕ → Truth
+truthBy eq steps disk owner place received =
+    cond (leb (length eq) 256)
+    (cond (sizesFit disk owner place)
+    (outcomeBy steps (settledBy (fieldsOf (fileAt disk owner place received)) (relationsBy eq steps) (replicate 64 0)))
+    (Refused 33))
+    (Refused 33)
 
 -- setting the fields: 35 where the place's blocks do not hold so many bytes, then the refusal of the items; 0 for done
 unfoldable pub setNumber : List ℕ → List ℕ → ℕ → ℕ → ℕ

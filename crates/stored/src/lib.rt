@@ -19,8 +19,9 @@ ghost use Rattle.header.specs.Items.{headOf, walk, fieldsOf};
 ghost use Rattle.header.specs.Header.{headerOf, refusedWith};
 ghost use Rattle.header.specs.Fields.{fieldsSet};
 ghost use Rattle.header.specs.Scan.{startOf, scanFrom, headerFrom};
-ghost use Rattle.equation.specs.Marks.{settled, settledBy, relationsOf};
-ghost use Rattle.stored.specs.Answers.{fileAt, checkAt, headerAt, truthAt, setNumber, setDisk};
+ghost use Rattle.equation.specs.Marks.{settled, settledBy};
+ghost use Rattle.equation.specs.Parsed.{relationsBy};
+ghost use Rattle.stored.specs.Answers.{fileAt, checkAt, headerAt, truthBy, setNumber, setDisk};
 ghost use Rattle.stored.specs.Settable.{Settable};
 ghost use Rattle.stored.specs.Laid.{laidAt, laid, Lies, Row};
 
@@ -216,7 +217,7 @@ pub fn set_fields(
 
 // Writes the blocks of a place to the row, in rising order, and answers how many they are.
 fn fill_row(owner: &[u16], place: u16, row: &mut [u16]) -> usize
-    requires { ⌜ (length (now owner) ≤ 4096) × (length (now row) ≡ 4096) × (place < 256) ⌝ }
+    requires { ⌜ (length (now owner) ≤ 4096) × (length (now owner) ≤ length (now row)) × (place < 256) ⌝ }
     ensures { λ r. ⌜ Row (place + 1) (now (owner .entry)) (now (row .exit)) r ⌝ }
 {
     let mut k = 0;
@@ -278,6 +279,7 @@ fn fetch(disk: &[u8], row: &[u16], n: usize, at: usize, out: &mut [u8])
 // Copies an item's bytes, from byte `at` on, and settles the equation's relations by them.
 fn settle_window(
     eq: &[u8],
+    steps: &[u16],
     disk: &[u8],
     row: &[u16],
     n: usize,
@@ -287,15 +289,16 @@ fn settle_window(
     truths: &mut [u8],
 )
     requires { ⌜ Lies (now disk) (now row) n × (at + length (now item) ≤ n) ⌝ }
-    ensures { λ r. ⌜ now (truths .exit) ≡ settled (record { id = id; bytes = take (length (now (item .entry))) (drop at (laid (now (disk .entry)) (now (row .entry)) n)) }) (relationsOf (now (eq .entry))) (now (truths .entry)) ⌝ }
+    ensures { λ r. ⌜ now (truths .exit) ≡ settled (record { id = id; bytes = take (length (now (item .entry))) (drop at (laid (now (disk .entry)) (now (row .entry)) n)) }) (relationsBy (now (eq .entry)) (now (steps .entry))) (now (truths .entry)) ⌝ }
 {
     fetch(disk, row, n, at, item);
-    settle(eq, id, item, truths);
+    settle(eq, steps, id, item, truths);
 }
 
 // Settles the equation's relations by one item, of `size` bytes from byte `at` on.
 fn settle_item(
     eq: &[u8],
+    steps: &[u16],
     disk: &[u8],
     row: &[u16],
     n: usize,
@@ -305,16 +308,16 @@ fn settle_item(
     truths: &mut [u8],
 )
     requires { ⌜ Lies (now disk) (now row) n × (at + size ≤ n) × (size < 256) ⌝ }
-    ensures { λ r. ⌜ now (truths .exit) ≡ settled (record { id = id; bytes = take size (drop at (laid (now (disk .entry)) (now (row .entry)) n)) }) (relationsOf (now (eq .entry))) (now (truths .entry)) ⌝ }
+    ensures { λ r. ⌜ now (truths .exit) ≡ settled (record { id = id; bytes = take size (drop at (laid (now (disk .entry)) (now (row .entry)) n)) }) (relationsBy (now (eq .entry)) (now (steps .entry))) (now (truths .entry)) ⌝ }
 {
     let mut item = [0u8; 256];
-    settle_window(eq, disk, row, n, id, at, &mut item[0..size], truths);
+    settle_window(eq, steps, disk, row, n, id, at, &mut item[0..size], truths);
 }
 
 // Settles the equation's relations by the items from byte 2 on.
-fn settle_items(eq: &[u8], disk: &[u8], row: &[u16], n: usize, truths: &mut [u8])
+fn settle_items(eq: &[u8], steps: &[u16], disk: &[u8], row: &[u16], n: usize, truths: &mut [u8])
     requires { ⌜ Lies (now disk) (now row) n ⌝ }
-    ensures { λ r. ⌜ now (truths .exit) ≡ settledBy (walk 0 (drop 2 (laid (now (disk .entry)) (now (row .entry)) n)) .items) (relationsOf (now (eq .entry))) (now (truths .entry)) ⌝ }
+    ensures { λ r. ⌜ now (truths .exit) ≡ settledBy (walk 0 (drop 2 (laid (now (disk .entry)) (now (row .entry)) n)) .items) (relationsBy (now (eq .entry)) (now (steps .entry))) (now (truths .entry)) ⌝ }
 {
     let mut at: usize = 0;
     loop {
@@ -323,7 +326,7 @@ fn settle_items(eq: &[u8], disk: &[u8], row: &[u16], n: usize, truths: &mut [u8]
             Head::Broken => return,
             Head::End => return,
             Head::Item(id, size) => {
-                settle_item(eq, disk, row, n, id, 2 + at + 3, size, truths);
+                settle_item(eq, steps, disk, row, n, id, 2 + at + 3, size, truths);
                 at = at + 3 + size;
             }
         }
@@ -331,23 +334,44 @@ fn settle_items(eq: &[u8], disk: &[u8], row: &[u16], n: usize, truths: &mut [u8]
 }
 
 // Settles the equation's relations by the items of the file; a file that does not begin AA 55 has none.
-fn settle_laid(eq: &[u8], disk: &[u8], row: &[u16], n: usize, truths: &mut [u8])
+fn settle_laid(eq: &[u8], steps: &[u16], disk: &[u8], row: &[u16], n: usize, truths: &mut [u8])
     requires { ⌜ Lies (now disk) (now row) n ⌝ }
-    ensures { λ r. ⌜ now (truths .exit) ≡ settledBy (fieldsOf (laid (now (disk .entry)) (now (row .entry)) n)) (relationsOf (now (eq .entry))) (now (truths .entry)) ⌝ }
+    ensures { λ r. ⌜ now (truths .exit) ≡ settledBy (fieldsOf (laid (now (disk .entry)) (now (row .entry)) n)) (relationsBy (now (eq .entry)) (now (steps .entry))) (now (truths .entry)) ⌝ }
 {
     if n < 2 {
         return;
     }
     if byte_at(disk, row, n, 0) == 170 {
         if byte_at(disk, row, n, 1) == 85 {
-            settle_items(eq, disk, row, n, truths);
+            settle_items(eq, steps, disk, row, n, truths);
         }
     }
 }
 
-// Settles the equation's relations by the items of the file at a place.
+// Settles the equation's relations by the items of the file at a place, with a row that has room for its blocks.
+fn settle_in_row(
+    eq: &[u8],
+    steps: &[u16],
+    disk: &[u8],
+    owner: &[u16],
+    place: u16,
+    received: usize,
+    row: &mut [u16],
+    truths: &mut [u8],
+)
+    requires { ⌜ (length (now owner) ≤ 4096) × (256 * length (now owner) ≤ length (now disk)) × (place < 256) × (length (now owner) ≤ length (now row)) ⌝ }
+    ensures { λ r. ⌜ now (truths .exit) ≡ settledBy (fieldsOf (fileAt (now (disk .entry)) (now (owner .entry)) place received)) (relationsBy (now (eq .entry)) (now (steps .entry))) (now (truths .entry)) ⌝ }
+{
+    let count = fill_row(owner, place, row);
+    let n = least(received, 256 * count);
+    settle_laid(eq, steps, disk, &row[0..count], n, truths);
+}
+
+// Settles the equation's relations by the items of the file at a place. The row is set to zeros for each file, which would take longer than a
+// small store's header; so such a store has a short one.
 fn settle_file(
     eq: &[u8],
+    steps: &[u16],
     disk: &[u8],
     owner: &[u16],
     place: u16,
@@ -355,27 +379,37 @@ fn settle_file(
     truths: &mut [u8],
 )
     requires { ⌜ (length (now owner) ≤ 4096) × (256 * length (now owner) ≤ length (now disk)) × (place < 256) ⌝ }
-    ensures { λ r. ⌜ now (truths .exit) ≡ settledBy (fieldsOf (fileAt (now (disk .entry)) (now (owner .entry)) place received)) (relationsOf (now (eq .entry))) (now (truths .entry)) ⌝ }
+    ensures { λ r. ⌜ now (truths .exit) ≡ settledBy (fieldsOf (fileAt (now (disk .entry)) (now (owner .entry)) place received)) (relationsBy (now (eq .entry)) (now (steps .entry))) (now (truths .entry)) ⌝ }
 {
-    let mut row = [0u16; 4096];
-    let count = fill_row(owner, place, &mut row);
-    let n = least(received, 256 * count);
-    settle_laid(eq, disk, &row[0..count], n, truths);
+    if owner.len() <= 256 {
+        let mut row = [0u16; 256];
+        settle_in_row(eq, steps, disk, owner, place, received, &mut row, truths);
+    } else {
+        let mut row = [0u16; 4096];
+        settle_in_row(eq, steps, disk, owner, place, received, &mut row, truths);
+    }
 }
 
 // ---- equations
 
-// The truth of an equation on the header of the file at a place, which is read once.
-pub fn truth(eq: &[u8], disk: &[u8], owner: &[u16], place: u16, received: usize) -> Truth
-    ensures { λ r. ⌜ r ≡ truthAt (now (eq .entry)) (now (disk .entry)) (now (owner .entry)) place received ⌝ }
+// The truth of an equation, which is handed on as it was parsed, on the header of the file at a place, which is read once.
+pub fn truth(
+    eq: &[u8],
+    steps: &[u16],
+    disk: &[u8],
+    owner: &[u16],
+    place: u16,
+    received: usize,
+) -> Truth
+    ensures { λ r. ⌜ r ≡ truthBy (now (eq .entry)) (now (steps .entry)) (now (disk .entry)) (now (owner .entry)) place received ⌝ }
 {
     if 256 < eq.len() {
         return Truth::Refused(33);
     }
     if sizes_fit(disk.len(), owner.len(), place) {
         let mut truths = [0u8; 64];
-        settle_file(eq, disk, owner, place, received, &mut truths);
-        return outcome(eq, &truths);
+        settle_file(eq, steps, disk, owner, place, received, &mut truths);
+        return outcome(steps, &truths);
     }
     Truth::Refused(33)
 }

@@ -14,15 +14,15 @@ use Rattle.files.proofs.choose.Statement.{statement}
 use Rattle.files.proofs.choose.Tie as tie
 
 abbrev Inv-loop : tie.InvT-loop
-Inv-loop eq disk owner table selected₀ most count₀ after₀ selected count after = Choosing (meetsAt eq disk owner table) table selected₀ selected most count after
+Inv-loop eq steps disk owner table selected₀ most count₀ after₀ selected count after = Choosing (meetsAt eq disk owner table) table selected₀ selected most count after
 
 abbrev μ-loop : tie.MeasureT-loop
-μ-loop eq disk owner table selected₀ most count₀ after₀ selected count after = countAbove after (times (files table))
+μ-loop eq steps disk owner table selected₀ most count₀ after₀ selected count after = countAbove after (times (files table))
 
 loop-holds : tie.Need-loop-holds Inv-loop μ-loop
 loop-holds c =
-    let a = c .before .before .before .before .before .args in
-    choosing-start (meetsAt (a .eq .now) (a .disk .now) (a .owner .now) (a .table .now)) (a .table .now) (a .selected .now) (a .most) (c .before .before .before .before .before .pre)
+    let a = c .before .before .before .before .before .before .args in
+    choosing-start (meetsAt (a .eq .now) (a .disk .now) (a .owner .now) (a .table .now)) (a .table .now) (a .selected .now) (a .most) (c .before .before .before .before .before .before .pre .1)
 
 next-complete-requires : tie.Need-next-complete-requires Inv-loop μ-loop
 next-complete-requires c κs = search needs
@@ -35,7 +35,7 @@ same-length c = c .before .before .before .before .loop .inv .size
 
 returns : tie.Need-returns Inv-loop μ-loop
 returns c =
-    let a = c .before .before .before .before .before .before .before .before .before .before .args in
+    let a = c .before .before .before .before .before .before .before .before .before .before .before .args in
     let l = c .before .before .before .before .loop in
     let f = choosing-none (meetsAt (a .eq .now) (a .disk .now) (a .owner .now) (a .table .now)) (a .table .now) (a .selected .now) (a .most) (l .selected) (l .count) (l .after) (l .inv) (sym (c .before .before .next-complete .ensures) ∙ c .enum-told .given .1) in
     (f .counted, f .stored)
@@ -59,14 +59,14 @@ upload-time-of-requires c κs = search needs
 
 loop-less : tie.Need-loop-less Inv-loop μ-loop
 loop-less c =
-    let a = c .before .before .before .before .before .before .before .before .before .before .before .before .before .before .before .before .before .before .args in
+    let a = c .before .before .before .before .before .before .before .before .before .before .before .before .before .before .before .before .before .before .before .args in
     let l = c .before .before .before .before .before .before .before .before .before .before .before .before .loop in
     choosing-less (meetsAt (a .eq .now) (a .disk .now) (a .owner .now) (a .table .now)) (a .table .now) (a .selected .now) (a .most) (l .selected) (l .count) (l .after) (l .inv) (c .before .before .before .before .before .before .before .before .next .given .0 .0) (sym (c .before .before .before .before .before .before .before .before .before .before .next-complete .ensures) ∙ c .before .before .before .before .before .before .before .before .next .given .1) _
     (c .upload-time-of .ensures ∙ ap uploaded (c .before .before .before .before .before .before .get .ensures))
 
 loop-again : tie.Need-loop-again Inv-loop μ-loop
 loop-again c =
-    let a = c .before .before .before .before .before .before .before .before .before .before .before .before .before .before .before .before .before .before .args in
+    let a = c .before .before .before .before .before .before .before .before .before .before .before .before .before .before .before .before .before .before .before .args in
     let l = c .before .before .before .before .before .before .before .before .before .before .before .before .loop in
     let p = c .before .before .before .before .before .before .before .before .next .given .0 .0 in
     let g = c .before .before .before .before .before .before .get .ensures in
@@ -81,7 +81,7 @@ same-length-2 c = c .before .loop .inv .size
 
 returns-2 : tie.Need-returns-2 Inv-loop μ-loop
 returns-2 c =
-    let a = c .before .before .before .before .before .before .before .args in
+    let a = c .before .before .before .before .before .before .before .before .args in
     let l = c .before .loop in
     let f = choosing-full (meetsAt (a .eq .now) (a .disk .now) (a .owner .now) (a .table .now)) (a .table .now) (a .selected .now) (a .most) (l .selected) (l .count) (l .after) (l .inv) (c .loop-test .left) in
     (f .counted, f .stored)

@@ -3,7 +3,8 @@ use mathlib.Core.Path.{_∙_, ap}
 use Prim.Native.Nat.{ℕ}
 use native.Mathlib.Omega.{arith}
 use lib.ListN.{take, drop, replicate}
-use Rattle.equation.specs.Marks.{settled, relationsOf}
+use Rattle.equation.specs.Marks.{settled}
+use Rattle.equation.specs.Parsed.{relationsBy}
 use Rattle.stored.specs.Laid.{laid}
 use Rattle.stored.proofs.LaidLaws.{part-length}
 use borrow.Author.Needs.{needs}
@@ -28,10 +29,10 @@ same-length c = search needs
 returns : tie.Need-returns
 returns c =
     let s = c .before .before .before in
-    let a = s .before .before .before .before .before .before .before .args in
-    let p = s .before .before .before .before .before .before .before .pre in
+    let a = s .before .before .before .before .before .before .before .before .args in
+    let p = s .before .before .before .before .before .before .before .before .pre in
     s .settle-window .ensures
-    ∙ ap (λ (m : ℕ). settled (record { id = a .id; bytes = take m (drop (a .at) (laid (a .disk .now) (a .row .now) (a .n))) }) (relationsOf (a .eq .now)) (a .truths .now))
+    ∙ ap (λ (m : ℕ). settled (record { id = a .id; bytes = take m (drop (a .at) (laid (a .disk .now) (a .row .now) (a .n))) }) (relationsBy (a .eq .now) (a .steps .now)) (a .truths .now))
     (part-length (replicate 256 0) (a .size) (omega (arith, p .2)))
 
 pub settle-item-spec : {M : Type 1} → statement M

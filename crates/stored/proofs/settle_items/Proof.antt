@@ -4,6 +4,7 @@ use Prim.Native.Nat.{_+_, _-_}
 use native.Mathlib.Omega.{arith}
 use lib.ListN.{length, drop, length-drop}
 use Rattle.header.specs.declared.items.Head.the-variants.{Broken, End}
+use Rattle.equation.specs.Parsed.{relationsBy}
 use Rattle.equation.proofs.MarkLaws as marks
 use Rattle.stored.specs.Laid.{laid}
 use Rattle.stored.proofs.LaidLaws.{Met, laid-length, item-head, item-met, item-bytes}
@@ -11,23 +12,23 @@ use Rattle.stored.proofs.settle_items.Statement.{statement}
 use Rattle.stored.proofs.settle_items.Tie as tie
 
 abbrev Inv-loop : tie.InvT-loop
-Inv-loop eq disk row n truths₀ at₀ truths at = marks.Walking eq (drop 2 (laid disk row n)) truths₀ truths at
+Inv-loop eq steps disk row n truths₀ at₀ truths at = marks.Walking (relationsBy eq steps) (drop 2 (laid disk row n)) truths₀ truths at
 
 abbrev μ-loop : tie.MeasureT-loop
-μ-loop eq disk row n truths₀ at₀ truths at = length (drop 2 (laid disk row n)) - at
+μ-loop eq steps disk row n truths₀ at₀ truths at = length (drop 2 (laid disk row n)) - at
 
 loop-holds : tie.Need-loop-holds Inv-loop μ-loop
 loop-holds c =
-    let a = c .before .before .before .before .args in
-    marks.walk-start (a .eq .now) (drop 2 (laid (a .disk .now) (a .row .now) (a .n))) (a .truths .now)
+    let a = c .before .before .before .before .before .args in
+    marks.walk-start (relationsBy (a .eq .now) (a .steps .now)) (drop 2 (laid (a .disk .now) (a .row .now) (a .n))) (a .truths .now)
 
 add-head-at : tie.Need-add-head-at Inv-loop μ-loop
 add-head-at c =
-    let a = c .before .before .before .before .before .args in
+    let a = c .before .before .before .before .before .before .args in
     omega (arith, c .loop .inv .in-file, length-drop 2 (laid (a .disk .now) (a .row .now) (a .n)), laid-length (a .disk .now) (a .row .now) 0 (a .n))
 
 head-at-requires : tie.Need-head-at-requires Inv-loop μ-loop
-head-at-requires c κs = c .before .before .before .before .before .pre
+head-at-requires c κs = c .before .before .before .before .before .before .pre
 
 enum-told : tie.Need-enum-told Inv-loop μ-loop
 enum-told c = c .match .keys1
@@ -38,8 +39,8 @@ same-length c = c .before .before .before .loop .inv .sized
 returns : tie.Need-returns Inv-loop μ-loop
 returns c =
     let s = c .before .before .before in
-    let a = s .before .before .before .before .before .args in
-    marks.walk-broken (a .eq .now) (drop 2 (laid (a .disk .now) (a .row .now) (a .n))) (a .truths .now) (s .loop .truths) (s .loop .at) (s .loop .inv)
+    let a = s .before .before .before .before .before .before .args in
+    marks.walk-broken (relationsBy (a .eq .now) (a .steps .now)) (drop 2 (laid (a .disk .now) (a .row .now) (a .n))) (a .truths .now) (s .loop .truths) (s .loop .at) (s .loop .inv)
     (item-head (laid (a .disk .now) (a .row .now) (a .n)) (s .loop .at) Broken _ (c .before .before .head-at .ensures) (c .enum-told .given .1))
 
 enum-told-2 : tie.Need-enum-told-2 Inv-loop μ-loop
@@ -51,8 +52,8 @@ same-length-2 c = c .before .before .before .loop .inv .sized
 returns-2 : tie.Need-returns-2 Inv-loop μ-loop
 returns-2 c =
     let s = c .before .before .before in
-    let a = s .before .before .before .before .before .args in
-    marks.walk-end (a .eq .now) (drop 2 (laid (a .disk .now) (a .row .now) (a .n))) (a .truths .now) (s .loop .truths) (s .loop .at) (s .loop .inv)
+    let a = s .before .before .before .before .before .before .args in
+    marks.walk-end (relationsBy (a .eq .now) (a .steps .now)) (drop 2 (laid (a .disk .now) (a .row .now) (a .n))) (a .truths .now) (s .loop .truths) (s .loop .at) (s .loop .inv)
     (item-head (laid (a .disk .now) (a .row .now) (a .n)) (s .loop .at) End _ (c .before .before .head-at .ensures) (c .enum-told2 .given .1))
 
 enum-known-h : tie.Need-enum-known-h Inv-loop μ-loop
@@ -60,13 +61,13 @@ enum-known-h c = c .match .keys3
 
 -- the item that is met
 met : (t : tie.After-h Inv-loop μ-loop)
-    → Met (t .before .before .before .before .before .before .before .before .args .disk .now) (t .before .before .before .before .before .before .before .before .args .row .now)
-    (t .before .before .before .before .before .before .before .before .args .n) (t .before .before .before .loop .at) (t .h .given .0 .0) (t .h .given .0 .1 .0)
+    → Met (t .before .before .before .before .before .before .before .before .before .args .disk .now) (t .before .before .before .before .before .before .before .before .before .args .row .now)
+    (t .before .before .before .before .before .before .before .before .before .args .n) (t .before .before .before .loop .at) (t .h .given .0 .0) (t .h .given .0 .1 .0)
 met t =
     let s = t .before .before .before in
-    let a = s .before .before .before .before .before .args in
+    let a = s .before .before .before .before .before .before .args in
     item-met (a .disk .now) (a .row .now) (a .n) (s .loop .at) (t .h .given .0 .0) (t .h .given .0 .1 .0) _
-    (λ k. omega (arith, s .before .before .before .shared-slice-known2 .given k)) (t .before .before .head-at .ensures) (t .h .given .1)
+    (λ k. omega (arith, s .before .before .before .shared-slice-known3 .given k)) (t .before .before .head-at .ensures) (t .h .given .1)
 
 add-settle-item : tie.Need-add-settle-item Inv-loop μ-loop
 add-settle-item c = omega (arith, met (c .before) .room)
@@ -76,7 +77,7 @@ add-settle-item-2 c = omega (arith, met (c .before) .room)
 
 settle-item-requires : tie.Need-settle-item-requires Inv-loop μ-loop
 settle-item-requires c κs =
-    let f = met (c .before .before) in (c .before .before .before .before .before .before .before .before .before .before .pre, f .room, f .little)
+    let f = met (c .before .before) in (c .before .before .before .before .before .before .before .before .before .before .before .pre, f .room, f .little)
 
 add-at : tie.Need-add-at Inv-loop μ-loop
 add-at c = omega (arith, met (c .before .before .before .before .before) .room)
@@ -91,8 +92,8 @@ loop-again : tie.Need-loop-again Inv-loop μ-loop
 loop-again c =
     let t = c .before .before .before .before .before in
     let s = t .before .before .before in
-    let a = s .before .before .before .before .before .args in
-    marks.walk-item (a .eq .now) (drop 2 (laid (a .disk .now) (a .row .now) (a .n))) (a .truths .now) (s .loop .truths) (s .loop .at) (s .loop .inv) (t .h .given .0 .0) (t .h .given .0 .1 .0) _ (met t .head)
+    let a = s .before .before .before .before .before .before .args in
+    marks.walk-item (relationsBy (a .eq .now) (a .steps .now)) (drop 2 (laid (a .disk .now) (a .row .now) (a .n))) (a .truths .now) (s .loop .truths) (s .loop .at) (s .loop .inv) (t .h .given .0 .0) (t .h .given .0 .1 .0) _ (met t .head)
     (rw (← item-bytes (laid (a .disk .now) (a .row .now) (a .n)) (s .loop .at) (t .h .given .0 .1 .0)) (c .before .before .settle-item .ensures))
 
 pub settle-items-spec : {M : Type 1} → statement M

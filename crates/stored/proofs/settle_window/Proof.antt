@@ -2,7 +2,8 @@
 use mathlib.Core.Path.{_∙_, ap}
 use mathlib.Core.List.{List}
 use Prim.Native.Nat.{ℕ}
-use Rattle.equation.specs.Marks.{settled, relationsOf}
+use Rattle.equation.specs.Marks.{settled}
+use Rattle.equation.specs.Parsed.{relationsBy}
 use borrow.Author.Needs.{needs}
 use Rattle.stored.proofs.settle_window.Statement.{statement}
 use Rattle.stored.proofs.settle_window.Tie as tie
@@ -22,8 +23,8 @@ same-length-2 c = search needs
 returns : tie.Need-returns
 returns c =
     let s = c .before .before .before .before .before .before .before in
-    let a = s .before .before .before .before .before .before .before .args in
-    c .before .before .settle .ensures ∙ ap (λ (bs : List ℕ). settled (record { id = a .id; bytes = bs }) (relationsOf (a .eq .now)) (a .truths .now)) (s .fetch .ensures)
+    let a = s .before .before .before .before .before .before .before .before .args in
+    c .before .before .settle .ensures ∙ ap (λ (bs : List ℕ). settled (record { id = a .id; bytes = bs }) (relationsBy (a .eq .now) (a .steps .now)) (a .truths .now)) (s .fetch .ensures)
 
 pub settle-window-spec : {M : Type 1} → statement M
 settle-window-spec =

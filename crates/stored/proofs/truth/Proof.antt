@@ -1,20 +1,16 @@
--- `stored::truth` meets its contract. 64 marks are enough for 256 bytes.
+-- `stored::truth` meets its contract.
 use mathlib.Core.Path.{sym, _∙_, ap}
-use native.Mathlib.Omega.{arith}
 use lib.ListN.{length}
 use borrow.Author.Tests.{lt-leb, le-leb}
 use Rattle.blocks.proofs.Answers.{disk-fits}
-use Rattle.header.specs.Items.{fieldsOf}
-use Rattle.equation.specs.Answer.{outcomeOf}
-use Rattle.equation.proofs.SymbolLaws.{few-relations}
-use Rattle.equation.proofs.Settled.{settled-outcome}
-use Rattle.stored.specs.Answers.{fileAt, truthAt}
+use Rattle.equation.specs.Parsed.{outcomeBy}
+use Rattle.stored.specs.Answers.{truthBy}
 use borrow.Author.Needs.{needs}
 use Rattle.stored.proofs.truth.Statement.{statement}
 use Rattle.stored.proofs.truth.Tie as tie
 
 returns : tie.Need-returns
-unfolding truthAt
+unfolding truthBy
 returns c = simp (lt-leb _ _ (c .if1 .taken))
 
 sizes-fit-requires : tie.Need-sizes-fit-requires
@@ -25,7 +21,7 @@ slice-aggregate-settle-file c = search needs
 
 settle-file-requires : tie.Need-settle-file-requires
 settle-file-requires c κs =
-    let a = c .before .before .before .before .before .before .before .args in
+    let a = c .before .before .before .before .before .before .before .before .args in
     let f = disk-fits (length (a .disk .now)) (length (a .owner .now)) (a .place) (sym (c .before .before .sizes-fit .ensures) ∙ c .before .if2 .taken) in
     (f .most, f .bytes, f .place-most)
 
@@ -36,20 +32,19 @@ outcome-requires : tie.Need-outcome-requires
 outcome-requires c κs = search needs
 
 returns-2 : tie.Need-returns-2
-unfolding truthAt
+unfolding truthBy
 returns-2 c =
     let s = c .before .before .before .before .before .before in
-    let a = s .before .before .before .before .before .args in
+    let a = s .before .before .before .before .before .before .args in
     let t = sym (s .sizes-fit .ensures) ∙ c .before .before .before .before .before .if2 .taken in
     let l = s .before .if1 .left in
     rw (le-leb (length (a .eq .now)) 256 l, t)
-    (c .outcome .ensures ∙ ap (outcomeOf (a .eq .now)) (c .before .before .before .settle-file .ensures)
-    ∙ settled-outcome (a .eq .now) (fieldsOf (fileAt (a .disk .now) (a .owner .now) (a .place) (a .received))) 64 (omega (arith, few-relations (a .eq .now))))
+    (c .outcome .ensures ∙ ap (outcomeBy (a .steps .now)) (c .before .before .before .settle-file .ensures))
 
 returns-3 : tie.Need-returns-3
-unfolding truthAt
+unfolding truthBy
 returns-3 c =
-    let a = c .before .before .before .before .before .before .args in
+    let a = c .before .before .before .before .before .before .before .args in
     let t = sym (c .before .sizes-fit .ensures) ∙ c .if2 .left in
     rw (le-leb (length (a .eq .now)) 256 (c .before .before .if1 .left), t)
 

@@ -8,7 +8,7 @@ use Rattle.equation.proofs.evaluation.settle_file.Tie as tie
 
 returns : tie.Need-returns
 unfolding settledBy
-returns c = rw (settles.fields-short (c .before .before .before .before .args .file .now) (c .if1 .taken))
+returns c = rw (settles.fields-short (c .before .before .before .before .before .args .file .now) (c .if1 .taken))
 
 shared-slice-read-if2 : tie.Need-shared-slice-read-if2
 shared-slice-read-if2 c = search needs
@@ -32,15 +32,15 @@ same-length : tie.Need-same-length
 same-length c = search needs
 
 returns-2 : tie.Need-returns-2
-returns-2 c = rw (settles.fields-at (c .before .before .before .before .before .before .before .before .before .before .before .before .before .args .file .now) (c .before .before .before .before .before .before .before .before .before .if1 .left), eq-eqb _ _ (c .before .before .before .before .before .before .before .if2 .taken), eq-eqb _ _ (c .before .before .before .before .before .if3 .taken)) (c .before .before .settle-items .ensures)
+returns-2 c = rw (settles.fields-at (c .before .before .before .before .before .before .before .before .before .before .before .before .before .before .args .file .now) (c .before .before .before .before .before .before .before .before .before .if1 .left), eq-eqb _ _ (c .before .before .before .before .before .before .before .if2 .taken), eq-eqb _ _ (c .before .before .before .before .before .if3 .taken)) (c .before .before .settle-items .ensures)
 
 returns-3 : tie.Need-returns-3
 unfolding settledBy
-returns-3 c = rw (settles.fields-at (c .before .before .before .before .before .before .before .before .args .file .now) (c .before .before .before .before .if1 .left), eq-eqb _ _ (c .before .before .if2 .taken), ne-eqb _ _ (c .if3 .left))
+returns-3 c = rw (settles.fields-at (c .before .before .before .before .before .before .before .before .before .args .file .now) (c .before .before .before .before .if1 .left), eq-eqb _ _ (c .before .before .if2 .taken), ne-eqb _ _ (c .if3 .left))
 
 returns-4 : tie.Need-returns-4
 unfolding settledBy
-returns-4 c = rw (settles.fields-at (c .before .before .before .before .before .before .args .file .now) (c .before .before .if1 .left), ne-eqb _ _ (c .if2 .left))
+returns-4 c = rw (settles.fields-at (c .before .before .before .before .before .before .before .args .file .now) (c .before .before .if1 .left), ne-eqb _ _ (c .if2 .left))
 
 pub settle-file-spec : {M : Type 1} → statement M
 settle-file-spec =

@@ -10,22 +10,23 @@ use Rattle.header.specs.declared.items.Head.{Head}
 use Rattle.header.specs.declared.items.Head.the-variants as head
 use Rattle.header.specs.declared.items.Head.the-variants.{Broken, Item}
 use Rattle.header.proofs.Walk as walks
+use Rattle.equation.specs.Parsed.{relationsBy}
 use Rattle.equation.proofs.MarkLaws as marks
 use Rattle.equation.proofs.evaluation.settle_items.Statement.{statement}
 use Rattle.equation.proofs.evaluation.settle_items.Tie as tie
 
 abbrev Inv-loop : tie.InvT-loop
-Inv-loop eq file truths₀ at₀ truths at = marks.Walking eq file truths₀ truths at
+Inv-loop eq steps file truths₀ at₀ truths at = marks.Walking (relationsBy eq steps) file truths₀ truths at
 
 abbrev μ-loop : tie.MeasureT-loop
-μ-loop eq file truths₀ at₀ truths at = length file - at
+μ-loop eq steps file truths₀ at₀ truths at = length file - at
 
 -- the loop as it stands when the head at its place was read
 abbrev Read : Type 0
 Read = tie.After-read-head Inv-loop μ-loop
 
 abbrev bytes : Read → List ℕ
-bytes c = c .before .before .before .before .before .args .file .now
+bytes c = c .before .before .before .before .before .before .args .file .now
 
 abbrev place : Read → ℕ
 place c = c .before .loop .at
@@ -40,7 +41,7 @@ item-in c =
     walks.item-within (bytes r) (place r) (c .h .given .0 .0) (c .h .given .0 .1 .0) (there r (Item (c .h .given .0 .0) (c .h .given .0 .1 .0)) (c .h .given .1))
 
 loop-holds : tie.Need-loop-holds Inv-loop μ-loop
-loop-holds c = marks.walk-start (c .before .before .before .args .eq .now) (c .before .before .before .args .file .now) (c .before .before .before .args .truths .now)
+loop-holds c = marks.walk-start (relationsBy (c .before .before .before .before .args .eq .now) (c .before .before .before .before .args .steps .now)) (c .before .before .before .before .args .file .now) (c .before .before .before .before .args .truths .now)
 
 read-head-requires : tie.Need-read-head-requires Inv-loop μ-loop
 read-head-requires c κs = search needs
@@ -53,7 +54,7 @@ same-length c = c .before .before .before .loop .inv .sized
 
 returns : tie.Need-returns Inv-loop μ-loop
 returns c =
-    let r = c .before .before in marks.walk-broken (r .before .before .before .before .before .args .eq .now) (bytes r) (r .before .before .before .before .before .args .truths .now) (r .before .loop .truths) (place r) (r .before .loop .inv) (there r Broken (c .enum-told .given .1))
+    let r = c .before .before in marks.walk-broken (relationsBy (r .before .before .before .before .before .before .args .eq .now) (r .before .before .before .before .before .before .args .steps .now)) (bytes r) (r .before .before .before .before .before .before .args .truths .now) (r .before .loop .truths) (place r) (r .before .loop .inv) (there r Broken (c .enum-told .given .1))
 
 enum-told-2 : tie.Need-enum-told-2 Inv-loop μ-loop
 enum-told-2 c = c .match .keys2
@@ -63,7 +64,7 @@ same-length-2 c = c .before .before .before .loop .inv .sized
 
 returns-2 : tie.Need-returns-2 Inv-loop μ-loop
 returns-2 c =
-    let r = c .before .before in marks.walk-end (r .before .before .before .before .before .args .eq .now) (bytes r) (r .before .before .before .before .before .args .truths .now) (r .before .loop .truths) (place r) (r .before .loop .inv) (there r head.End (c .enum-told2 .given .1))
+    let r = c .before .before in marks.walk-end (relationsBy (r .before .before .before .before .before .before .args .eq .now) (r .before .before .before .before .before .before .args .steps .now)) (bytes r) (r .before .before .before .before .before .before .args .truths .now) (r .before .loop .truths) (place r) (r .before .loop .inv) (there r head.End (c .enum-told2 .given .1))
 
 enum-known-h : tie.Need-enum-known-h Inv-loop μ-loop
 enum-known-h c = c .match .keys3
@@ -91,7 +92,7 @@ loop-less c = omega (arith, item-in (c .before .before .before .before .before .
 
 loop-again : tie.Need-loop-again Inv-loop μ-loop
 loop-again c =
-    let r = c .before .before .before .before .before .before .before .before in marks.walk-item (r .before .before .before .before .before .args .eq .now) (bytes r) (r .before .before .before .before .before .args .truths .now) (r .before .loop .truths) (place r) (r .before .loop .inv) (c .before .before .before .before .before .before .h .given .0 .0) (c .before .before .before .before .before .before .h .given .0 .1 .0) (c .before .before .settle .last .1 .1 .1 .0) (there r (Item (c .before .before .before .before .before .before .h .given .0 .0) (c .before .before .before .before .before .before .h .given .0 .1 .0)) (c .before .before .before .before .before .before .h .given .1)) (c .before .before .settle .ensures)
+    let r = c .before .before .before .before .before .before .before .before in marks.walk-item (relationsBy (r .before .before .before .before .before .before .args .eq .now) (r .before .before .before .before .before .before .args .steps .now)) (bytes r) (r .before .before .before .before .before .before .args .truths .now) (r .before .loop .truths) (place r) (r .before .loop .inv) (c .before .before .before .before .before .before .h .given .0 .0) (c .before .before .before .before .before .before .h .given .0 .1 .0) _ (there r (Item (c .before .before .before .before .before .before .h .given .0 .0) (c .before .before .before .before .before .before .h .given .0 .1 .0)) (c .before .before .before .before .before .before .h .given .1)) (c .before .before .settle .ensures)
 
 pub settle-items-spec : {M : Type 1} → statement M
 settle-items-spec =
