@@ -22,18 +22,18 @@ use Rattle.session.specs.declared.state.Uplink.{Uplink}
 use Rattle.session.specs.declared.state.Uplink.the-variants as up
 use Rattle.session.specs.declared.reply.Answer.the-variants as answer
 use Rattle.server.specs.declared.Server.{Server}
-use Rattle.server.specs.State.{Lent, Outcome, outcome, doneWith, linkOf, mapPart, ownerPart}
+use Rattle.server.specs.State.{Lent, Outcome, outcome, doneWith, linkOf, mapPart, ownerPart, withPart}
 use Rattle.server.specs.Making.{newServer, emptied, emptyOf, makes, makeOf}
 use Rattle.server.specs.Calls.{Opened, loginOf}
 use Rattle.decide.specs.Words.{wordAt}
-use Rattle.history.specs.Calls.{Call, login, receive, callOf, Start, History, start, _▸_, after}
+use Rattle.history.specs.Calls.{Call, login, receive, lose, callOf, Start, History, start, _▸_, after}
 use Rattle.history.specs.Good.{Good}
 use Rattle.history.proofs.Histories.{good-after}
 use Rattle.demands.specs.Events.{Event, uploading, typeOf}
 use Rattle.demands.specs.Effect.{Effect, Gives, Adds, Finishes, Drops}
 use Rattle.demands.specs.Accepted.{accepted, reserved, numbersGiven, Completion, completion, completions, times}
-use Rattle.demands.specs.Closing.{ClosesBy, SameAsLost, Unwelcome, eventAt}
-use Rattle.demands.specs.Cut.{SameAfter, joined, passed, untaken, _▸▸_}
+use Rattle.demands.specs.Closing.{ClosesBy, Unwelcome, eventAt}
+use Rattle.demands.specs.Cut.{SameAfter, seen, joined, passed, untaken, _▸▸_}
 use Rattle.demands.specs.Feeding.{feed, feedAll, feedPieces}
 use Rattle.demands.specs.Parts.{sessionIn, bytesIn, outIn, oneOf}
 use Rattle.demands.specs.Demand1.{Answers, refuses, silent, closes, sends, RefusedBy, Reachable, Says, Naks, NothingElse, UploadOver, over, overrun}
@@ -261,6 +261,13 @@ too-few-naks = demand-1 .naks _ _ _ _ _ _ _ (computed .refusals .too-few)
 pub too-many-naks : Naks (serverAt small halfway) (lentAt small halfway) 1 8 data41 output 16
 too-many-naks = demand-1 .naks _ _ _ _ _ _ _ (computed .refusals .too-many)
 
+-- of each the selections are as they were, and no packet is unfinished
+pub too-few-left :
+    (callOf (serverAt small halfway) (lentAt small halfway) (rx 8 dataEnd) .lent .selected ≡ lentAt small halfway .selected)
+    × (callOf (serverAt small halfway) (lentAt small halfway) (rx 8 dataEnd) .lent .held
+    ≡ withPart 0 258 (replicate 258 0) (lentAt small halfway .held))
+too-few-left = (too-few-naks .selected, too-few-naks .held)
+
 -- a state that calls made fits and is sound, so its calls are never refused by 33 or 35
 good : Good (serverAt small opened) (lentAt small opened)
 good = good-after small small-legal opened
@@ -348,14 +355,24 @@ pub closed-for-a-reason : Unwelcome (linkOf (serverAt small opened) 0) (eventAt 
 closed-for-a-reason = demand-2 .closing _ _ 1 6 length257 output 0 (computed .closings .goes) .only 2 length-257-closes
 
 -- the closed link leaves what a lost one leaves
-pub type-18-as-lost : SameAsLost (serverAt small opened) (lentAt small opened) 1 6 type18 output
-type-18-as-lost = demand-2 .closing-is-losing _ _ 1 6 type18 output 2 type-18-closes
+pub type-18-as-lost :
+    (callOf (serverAt small opened) (lentAt small opened) (rx 6 type18) .done .server
+    ≡ callOf (serverAt small opened) (lentAt small opened) (lose 1) .done .server)
+    × (callOf (serverAt small opened) (lentAt small opened) (rx 6 type18) .lent
+    ≡ callOf (serverAt small opened) (lentAt small opened) (lose 1) .lent)
+type-18-as-lost =
+    let r = demand-2 .closing-is-losing _ _ 1 6 type18 output 2 type-18-closes in
+    (r .server, r .lent)
 
--- UPLOAD_CMD lent in two calls, cut behind its second byte, or in one
-pub cut-in-two : SameAfter small (beforeUpload ▸ rx 10 (8 ∷ 3 ∷ []) ▸ rx 11 (drop 2 (upload 1))) (beforeUpload ▸ rx 11 (upload 1))
+-- UPLOAD_CMD lent in two calls, cut behind its second byte, or in one: the same state, and the links see the same
+pub cut-in-two :
+    (after small (beforeUpload ▸ rx 10 (8 ∷ 3 ∷ []) ▸ rx 11 (drop 2 (upload 1))) ≡ after small (beforeUpload ▸ rx 11 (upload 1)))
+    × (seen small (beforeUpload ▸ rx 10 (8 ∷ 3 ∷ []) ▸ rx 11 (drop 2 (upload 1))) ≡ seen small (beforeUpload ▸ rx 11 (upload 1)))
 cut-in-two =
+    let r =
     demand-2 .cut small small-legal _ _
-    (joined beforeUpload 1 10 11 (8 ∷ 3 ∷ []) (drop 2 (upload 1)) output output (computed .lost-once .ends) room room)
+    (joined beforeUpload 1 10 11 (8 ∷ 3 ∷ []) (drop 2 (upload 1)) output output (computed .lost-once .ends) room room) in
+    (r .state, r .seen)
 
 -- the first byte of the one link's DATA_END before or after the other link's DATA_END
 pub passes-the-other : SameAfter pair (uploads ▸ of 1 6 (0 ∷ []) ▸ of 2 7 dataEnd) (uploads ▸ of 2 7 dataEnd ▸ of 1 6 (0 ∷ []))
@@ -440,6 +457,13 @@ unfolding small
 none-free =
     let b = demand-3 small small-legal lostOnce .held in
     omega (arith, b .all, b .held, computed .lost-once .sum)
+
+-- before the upload none is held, and so the one is free
+pub one-free : freeCount (mapPart (serverAt small start) (lentAt small start)) ≡ 1
+unfolding small
+one-free =
+    let b = demand-3 small small-legal start .held in
+    omega (arith, b .all, b .held, computed .lost-once .none)
 
 -- file 1 has the one block that was reserved for it
 pub its-blocks : blocks 1 (ownerPart (serverAt small lostOnce) (lentAt small lostOnce)) ≡ 1

@@ -291,6 +291,7 @@ pub record LostOnce : Type 0 where
   pub bit : bitAt (mapPart (serverAt small lostOnce) (lentAt small lostOnce)) 0 ≡ 0
   pub owner : getD (ownerPart (serverAt small lostOnce) (lentAt small lostOnce)) 0 0 ≡ 1
   pub sum : total (length (numbersGiven small lostOnce)) (reserved small lostOnce) ≡ 1
+  pub none : total (length (numbersGiven small start)) (reserved small start) ≡ 0
   -- what the packets tell
   pub begun : demands-accepted.eventAt small opened (rx 6 (upload 0)) ≡ given 1 80
   pub more : demands-accepted.eventAt small continued rest ≡ added 1 (drop 40 smallest)
@@ -409,6 +410,7 @@ computed =
         bit = refl;
         owner = refl;
         sum = refl;
+        none = refl;
         begun = refl;
         more = refl;
         ended = refl;

@@ -26,17 +26,21 @@ pub record Refuses (sv : Server) (l : Lent) (c : Call) (o : Outcome) : Type 0 wh
   pub listed : oneOf number (32 ∷ 33 ∷ 34 ∷ 35 ∷ []) ≡ true
   pub same : o ≡ outcome (doneWith sv (answer.Refused number)) l (outIn c)
 
+-- no more bytes of a link are taken than were lent
+abbrev pub Within : ℕ → Call → Type 0
+Within taken c = taken ≤ length (bytesIn c)
+
 -- nothing is sent, and nothing is written
 pub record Silent (c : Call) (o : Outcome) : Type 0 where
   pub taken : ℕ
-  pub within : taken ≤ length (bytesIn c)
+  pub within : Within taken c
   pub answered : o .done .answer ≡ answer.Quiet taken
   pub out : o .out ≡ outIn c
 
 -- ".. or closes the link": nothing is written, and the session is a closed one
 pub record Closes (c : Call) (o : Outcome) : Type 0 where
   pub taken : ℕ
-  pub within : taken ≤ length (bytesIn c)
+  pub within : Within taken c
   pub answered : o .done .answer ≡ answer.Closed taken
   pub out : o .out ≡ outIn c
   pub session : linkOf (o .done .server) (sessionIn c - 1) ≡ closedSession
@@ -44,7 +48,7 @@ pub record Closes (c : Call) (o : Outcome) : Type 0 where
 -- one packet of the paper is sent, of a type that the paper lists and of a length that the server sends: "Output beyond the packet is untouched."
 pub record Sends (c : Call) (o : Outcome) : Type 0 where
   pub taken : ℕ
-  pub within : taken ≤ length (bytesIn c)
+  pub within : Within taken c
   pub kind : ℕ
   pub info : List ℕ
   pub listed : kind ≤ 17

@@ -1,13 +1,16 @@
 -- The worked example, by computation, and the theorems on paging applied to it. Assumes nothing.
 use mathlib.Core.Path.{_≡_, refl, sym, ap, _∙_, subst}
-use mathlib.Core.List.{List, [], _∷_, map, List·Memᴰ}
+use mathlib.Core.List.{List, [], _∷_, _++_, map, List·Memᴰ, List·Memᴰ·head}
+use Prim.Native.Nat.{ℕ, _<_}
+use lib.ListN.{length, drop}
 use native.Mathlib.Omega.{arith}
 use lib.Count.{ones, onesIn, trailingZeros}
 use Rattle.packet.specs.Packet.{packetOf}
 use Rattle.packet.specs.Machine.{called, call}
 use Rattle.packet.specs.Frame.{judged, byte, withoutPacket, answerBy, answerOf}
 use Rattle.packet.specs.Frame as packet
-use Rattle.packet.specs.Numbers.{number}
+use Rattle.packet.specs.Numbers.{number, two}
+use Rattle.packet.specs.Numbers as numbers
 use Rattle.header.specs.Items.{headOf, walk, marked, fieldsOf}
 use Rattle.header.specs.Items as header
 use Rattle.header.specs.Header.{listed, every, countIf, lengthIn, lengthFits, ordered, proper, complete, sumOf, checkItems, checkValues, verdict}
@@ -56,14 +59,18 @@ use Rattle.server.specs.Calls.{answeredBy, heardBy, stepOf, onCheck, onLogin, l
 use Rattle.server.specs.Calls as server
 use Rattle.history.specs.Calls.{made}
 use Rattle.history.specs.Calls as history
+use Rattle.session.specs.declared.reply.Answer.the-variants as sent
+use Rattle.table.specs.Fit.{Distinct}
+use Rattle.header.specs.Header.{bytesOf}
+use Rattle.history.specs.Stored.{filesOf}
 use Rattle.server.specs.State.{Outcome, tablePart}
 use Rattle.history.specs.Calls.{callOf, after}
 use Rattle.files.specs.Selection.{numbersAt}
 use Rattle.paging.specs.Client.{asking, pageOf, newerPlaces, Answers}
-use Rattle.paging.specs.Paging.{Entry, entry, stateOf, AllGiven, pageIn, newestOf, pagedBy}
+use Rattle.paging.specs.Paging.{Entry, entry, filesIn, begins, asked, stateOf, Rises, Stands, AllGiven, pageIn, newestOf, pagedBy}
 use Rattle.paging.proofs.Paging.{page-answered, paging, paging-whole}
 use Rattle.paging.specs.Examples.{smallest}
-use Rattle.paging.specs.Worked.{tiny, uploaded, sized, reader, output, Met}
+use Rattle.paging.specs.Worked.{tiny, uploaded, sized, longest, reader, output, Met}
 
 -- what the first request comes to
 abbrev asked-first : Outcome
@@ -71,7 +78,7 @@ asked-first = callOf (after tiny uploaded .server) (after tiny uploaded .lent) (
 
 pub met : Met
 unfolding
-    tiny uploaded reader smallest pageIn newestOf pagedBy ones onesIn trailingZeros packetOf called call judged byte withoutPacket answerBy
+    tiny uploaded longest reader smallest pageIn newestOf pagedBy ones onesIn trailingZeros packetOf called call judged byte withoutPacket answerBy
     answerOf packet.receiveOf number headOf walk marked fieldsOf header.after listed every countIf lengthIn lengthFits ordered proper complete
     sumOf checkItems checkValues verdict placeFrom headerOf headerHeader.bytesOf withFields withSum fieldsSet beforeMark unmarkedPast starsIn
     goodText goodNumber good connectiveOf relationAt tokenOf follow symbolsPast relations width compare textMeets numberMeets meets holds
@@ -93,7 +100,10 @@ met =
       short = omega arith;
       before = ((((tt, omega arith), omega arith), omega arith), omega arith);
       may = record { first = omega arith; last = omega arith; linked = refl; idle = refl; nothing-held = refl; room = omega arith };
+      bytes = refl;
       first = refl;
+      longest-accepted = refl;
+      longest-short = omega arith;
       allowed = (
         (tt, record { first = omega arith; last = omega arith; linked = refl; idle = refl; nothing-held = refl; room = omega arith }),
         record { first = omega arith; last = omega arith; linked = refl; idle = refl; nothing-held = refl; room = omega arith },
@@ -101,6 +111,7 @@ met =
       clocks = ((((((tt, omega arith), omega arith), omega arith), omega arith), omega arith), omega arith);
       finished = omega arith;
       given = refl;
+      page = refl;
       complete = omega arith;
       matched = refl;
       is = refl;
@@ -116,6 +127,23 @@ first-answered = page-answered tiny (met .sizes) uploaded (met .before) sized (m
 pub first-page : pageOf (asked-first .done .server) (asked-first .lent) 1 ≡ 1 ∷ []
 first-page = first-answered .page ∙ met .first
 
+-- the packet has 16 bytes, SELECT_RESP says 1, and each file is as it was
+pub first-told :
+    (asked-first .done .answer ≡ sent.Sent 16 4) × (asked-first .out ≡ 2 ∷ 17 ∷ 1 ∷ 0 ∷ drop 4 output)
+    × ((place : ℕ) → filesOf (asked-first .done .server) (asked-first .lent) place ≡ filesOf (after tiny uploaded .server) (after tiny uploaded .lent) place)
+unfolding packetOf
+first-told = (
+  first-answered .told ∙ ap (λ (bs : List ℕ). sent.Sent (length bs) 4) (met .bytes),
+  first-answered .sent ∙ ap (λ (ns : List ℕ). packetOf 17 (two (length ns)) ++ drop 4 output) (met .first),
+  first-answered .unchanged,
+)
+
+-- an equation of 247 bytes, and the latest time, have room too
+pub longest-answered : Answers (after tiny uploaded .server) (after tiny uploaded .lent) longest 4294967295 1 8 output
+longest-answered =
+    page-answered tiny (met .sizes) uploaded (met .before) longest (met .longest-accepted) (met .longest-short) 4294967295 (omega arith) 1 8 output
+    (met .may)
+
 -- the client has been given every matching complete file once, oldest first
 pub all-given : AllGiven tiny sized reader
 all-given = paging tiny (met .sizes) sized (met .accepted) (met .short) reader (met .allowed) (met .clocks) (met .finished)
@@ -123,6 +151,26 @@ all-given = paging tiny (met .sizes) sized (met .accepted) (met .short) reader (
 -- so the file with number 1 and upload time 7 is among them
 pub one-given : List·Memᴰ (entry 1 7) (pagedBy tiny sized reader .given)
 one-given = subst (λ e. List·Memᴰ e (pagedBy tiny sized reader .given)) (met .is) (all-given .every 0 (met .complete) (met .matched))
+
+-- no number twice, and the first time is above 0
+pub in-order : Distinct (1 ∷ []) × (0 < 7)
+in-order = (
+  subst (λ (es : List Entry). Distinct (map (λ (e : Entry). e .number) es)) (met .given) (all-given .once),
+  subst (λ (es : List Entry). Rises 0 es) (met .given) (all-given .oldest-first) .0,
+)
+
+-- when the first page was given, the file stood, and its header had its upload time
+pub stood : Stands (after tiny (asked tiny sized (pagedBy tiny sized (begins uploaded)) 1 8 output)) sized (entry 1 7)
+unfolding reader
+stood =
+    all-given .stood .0 .1 (entry 1 7) (subst (λ (es : List Entry). List·Memᴰ (entry 1 7) es) (sym (met .page)) (List·Memᴰ·head refl))
+
+pub stood-so :
+    (filesIn (after tiny (asked tiny sized (pagedBy tiny sized (begins uploaded)) 1 8 output)) (stood .place) .file .number ≡ 1)
+    × (numbers.number
+    (bytesOf 18 (fieldsOf (filesIn (after tiny (asked tiny sized (pagedBy tiny sized (begins uploaded)) 1 8 output)) (stood .place) .bytes)))
+    ≡ 7)
+stood-so = (stood .number, stood .header)
 
 -- in the words of the paper: what was given are the numbers of all matching complete files of the store, oldest first
 pub whole-given :
