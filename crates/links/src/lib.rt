@@ -10,7 +10,8 @@ use table::Found;
 ghost use mathlib.Core.Path.{_≡_};
 ghost use Prim.Native.Nat.{_+_, _*_, _≤_};
 ghost use lib.ListN.{length, take, drop};
-ghost use Rattle.table.specs.Table.{files};
+ghost use Rattle.table.specs.Table.{files, numbers, findOf};
+ghost use Rattle.table.specs.Fit.{Distinct};
 ghost use Rattle.links.specs.Sound.{completeAt, uplinkSound, downlinkSound, namedSound, namesSound, selectionSound, packetSound, linkSound, linkIn, notReceiving, apartFrom, allApart, linksSound};
 
 // The file at a place is complete.
@@ -78,8 +79,8 @@ fn named_sound(table: &[u32], number: u32) -> bool
     }
 }
 
-// The first `count` of the selected numbers are those of complete files.
-fn names_sound(table: &[u32], selected: &[u32], count: usize) -> bool
+// The first `count` of the selected numbers are those of complete files, each looked for in the whole table.
+fn names_each(table: &[u32], selected: &[u32], count: usize) -> bool
     requires { ⌜ count ≤ length (now selected) ⌝ }
     ensures { λ r. ⌜ r ≡ namesSound (files (now (table .entry))) (take count (now (selected .entry))) ⌝ }
 {
@@ -92,6 +93,62 @@ fn names_sound(table: &[u32], selected: &[u32], count: usize) -> bool
         }
     }
     true
+}
+
+// The place of the file with a number, looked for from a place on and only then from the first one. No two files have the same number.
+fn place_of(table: &[u32], number: u32, from: usize) -> Found
+    requires { ⌜ Distinct (numbers (files (now table))) ⌝ }
+    ensures { λ r. ⌜ r ≡ findOf (files (now (table .entry))) number ⌝ }
+{
+    if number == 0 {
+        return Found::Nothing;
+    }
+    let n = table::places(table);
+    let mut at = from;
+    while at < n {
+        if table::get(table, at).number == number {
+            return Found::At(at);
+        }
+        at += 1;
+    }
+    table::find(table, number)
+}
+
+// The first `count` of the selected numbers are those of complete files: mostly they stand in the order of their places, so that each is
+// looked for from the place of the one before it on.
+fn names_in_order(table: &[u32], selected: &[u32], count: usize) -> bool
+    requires { ⌜ (count ≤ length (now selected)) × Distinct (numbers (files (now table))) ⌝ }
+    ensures { λ r. ⌜ r ≡ namesSound (files (now (table .entry))) (take count (now (selected .entry))) ⌝ }
+{
+    let mut from = 0;
+    let mut k = 0;
+    while k < count {
+        let found = place_of(table, selected[k], from);
+        let Found::At(place) = found else {
+            return false;
+        };
+        if complete_at(table, place) {
+            from = place;
+            k += 1;
+        } else {
+            return false;
+        }
+    }
+    true
+}
+
+// The first `count` of the selected numbers are those of complete files.
+fn names_sound(table: &[u32], selected: &[u32], count: usize) -> bool
+    requires { ⌜ count ≤ length (now selected) ⌝ }
+    ensures { λ r. ⌜ r ≡ namesSound (files (now (table .entry))) (take count (now (selected .entry))) ⌝ }
+{
+    if count == 0 {
+        return true;
+    }
+    if table::distinct(table) {
+        return names_in_order(table, selected, count);
+    }
+    names_each(table, selected, count)
 }
 
 // An unfinished packet: fewer bytes than its head announces.

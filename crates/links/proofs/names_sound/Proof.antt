@@ -1,86 +1,32 @@
 -- `links::names_sound` meets its contract. Assumes nothing.
-use borrow.Author.Needs.{needs}
-use mathlib.Core.Path.{_≡_, refl, _∙_, sym}
-use mathlib.Core.Bool.{true, false, cond}
-use mathlib.Core.List.{List}
-use Prim.Native.Nat.{ℕ, _+_, _-_, _<_, _≤_}
-use native.Mathlib.Omega.{arith}
-use native.Mathlib.Numerals.{add-one}
-use lib.ListN.{length, take, drop, getD, drop-of-length-le}
-use lib.Seq.{drop-cons, getD-take, length-take-le}
-use Rattle.table.specs.declared.File.{File}
+use mathlib.Core.Path.{_≡_, sym, _∙_}
+use Rattle.table.specs.declared.Key.the-variants.{Number}
 use Rattle.table.specs.Table.{files}
-use Rattle.links.specs.Sound.{namedSound, namesSound}
+use Rattle.table.proofs.Fitting.{distinct-facts}
+use Rattle.links.proofs.Names.{none-selected}
+use borrow.Author.Needs.{needs}
 use Rattle.links.proofs.names_sound.Statement.{statement}
 use Rattle.links.proofs.names_sound.Tie as tie
 
--- the names from index k on: the one at k, and those after it
-step : (fs : List File) (xs : List ℕ) (count k : ℕ) → k < count → count ≤ length xs
-    → namesSound fs (drop k (take count xs)) ≡ cond (namedSound fs (getD xs k 0)) (namesSound fs (drop (k + 1) (take count xs))) false
-unfolding namesSound
-step fs xs count k h n =
-    let l : k < length (take count xs) = omega (arith, length-take-le count xs n) in
-    rw (drop-cons (take count xs) k 0 l, getD-take count xs k 0 h, add-one)
+returns : tie.Need-returns
+returns c = none-selected _ _ _ (c .if1 .taken)
 
-passed : (fs : List File) (xs : List ℕ) (count k : ℕ) → k < count → count ≤ length xs → namedSound fs (getD xs k 0) ≡ true
-    → namesSound fs (drop k (take count xs)) ≡ namesSound fs (drop (k + 1) (take count xs))
-passed fs xs count k h n e = step fs xs count k h n ∙ rw e
+distinct-requires : tie.Need-distinct-requires
+distinct-requires c κs = search needs
 
-failed : (fs : List File) (xs : List ℕ) (count k : ℕ) → k < count → count ≤ length xs → namedSound fs (getD xs k 0) ≡ false
-    → namesSound fs (drop k (take count xs)) ≡ false
-failed fs xs count k h n e = step fs xs count k h n ∙ rw e
+names-in-order-requires : tie.Need-names-in-order-requires
+names-in-order-requires c κs = (c .before .before .before .before .before .pre, distinct-facts (files (c .before .before .before .before .before .args .table .now)) (sym (c .before .distinct .ensures) ∙ c .if2 .taken) Number)
 
-none-left : (fs : List File) (xs : List ℕ) (count k : ℕ) → count ≤ k → count ≤ length xs → namesSound fs (drop k (take count xs)) ≡ true
-unfolding namesSound
-none-left fs xs count k h n =
-    let l : length (take count xs) ≤ k = omega (arith, length-take-le count xs n) in
-    rw (drop-of-length-le (take count xs) l)
+returns-2 : tie.Need-returns-2
+returns-2 c = c .names-in-order .ensures
 
-abbrev Inv-loop : tie.InvT-loop
-Inv-loop table selected count k₀ k = (k ≤ count) × (namesSound (files table) (take count selected) ≡ namesSound (files table) (drop k (take count selected)))
+names-each-requires : tie.Need-names-each-requires
+names-each-requires c κs = search needs
 
-abbrev μ-loop : tie.MeasureT-loop
-μ-loop table selected count k₀ k = count - k
-
-loop-holds : tie.Need-loop-holds Inv-loop μ-loop
-loop-holds c = (omega arith, refl)
-
-mul-named-sound : tie.Need-mul-named-sound Inv-loop μ-loop
-mul-named-sound c = search needs
-
-shared-slice-read-named-sound : tie.Need-shared-slice-read-named-sound Inv-loop μ-loop
-shared-slice-read-named-sound c = omega arith
-
-named-sound-requires : tie.Need-named-sound-requires Inv-loop μ-loop
-named-sound-requires c κs = search needs
-
-add-k : tie.Need-add-k Inv-loop μ-loop
-add-k c = omega arith
-
-loop-less : tie.Need-loop-less Inv-loop μ-loop
-loop-less c = omega arith
-
-loop-again : tie.Need-loop-again Inv-loop μ-loop
-loop-again c = (omega arith, c .before .before .before .before .loop .inv .1 ∙ passed _ _ _ _ (c .before .before .before .loop-test .taken) (c .before .before .before .before .before .before .before .pre) (sym (c .before .named-sound .ensures) ∙ c .if1 .taken))
-
-returns : tie.Need-returns Inv-loop μ-loop
-returns c = sym (c .before .before .before .before .loop .inv .1 ∙ failed _ _ _ _ (c .before .before .before .loop-test .taken) (c .before .before .before .before .before .before .before .pre) (sym (c .before .named-sound .ensures) ∙ c .if1 .left))
-
-returns-2 : tie.Need-returns-2 Inv-loop μ-loop
-returns-2 c = sym (c .before .loop .inv .1 ∙ none-left _ _ _ _ (c .loop-test .left) (c .before .before .before .before .pre))
+returns-3 : tie.Need-returns-3
+returns-3 c = c .names-each .ensures
 
 pub names-sound-spec : {M : Type 1} → statement M
 names-sound-spec =
     tie.close
-    (tie.spec
-    Inv-loop
-    μ-loop
-    loop-holds
-    mul-named-sound
-    shared-slice-read-named-sound
-    named-sound-requires
-    add-k
-    loop-less
-    loop-again
-    returns
-    returns-2)
+    (tie.spec returns distinct-requires names-in-order-requires returns-2 names-each-requires returns-3)
