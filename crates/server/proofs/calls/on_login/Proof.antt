@@ -1,3 +1,4 @@
+use native.Mathlib.Omega.{arith}
 use Rattle.server.specs.Calls.{onLogin}
 use borrow.Author.Needs.{needs}
 use Rattle.server.proofs.calls.on_login.Statement.{statement}
@@ -18,7 +19,7 @@ fresh-requires : tie.Need-fresh-requires
 fresh-requires c κs = search needs
 
 with-link-requires : tie.Need-with-link-requires
-with-link-requires c κs = c .before .before .before .before .before .pre _ (c .before .before .k2 .given .1)
+with-link-requires c κs = omega (arith, c .before .before .before .before .before .pre _ (c .before .before .k2 .given .1))
 
 send-requires : tie.Need-send-requires
 send-requires c κs = search needs

@@ -1,3 +1,4 @@
+use native.Mathlib.Omega.{arith}
 use Rattle.server.specs.Calls.{onLose}
 use borrow.Author.Needs.{needs}
 use Rattle.server.proofs.calls.on_lose.Statement.{statement}
@@ -21,7 +22,7 @@ closed-requires : tie.Need-closed-requires
 closed-requires c κs = search needs
 
 with-link-requires : tie.Need-with-link-requires
-with-link-requires c κs = c .before .before .before .before .before .before .before .before .before .before .before .before .before .pre _ (c .before .before .before .before .before .before .before .before .before .k2 .given .1) .session
+with-link-requires c κs = omega (arith, c .before .before .before .before .before .before .before .before .before .before .before .before .before .pre _ (c .before .before .before .before .before .before .before .before .before .k2 .given .1) .session)
 
 returns : tie.Need-returns
 unfolding onLose

@@ -35,7 +35,7 @@ due-requires : tie.Need-due-requires
 due-requires c κs = c .before .before .before .before .before .before .before .before .before .before .before .pre _ (c .before .before .before .before .before .k2 .given .1) .packet
 
 with-link-requires : tie.Need-with-link-requires
-with-link-requires c κs = c .before .before .before .before .before .before .before .before .before .before .before .before .before .before .before .pre _ (c .before .before .before .before .before .before .before .before .before .k2 .given .1) .session
+with-link-requires c κs = omega (arith, c .before .before .before .before .before .before .before .before .before .before .before .before .before .before .before .pre _ (c .before .before .before .before .before .before .before .before .before .k2 .given .1) .session)
 
 returns : tie.Need-returns
 unfolding onRequest
