@@ -2,12 +2,14 @@
 use crate::parts::least;
 use crate::parts::rest;
 use lines::Command;
+use std::num::wrapping_sub_u8;
 ghost use mathlib.Core.Path.{_≡_};
-ghost use Prim.Native.Nat.{_+_, _≤_};
+ghost use Prim.Native.Nat.{_+_, _≤_, _<_};
+ghost use lib.Dec.{ltb};
 ghost use lib.ListN.{length};
 ghost use Rattle.lines.specs.Commands.{reads, readOf};
 ghost use Rattle.script.specs.Parts.{bytesFrom};
-ghost use Rattle.script.specs.Input.{lineLength, foundOf, findOf, shifted, shiftOf, movedOf};
+ghost use Rattle.script.specs.Input.{lineLength, Passed, foundOf, findOf, shifted, shiftOf, movedOf};
 
 // The most bytes of a line that can be read, without its newline.
 pub const LINE: usize = 131072;
@@ -20,11 +22,45 @@ pub enum Found {
     Nothing,
 }
 
-// How many bytes there are before the first newline, or before the end.
-fn line_length(input: &[u8]) -> usize
+// Whether a newline is among bytes. All are looked at, with no early end: the least distance from it is found for many bytes at once.
+fn has_newline(bytes: &[u8]) -> bool
+    ensures { λ r. ⌜ r ≡ ltb (lineLength (now (bytes .entry))) (length (now (bytes .entry))) ⌝ }
+{
+    let mut least = 255;
+    let mut i = 0;
+    while i < bytes.len() {
+        let d = wrapping_sub_u8(bytes[i], 10);
+        if d < least {
+            least = d;
+            i += 1;
+        } else {
+            i += 1;
+        }
+    }
+    least == 0
+}
+
+// The place behind the pieces of `size` bytes, from a place on, that have no newline.
+fn after_pieces(input: &[u8], from: usize, size: usize) -> usize
+    requires { ⌜ (0 < size) × Passed (now input) from ⌝ }
+    ensures { λ r. ⌜ Passed (now (input .entry)) r ⌝ }
+{
+    let mut n = from;
+    while size <= input.len() - n {
+        if has_newline(&input[n..n + size]) {
+            return n;
+        }
+        n += size;
+    }
+    n
+}
+
+// How many bytes there are before the first newline, or before the end, where none stands before a place.
+fn newline_from(input: &[u8], from: usize) -> usize
+    requires { ⌜ Passed (now input) from ⌝ }
     ensures { λ r. ⌜ r ≡ lineLength (now (input .entry)) ⌝ }
 {
-    let mut n = 0;
+    let mut n = from;
     while n < input.len() {
         if input[n] == 10 {
             return n;
@@ -32,6 +68,15 @@ fn line_length(input: &[u8]) -> usize
         n += 1;
     }
     n
+}
+
+// How many bytes there are before the first newline, or before the end.
+fn line_length(input: &[u8]) -> usize
+    ensures { λ r. ⌜ r ≡ lineLength (now (input .entry)) ⌝ }
+{
+    let whole = after_pieces(input, 0, 64);
+    let near = after_pieces(input, whole, 16);
+    newline_from(input, near)
 }
 
 // What a first line of n bytes is, of `size` bytes in the input.
