@@ -6,8 +6,8 @@ use native.Mathlib.Nat.{zero-add, add-zero, pow-suc}
 use native.Mathlib.Numerals.{add-one}
 use native.Mathlib.Omega.{arith}
 use mathlib.Core.List.{List, [], _∷_}
-use lib.ListN.{length, getD, set, take, drop, length-drop, drop-of-length-le, List·getD-eq-default}
-use lib.Seq.{drop-cons, drop-drop, take-all, length-take-le, getD-set-same, getD-set-other, set-out}
+use lib.ListN.{length, getD, set, take, drop, length-set, length-drop, List·getD-eq-default}
+use lib.Seq.{drop-cons, drop-drop, take-all, length-take-le, getD-set-same, getD-set-other}
 use lib.Dec.{eqb, eqb·suc-zero}
 use borrow.Author.Tests.{eq-eqb, ne-eqb}
 use Rattle.blocks.specs.Owners.{blocks, nextOf, nth, wordOf}
@@ -164,58 +164,105 @@ module _ (owner : List ℕ) (from end : ℕ) (h : from ≤ end) (l : end ≤ len
   pub free-part : blocks 0 (take (end - from) (drop from owner)) ≡ 64 → wordOf 64 (drop from owner) ≡ 18446744073709551615
   free-part z = let w = word-free 64 (drop from owner) (ap (blocks 0) (sym part-word) ∙ z) in omega arith
 
--- ---- the counts of all owners, a run at a time
-
--- the counts n, the run of owner v that is not in them yet, and the blocks from block i on are all blocks
-pub record Counted (owner n : List ℕ) (v run i : ℕ) : Type 0 where
-  pub done : i ≤ length owner
-  pub size : length n ≡ 257
-  pub few : run ≤ i
-  pub all : (u : ℕ) → u < 257 → getD n u 0 + cond (eqb v u) run 0 + blocks u (drop i owner) ≡ blocks u owner
+-- ---- runs of blocks with one owner
 
 blocks-one : (u : ℕ) (owner : List ℕ) (i : ℕ) → i < length owner → blocks u (drop i owner) ≡ cond (eqb (getD owner i 0) u) 1 0 + blocks u (drop (i + 1) owner)
 unfolding blocks
 blocks-one u owner i h = rw (add-one, drop-cons owner i 0)
 
-module _ (owner n : List ℕ) (v run i : ℕ) (c : Counted owner n v run i) where
+-- the blocks from `from` to `end` are all of owner v
+abbrev pub RunTo : List ℕ → ℕ → ℕ → ℕ → Type 0
+RunTo owner v from end = (u : ℕ) → blocks u (drop from owner) ≡ cond (eqb v u) (end - from) 0 + blocks u (drop end owner)
+
+module _ (owner : List ℕ) (v : ℕ) where
+  pub run-none : (from : ℕ) → RunTo owner v from from
+  run-none from u = go (eqb v u)
+    where
+      go : (t : Bool) → blocks u (drop from owner) ≡ cond t (from - from) 0 + blocks u (drop from owner)
+      go true = omega arith
+      go false = omega arith
+
+  pub run-one : (from : ℕ) → from < length owner → getD owner from 0 ≡ v → RunTo owner v from (from + 1)
+  run-one from h e u = go (eqb v u) (blocks-one u owner from h ∙ ap (λ (x : ℕ). cond (eqb x u) 1 0 + blocks u (drop (from + 1) owner)) e)
+    where
+      go : (t : Bool) → blocks u (drop from owner) ≡ cond t 1 0 + blocks u (drop (from + 1) owner)
+          → blocks u (drop from owner) ≡ cond t (from + 1 - from) 0 + blocks u (drop (from + 1) owner)
+      go true a = omega arith
+      go false a = omega arith
+
+  pub run-join : (from b end : ℕ) → from ≤ b → b ≤ end → RunTo owner v from b → RunTo owner v b end → RunTo owner v from end
+  run-join from b end h k p q u = go (eqb v u) (p u) (q u)
+    where
+      go : (t : Bool) → blocks u (drop from owner) ≡ cond t (b - from) 0 + blocks u (drop b owner)
+          → blocks u (drop b owner) ≡ cond t (end - b) 0 + blocks u (drop end owner)
+          → blocks u (drop from owner) ≡ cond t (end - from) 0 + blocks u (drop end owner)
+      go true a c = omega arith
+      go false a c = omega arith
+
+-- where all blocks are of one owner, no other has one
+others-none : (u v : ℕ) (xs : List ℕ) → (v ≡ u → ⊥) → blocks v xs ≡ length xs → blocks u xs ≡ 0
+unfolding blocks
+others-none u v [] n e = refl
+others-none u v (o ∷ os) n e = by-eq o v (λ s. hit s (λ f. others-none u v os n f)) (λ s. absurd (miss (rw (ne-eqb o v s) at e) (blocks-le v os)))
+  where
+    miss : 0 + blocks v os ≡ suc (length os) → blocks v os ≤ length os → ⊥
+    miss a b = omega arith
+
+    hit : o ≡ v → (blocks v os ≡ length os → blocks u os ≡ 0) → cond (eqb o u) 1 0 + blocks u os ≡ 0
+    hit s ih =
+        let f : 1 + blocks v os ≡ suc (length os) = rw (eq-eqb o v s) at e in
+        rw (ne-eqb o u (λ z. n (sym s ∙ z))) (omega (arith, ih (omega arith)))
+
+-- a part that is all of owner v
+pub run-part : (owner : List ℕ) (v from end : ℕ) → from ≤ end → end ≤ length owner → blocks v (take (end - from) (drop from owner)) ≡ end - from → RunTo owner v from end
+run-part owner v from end h l e u =
+    by-eq v u
+    (λ s. same s (part-count u owner from end h))
+    (λ s. other s (part-count u owner from end h) (others-none u v (take (end - from) (drop from owner)) s (e ∙ sym (part-size owner from end h l))))
+  where
+    same : v ≡ u → blocks u (drop from owner) ≡ blocks u (take (end - from) (drop from owner)) + blocks u (drop end owner)
+        → blocks u (drop from owner) ≡ cond (eqb v u) (end - from) 0 + blocks u (drop end owner)
+    same s a = let f : blocks u (take (end - from) (drop from owner)) ≡ end - from = rw (← s) e in rw (eq-eqb v u s) (omega arith)
+
+    other : (v ≡ u → ⊥) → blocks u (drop from owner) ≡ blocks u (take (end - from) (drop from owner)) + blocks u (drop end owner)
+        → blocks u (take (end - from) (drop from owner)) ≡ 0 → blocks u (drop from owner) ≡ cond (eqb v u) (end - from) 0 + blocks u (drop end owner)
+    other s a b = rw (ne-eqb v u s) (omega arith)
+
+-- ---- the counts of all owners, a run at a time
+
+-- the counts n and the blocks from block i on are all blocks
+pub record Counted (owner n : List ℕ) (i : ℕ) : Type 0 where
+  pub done : i ≤ length owner
+  pub size : length n ≡ 257
+  pub all : (u : ℕ) → u < 257 → getD n u 0 + blocks u (drop i owner) ≡ blocks u owner
+
+module _ (owner n : List ℕ) (i : ℕ) (c : Counted owner n i) (v end : ℕ) (k : i ≤ end) (r : RunTo owner v i end) where
+  own-run : blocks v (drop i owner) ≡ end - i + blocks v (drop end owner)
+  own-run = rw (eq-eqb v v refl) at (r v)
+
   -- the run fits its count
-  pub run-fits : getD n v 0 + run ≤ length owner
+  pub run-fits : getD n v 0 + (end - i) ≤ length owner
   run-fits =
       by-lt v 257
-      (λ h. let e = c .all v h in let b = blocks-le v owner in in-run (rw (eq-eqb v v refl) at e) b)
-      (λ h. let z : getD n v 0 ≡ 0 = List·getD-eq-default n 0 (omega (arith, c .size)) in omega (arith, c .done, c .few))
-    where
-      in-run : getD n v 0 + run + blocks v (drop i owner) ≡ blocks v owner → blocks v owner ≤ length owner → getD n v 0 + run ≤ length owner
-      in-run e b = omega arith
-
-  -- one block more of the run
-  pub run-more : i < length owner → getD owner i 0 ≡ v → Counted owner n v (run + 1) (i + 1)
-  run-more h e = record { done = omega arith; size = c .size; few = omega (arith, c .few); all = λ u l. go u (eqb v u) (c .all u l) (blocks-one u owner i h ∙ ap (λ (x : ℕ). cond (eqb x u) 1 0 + blocks u (drop (i + 1) owner)) e) }
-    where
-      go : (u : ℕ) (t : Bool) → getD n u 0 + cond t run 0 + blocks u (drop i owner) ≡ blocks u owner
-          → blocks u (drop i owner) ≡ cond t 1 0 + blocks u (drop (i + 1) owner)
-          → getD n u 0 + cond t (run + 1) 0 + blocks u (drop (i + 1) owner) ≡ blocks u owner
-      go u true a b = omega arith
-      go u false a b = omega arith
+      (λ h. omega (arith, c .all v h, own-run, blocks-le v owner))
+      (λ h. let z : getD n v 0 ≡ 0 = List·getD-eq-default n 0 (omega (arith, c .size)) in omega (arith, own-run, blocks-le v (drop i owner), length-drop i owner))
 
   -- the run is added to its count
-  pub run-added : (n′ : List ℕ) → n′ ≡ set n v (getD n v 0 + run) → (u : ℕ) → u < 257 → getD n′ u 0 + blocks u (drop i owner) ≡ blocks u owner
-  run-added n′ e u l =
-      by-eq u v
-      (λ s. same s (rw (s, eq-eqb v v refl) at (c .all u l)) (ap (λ (x : List ℕ). getD x v 0) e ∙ getD-set-same n v (getD n v 0 + run) 0 (omega (arith, c .size))))
-      (λ s. other (rw (ne-eqb v u (λ z. s (sym z))) at (c .all u l)) (ap (λ (x : List ℕ). getD x u 0) e ∙ getD-set-other n v u (getD n v 0 + run) 0 s))
+  pub run-added : (n′ : List ℕ) → n′ ≡ set n v (getD n v 0 + (end - i)) → end ≤ length owner → Counted owner n′ end
+  run-added n′ e l =
+      record {
+        done = l;
+        size = ap length e ∙ length-set n v (getD n v 0 + (end - i)) ∙ c .size;
+        all = λ u q.
+            by-eq v u
+            (λ s. same u s (c .all u q) (rw (eq-eqb v u s) at (r u)) (ap (λ (x : List ℕ). getD x v 0) e ∙ getD-set-same n v (getD n v 0 + (end - i)) 0 (omega (arith, c .size))))
+            (λ s. other u (c .all u q) (rw (ne-eqb v u s) at (r u)) (ap (λ (x : List ℕ). getD x u 0) e ∙ getD-set-other n v u (getD n v 0 + (end - i)) 0 (λ z. s (sym z))));
+      }
     where
-      same : u ≡ v → getD n v 0 + run + blocks v (drop i owner) ≡ blocks v owner → getD n′ v 0 ≡ getD n v 0 + run
-          → getD n′ u 0 + blocks u (drop i owner) ≡ blocks u owner
-      same s a b = rw s (omega arith)
+      same : (u : ℕ) → v ≡ u → getD n u 0 + blocks u (drop i owner) ≡ blocks u owner → blocks u (drop i owner) ≡ end - i + blocks u (drop end owner)
+          → getD n′ v 0 ≡ getD n v 0 + (end - i) → getD n′ u 0 + blocks u (drop end owner) ≡ blocks u owner
+      same u s a b d = let f : getD n′ u 0 ≡ getD n u 0 + (end - i) = rw (← s) d in omega arith
 
-      other : getD n u 0 + 0 + blocks u (drop i owner) ≡ blocks u owner → getD n′ u 0 ≡ getD n u 0 → getD n′ u 0 + blocks u (drop i owner) ≡ blocks u owner
-      other a b = omega arith
-
-  -- and another run begins
-  pub run-next : (n′ : List ℕ) → n′ ≡ set n v (getD n v 0 + run) → length n′ ≡ 257 → i < length owner → Counted owner n′ (getD owner i 0) 1 (i + 1)
-  run-next n′ e s h = record { done = omega arith; size = s; few = omega arith; all = λ u l. go u (run-added n′ e u l) (blocks-one u owner i h) }
-    where
-      go : (u : ℕ) → getD n′ u 0 + blocks u (drop i owner) ≡ blocks u owner → blocks u (drop i owner) ≡ cond (eqb (getD owner i 0) u) 1 0 + blocks u (drop (i + 1) owner)
-          → getD n′ u 0 + cond (eqb (getD owner i 0) u) 1 0 + blocks u (drop (i + 1) owner) ≡ blocks u owner
-      go u a b = omega arith
+      other : (u : ℕ) → getD n u 0 + blocks u (drop i owner) ≡ blocks u owner → blocks u (drop i owner) ≡ 0 + blocks u (drop end owner)
+          → getD n′ u 0 ≡ getD n u 0 → getD n′ u 0 + blocks u (drop end owner) ≡ blocks u owner
+      other u a b d = omega arith

@@ -9,6 +9,7 @@
 // `agrees`: what the others do where the map and the owners disagree is defined too, and the laws in proofs/ say what they do where they agree.
 // A call's cost is linear in the blocks and in the bytes that it moves: no block is searched for anew from the first one.
 ghost use mathlib.Core.Path.{_≡_};
+ghost use mathlib.Core.Bool.{cond};
 ghost use mathlib.Core.List.{List};
 ghost use Prim.Native.Nat.{ℕ, _+_, _-_, _*_, _/_, _%_, _^_, _≤_, _<_};
 ghost use lib.ListN.{length, getD, set, take, drop, replicate};
@@ -118,27 +119,68 @@ fn add_run(n: &mut [usize; 257], v: u16, run: usize)
     }
 }
 
+// The first block from block `from` on and before block `end` that is not of owner v, or `end`.
+fn scan_other(owner: &[u16], v: u16, from: usize, end: usize) -> usize
+    requires { ⌜ (from ≤ end) × (end ≤ length (now owner)) ⌝ }
+    ensures { λ r. ⌜ (from ≤ r) × (r ≤ end)
+        × ((u : ℕ) → blocks u (drop from (now (owner .entry))) ≡ cond (eqb v u) (r - from) 0 + blocks u (drop r (now (owner .entry)))) ⌝ }
+{
+    let mut b = from;
+    while b < end {
+        if owner[b] == v {
+            b += 1;
+        } else {
+            return b;
+        }
+    }
+    b
+}
+
+// From block `from` on, past each 64 blocks that are all of owner v.
+fn pass_whole(owner: &[u16], v: u16, from: usize) -> usize
+    requires { ⌜ from ≤ length (now owner) ⌝ }
+    ensures { λ r. ⌜ (from ≤ r) × (r ≤ length (now (owner .entry)))
+        × ((u : ℕ) → blocks u (drop from (now (owner .entry))) ≡ cond (eqb v u) (r - from) 0 + blocks u (drop r (now (owner .entry)))) ⌝ }
+{
+    let mut b = from;
+    while 64 <= owner.len() - b {
+        let end = b + 64;
+        if count_few(&owner[b..end], v) == 64 {
+            b = end;
+        } else {
+            return b;
+        }
+    }
+    b
+}
+
+// The end of the run of blocks with one owner from block `from` on. Most end soon; what is longer is passed over by 64 blocks.
+fn run_end(owner: &[u16], from: usize) -> usize
+    requires { ⌜ from < length (now owner) ⌝ }
+    ensures { λ r. ⌜ (from < r) × (r ≤ length (now (owner .entry)))
+        × ((u : ℕ) → blocks u (drop from (now (owner .entry))) ≡ cond (eqb (getD (now (owner .entry)) from 0) u) (r - from) 0 + blocks u (drop r (now (owner .entry)))) ⌝ }
+{
+    let v = owner[from];
+    let soon = part_end(owner.len(), from, 32);
+    let b = scan_other(owner, v, from + 1, soon);
+    if b < soon {
+        return b;
+    }
+    scan_other(owner, v, pass_whole(owner, v, b), owner.len())
+}
+
 // The number of free blocks at 0, and of the blocks of each file place p at p + 1, in one pass. Blocks of one owner mostly stand together:
-// their run is counted by itself and added once.
+// each run of them is added at once.
 pub fn counts(owner: &[u16]) -> [usize; 257]
     ensures { λ r. ⌜ r ≡ countsOf (now (owner .entry)) ⌝ }
 {
     let mut n = [0usize; 257];
-    let mut v: u16 = 0;
-    let mut run: usize = 0;
     let mut i = 0;
     while i < owner.len() {
-        if owner[i] == v {
-            run += 1;
-            i += 1;
-        } else {
-            add_run(&mut n, v, run);
-            v = owner[i];
-            run = 1;
-            i += 1;
-        }
+        let end = run_end(owner, i);
+        add_run(&mut n, owner[i], end - i);
+        i = end;
     }
-    add_run(&mut n, v, run);
     n
 }
 

@@ -376,7 +376,7 @@ pub fn select(
 // ---- the store as a whole
 
 // Whether the store has the facts of refusal 35; `last` is the last file number given and `latest` the last upload time. Linear in blocks
-// and files, but for one pairwise pass over the files.
+// and files, but that a number or a time which is not below all later ones is compared with each of them.
 pub fn sound(map: &[u64], owner: &[u16], table: &[u32], last: u32, latest: u32) -> bool
     ensures { λ r. ⌜ r ≡ soundTest (now (map .entry)) (now (owner .entry)) (now (table .entry)) last latest ⌝ }
 {

@@ -1,94 +1,61 @@
--- `blocks::counts` meets its contract. The invariant is `Counted`: the counts, the run that is not in them yet and what is left are all blocks.
+-- `blocks::counts` meets its contract. The invariant is `Counted`: the counts and what is left are all blocks.
 use Prim.Native.Nat.{ℕ, _+_, _-_, _≤_, _<_}
-use mathlib.Core.Path.{_≡_, refl, sym, ap, _∙_}
-use mathlib.Core.Bool.{Bool, true, false, cond}
+use mathlib.Core.Path.{_≡_, refl, ap, _∙_}
 use native.Mathlib.Omega.{arith}
-use mathlib.Core.List.{List}
-use lib.ListN.{getD-replicate, length, getD, replicate, set, drop, length-set, drop-of-length-le}
-use lib.Dec.{eqb}
+use native.Mathlib.Nat.{zero-add}
+use lib.ListN.{getD-replicate, length, getD, drop, drop-of-length-le}
 use Rattle.blocks.specs.Owners.{blocks}
 use Rattle.blocks.proofs.Owners.{counts-all}
-use Rattle.blocks.proofs.Parts.{Counted, run-fits, run-more, run-added, run-next}
+use Rattle.blocks.proofs.Parts.{Counted, run-fits, run-added}
 use Rattle.blocks.proofs.counts.Statement.{statement}
 use Rattle.blocks.proofs.counts.Tie as tie
 
-start : (owner : List ℕ) (u : ℕ) → u < 257 → getD (replicate {A = ℕ} 257 0) u 0 + cond (eqb 0 u) 0 0 + blocks u owner ≡ blocks u owner
-start owner u h = go (eqb 0 u) (getD-replicate 257 u 0 0 h)
-  where
-    go : (t : Bool) → getD (replicate {A = ℕ} 257 0) u 0 ≡ 0 → getD (replicate {A = ℕ} 257 0) u 0 + cond t 0 0 + blocks u owner ≡ blocks u owner
-    go true z = omega arith
-    go false z = omega arith
-
-sized : (n n′ : List ℕ) (v x : ℕ) → length n ≡ 257 → n′ ≡ set n v x → length n′ ≡ 257
-sized n n′ v x l e = ap length e ∙ length-set n v x ∙ l
-
 abbrev Inv-loop : tie.InvT-loop
-Inv-loop owner n₀ v₀ run₀ i₀ n v run i = Counted owner n v run i
+Inv-loop owner n₀ i₀ n i = Counted owner n i
 
 abbrev μ-loop : tie.MeasureT-loop
-μ-loop owner n₀ v₀ run₀ i₀ n v run i = length owner - i
+μ-loop owner n₀ i₀ n i = length owner - i
 
 loop-holds : tie.Need-loop-holds Inv-loop μ-loop
-loop-holds c = record { done = omega arith; size = refl; few = omega arith; all = start (c .before .args .owner .now) }
+loop-holds c =
+    let o = c .before .args .owner .now in
+    record { done = omega arith; size = refl; all = λ u q. ap (λ (x : ℕ). x + blocks u o) (getD-replicate 257 u 0 0 q) ∙ zero-add (blocks u o) }
 
-mul-if1 : tie.Need-mul-if1 Inv-loop μ-loop
-mul-if1 c = omega arith
+run-end-requires : tie.Need-run-end-requires Inv-loop μ-loop
+run-end-requires c κs = omega arith
 
-shared-slice-read-if1 : tie.Need-shared-slice-read-if1 Inv-loop μ-loop
-shared-slice-read-if1 c = omega arith
+mul-add-run : tie.Need-mul-add-run Inv-loop μ-loop
+mul-add-run c = omega arith
 
-add-run : tie.Need-add-run Inv-loop μ-loop
-add-run c = omega (arith, c .before .before .before .loop .inv .few)
+shared-slice-read-add-run : tie.Need-shared-slice-read-add-run Inv-loop μ-loop
+shared-slice-read-add-run c = omega arith
 
-add-i : tie.Need-add-i Inv-loop μ-loop
-add-i c = omega arith
+sub-add-run : tie.Need-sub-add-run Inv-loop μ-loop
+sub-add-run c = omega arith
+
+add-run-requires : tie.Need-add-run-requires Inv-loop μ-loop
+add-run-requires c κs =
+    let l = c .before .before .before .before .loop in
+    let o = c .before .before .before .before .before .before .args .owner .now in
+    let e = c .before .before .run-end in
+    (l .inv .size, omega (arith, run-fits o (l .n) (l .i) (l .inv) (getD o (l .i) 0) (e .result) (omega (arith, e .ensures .0)) (e .ensures .2)))
 
 loop-less : tie.Need-loop-less Inv-loop μ-loop
 loop-less c = omega arith
 
 loop-again : tie.Need-loop-again Inv-loop μ-loop
 loop-again c =
-    let l = c .before .before .before .loop in
-    run-more (c .before .before .before .before .before .args .owner .now) (l .n) (l .v) (l .run) (l .i) (l .inv) (c .before .before .loop-test .taken) (c .if1 .taken)
-
-add-run-requires : tie.Need-add-run-requires Inv-loop μ-loop
-add-run-requires c κs =
-    let l = c .before .before .before .before .loop in
-    (l .inv .size, omega (arith, run-fits (c .before .before .before .before .before .before .args .owner .now) (l .n) (l .v) (l .run) (l .i) (l .inv)))
-
-mul-v : tie.Need-mul-v Inv-loop μ-loop
-mul-v c = omega arith
-
-shared-slice-read-v : tie.Need-shared-slice-read-v Inv-loop μ-loop
-shared-slice-read-v c = omega arith
-
-add-i-2 : tie.Need-add-i-2 Inv-loop μ-loop
-add-i-2 c = omega arith
-
-loop-less-2 : tie.Need-loop-less-2 Inv-loop μ-loop
-loop-less-2 c = omega arith
-
-loop-again-2 : tie.Need-loop-again-2 Inv-loop μ-loop
-loop-again-2 c =
-    let l = c .before .before .before .before .before .before .loop in
-    let o = c .before .before .before .before .before .before .before .before .args .owner .now in
-    let e = c .before .add-run .ensures in
-    run-next o (l .n) (l .v) (l .run) (l .i) (l .inv) _ e (sized (l .n) _ (l .v) _ (l .inv .size) e) (c .before .before .before .before .before .loop-test .taken)
-
-add-run-requires-2 : tie.Need-add-run-requires-2 Inv-loop μ-loop
-add-run-requires-2 c κs =
-    let l = c .before .before .loop in
-    (l .inv .size, omega (arith, run-fits (c .before .before .before .before .args .owner .now) (l .n) (l .v) (l .run) (l .i) (l .inv)))
+    let l = c .before .before .before .before .before .loop in
+    let o = c .before .before .before .before .before .before .before .args .owner .now in
+    let e = c .before .before .before .run-end in
+    run-added o (l .n) (l .i) (l .inv) (getD o (l .i) 0) (e .result) (omega (arith, e .ensures .0)) (e .ensures .2) _ (c .add-run .ensures) (e .ensures .1)
 
 returns : tie.Need-returns Inv-loop μ-loop
 unfolding blocks
 returns c =
-    let l = c .before .before .before .loop in
-    let o = c .before .before .before .before .before .args .owner .now in
-    let e = c .add-run2 .ensures in
-    counts-all _ o (sized (l .n) _ (l .v) _ (l .inv .size) e) (λ u q.
-    let z = ap (blocks u) (drop-of-length-le o (c .before .before .loop-test .left)) in
-    let a = run-added o (l .n) (l .v) (l .run) (l .i) (l .inv) _ e u q in omega arith)
+    let l = c .before .loop in
+    let o = c .before .before .before .args .owner .now in
+    counts-all (l .n) o (l .inv .size) (λ u q. let z = ap (blocks u) (drop-of-length-le o (c .loop-test .left)) in let a = l .inv .all u q in omega arith)
 
 pub counts-spec : {M : Type 1} → statement M
 counts-spec =
@@ -97,17 +64,11 @@ counts-spec =
     Inv-loop
     μ-loop
     loop-holds
-    mul-if1
-    shared-slice-read-if1
-    add-run
-    add-i
+    run-end-requires
+    mul-add-run
+    shared-slice-read-add-run
+    sub-add-run
+    add-run-requires
     loop-less
     loop-again
-    add-run-requires
-    mul-v
-    shared-slice-read-v
-    add-i-2
-    loop-less-2
-    loop-again-2
-    add-run-requires-2
     returns)
