@@ -31,5 +31,6 @@ pub mod Fields
 pub mod Offering
 pub mod Naming
 pub mod Whole
+pub mod Plain
 pub mod Example
 pub mod AtWork

@@ -42,7 +42,8 @@ pub data Unwelcome (s : Session) : Option Event → Type 0 where
   long : Unwelcome s (some too-long)
   unexpected : (kind : ℕ) (info : List ℕ) → expected (s .up) (s .down) kind (length info) ≡ false → Unwelcome s (some (packet kind info))
 
--- THE RULE: a call that is not refused closes the link exactly where its bytes end in such a thing. "The server closes a link in no other case (H)."
+-- THE RULE: a call that is not refused locally (`Go i`: it goes to session i, counted from 0) closes the link exactly where its bytes end in such a
+-- thing. "The server closes a link in no other case (H)."
 pub record ClosesExactly (sv : Server) (l : Lent) (session clock : ℕ) (input out : List ℕ) (i : ℕ) : Type 0 where
   pub closes : Unwelcome (linkOf sv i) (eventAt sv l i input)
       → ClosesBy sv l session clock input out

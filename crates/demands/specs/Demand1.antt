@@ -1,6 +1,7 @@
 -- Demand 1: "Every byte sequence, clock reading and lent buffer gets an answer. The program always ends, asks nothing of its caller beforehand,
 -- and refuses by a number from the table or closes the link. A refusal leaves the files, the session and the output buffer as that table says."
--- The statements hold for EVERY server and everything lent, also for a state that no calls made. Assumes nothing.
+-- The statements hold for EVERY server and everything lent, also for a state that no calls made. proofs/AtWork.antt shows them at work. Assumes
+-- nothing.
 use mathlib.Core.Path.{_≡_}
 use mathlib.Core.Bool.{true}
 use mathlib.Core.List.{List, [], _∷_, _++_}
@@ -63,7 +64,11 @@ pub data Answers (sv : Server) (l : Lent) (c : Call) (o : Outcome) : Type 0 wher
   closes : Closes c o → Answers sv l c o
   sends : Sends c o → Answers sv l c o
 
--- THE DEMAND: every call has one of the four answers
+-- THE DEMAND: every call has one of the four answers.
+-- `callOf` is what the contracts of the four calls (crates/server/src) say that a call answers and leaves, and each contract is proved of the code.
+-- "The program always ends, asks nothing of its caller beforehand": both come with that proof. A function is proved only if it returns for every
+-- value that it may be handed; and what a function asks of its caller stands as `requires` before its body: no public function has one. The script
+-- program works a line off in such calls, and `line-ends` (crates/script/proofs/Ending.antt) says that it comes to the line's end.
 abbrev pub EveryCallAnswers : Type 0
 EveryCallAnswers = (sv : Server) (l : Lent) (c : Call) → Answers sv l c (callOf sv l c)
 
@@ -81,7 +86,7 @@ Fits sv l = fits sv (length (l .disk)) (l .map) (l .owner) (l .table) (l .select
 abbrev pub IsSound : Server → Lent → Type 0
 IsSound sv l = soundParts sv (l .map) (l .owner) (l .table) (l .selected) (l .held) ≡ true
 
--- 34 "session number out of range, not open, or already open": none of these
+-- 34 "session number out of range, not open, or already open": none of these. A login wants its session closed, the other calls want it open.
 pub record Reachable (sv : Server) (c : Call) : Type 0 where
   pub from-one : 1 ≤ sessionIn c
   pub in-range : sessionIn c ≤ sv .sessions
@@ -117,7 +122,7 @@ EveryMaking =
 
 -- ---- the refusals that go out as a packet: "1 to 16 go out as a packet: UL_ERROR to UPLOAD, UL_NAK to data, DL_ERROR on the downlink"
 
--- a receive call answers by a packet of this type with one byte of information
+-- a receive call answers by a packet of this type with one byte of information, the number e; such a packet has three bytes
 pub record Says (sv : Server) (l : Lent) (session clock : ℕ) (input out : List ℕ) (kind e : ℕ) : Type 0 where
   pub taken : ℕ
   pub answered : callOf sv l (receive session clock input out) .done .answer ≡ answer.Sent taken 3

@@ -1,6 +1,7 @@
 -- Demand 2, its sentences on packets and on cutting: "A packet written reads back as itself. Cutting elsewhere the bytes that a link takes, with each
 -- packet and closing byte at the same clock and in the same place among the other calls, changes no packet sent and no state after it." That each
--- packet, header check, selection, refusal and closing is what the paper defines is the contract of each function. Assumes nothing.
+-- packet, header check, selection, refusal and closing is what the paper defines is the contract of each function. proofs/AtWork.antt shows the
+-- statements at work. Assumes nothing.
 use mathlib.Core.Path.{_≡_}
 use mathlib.Core.List.{List}
 use Prim.Native.Nat.{ℕ, _≤_, _+_}
@@ -43,7 +44,7 @@ pub record Demand2 : Type 0 where
   pub closing : EveryClosing
   pub closing-is-losing : ClosingIsLosing
   pub cut : CutElsewhere
-  -- a plain form of it
+  -- the same for bytes that are lent earlier, with calls of other sessions between
   pub earlier : LentEarlier
   -- the same for a driver that lends one link's bytes in pieces
   pub enough : EnoughCalls

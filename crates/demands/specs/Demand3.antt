@@ -1,6 +1,6 @@
 -- Demand 3, sentence by sentence, each as a named statement on the state after any history: "From an empty store, after any calls, links lost
 -- at any byte and clocks running backwards included". `s` is what the server was made with, `h` the calls in order. That they hold for every
--- legal start and every history is proved in proofs/Theorems.antt. Assumes nothing.
+-- legal start and every history is `demand-3` (proofs/Whole.antt); proofs/AtWork.antt shows them at work. Assumes nothing.
 use mathlib.Core.Path.{_≡_}
 use mathlib.Core.Bool.{true}
 use mathlib.Core.Logic.{_⊎_}
@@ -47,12 +47,12 @@ Live v = v .file .number ≡ 0 → ⊥
 
 -- ---- "each storage block is free or belongs to one file"
 
--- its bit is 1 and it has no owner
+-- a free block: its bit in the map is 1 and it has no owner
 pub record Free (sv : Server) (l : Lent) (b : ℕ) : Type 0 where
   pub bit : bitAt (mapPart sv l) b ≡ 1
   pub owner : getD (ownerPart sv l) b 0 ≡ 0
 
--- its bit is 0, and its owner is the place of a file; a block has one owner, so it is no other file's
+-- a file's block: its bit is 0, and its owner is the place of a file, counted from 1; a block has one owner, so it is no other file's
 pub record Owned (sv : Server) (l : Lent) (b : ℕ) : Type 0 where
   pub place : ℕ
   pub bit : bitAt (mapPart sv l) b ≡ 0

@@ -1,6 +1,6 @@
 -- A client that pages, and what it has been given (demand 3): "So whoever selects from upload time 0, then again above each page's newest time,
 -- with an equation that has room for that condition, until a page is shorter than MAXSEL, has been given every matching file complete by then
--- once, oldest first." Assumes nothing.
+-- once, oldest first." Worked.antt has an example, and proofs/Worked.antt the statements at work on it. Assumes nothing.
 use mathlib.Core.Path.{_≡_}
 use mathlib.Core.Bool.{true, cond}
 use mathlib.Core.List.{List, [], _∷_, _++_, map, List·Memᴰ}
