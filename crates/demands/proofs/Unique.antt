@@ -14,4 +14,8 @@ calls-determined =
       receive = λ sv l out session clock input. determined _;
       request = λ sv l out session. determined _;
       lose = λ sv l session. determined _;
+      login-kept = λ sv l out session clock. determined _;
+      receive-kept = λ sv l out session clock input. determined _;
+      request-kept = λ sv l out session. determined _;
+      lose-kept = λ sv l session. determined _;
     }

@@ -8,6 +8,7 @@ use Rattle.server.specs.declared.Server.{Server}
 use Rattle.server.specs.State.{Lent, Outcome}
 use Rattle.server.specs.Making.{Makes, makeOf}
 use Rattle.server.specs.Calls.{Opened, Lost, loginOf, receiveOf, requestOf, loseOf}
+use Rattle.server.specs.Kept.{loginKept, receiveKept, requestKept, loseKept}
 
 -- no two outcomes meet the equation
 abbrev pub Determined : {A : Type 0} → A → Type 0
@@ -26,3 +27,9 @@ pub record CallsDetermined : Type 0 where
   pub request : (sv : Server) (l : Lent) (out : List ℕ) (session : ℕ) → Determined {A = Opened} (requestOf sv l out session)
   -- the result, the selections and the unfinished packets; all else is only read
   pub lose : (sv : Server) (l : Lent) (session : ℕ) → Determined {A = Lost} (loseOf sv l session)
+  -- the calls without the test of 35, likewise
+  pub login-kept : (sv : Server) (l : Lent) (out : List ℕ) (session clock : ℕ) → Determined {A = Opened} (loginKept sv l out session clock)
+  pub receive-kept : (sv : Server) (l : Lent) (out : List ℕ) (session clock : ℕ) (input : List ℕ)
+      → Determined {A = Outcome} (receiveKept sv l out session clock input)
+  pub request-kept : (sv : Server) (l : Lent) (out : List ℕ) (session : ℕ) → Determined {A = Opened} (requestKept sv l out session)
+  pub lose-kept : (sv : Server) (l : Lent) (session : ℕ) → Determined {A = Lost} (loseKept sv l session)
