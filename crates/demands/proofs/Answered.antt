@@ -37,7 +37,7 @@ use Rattle.history.specs.Calls.{Call, login, receive, request, lose, callOf}
 use Rattle.demands.specs.Parts.{sessionIn, bytesIn, outIn, openIn, roomIn, checkIn, oneOf}
 use Rattle.demands.specs.Demand1.{Sends, Answers, refuses, silent, closes, sends, EveryCallAnswers, RefusedBy, Fits, IsSound}
 use Rattle.demands.specs.Demand1.{Reachable, EveryLocalRefusal, Says, forgotten, cleared, NothingElse, uploadErrors, downloadErrors}
-use Rattle.demands.specs.Demand1.{naks, PacketRefusal, UploadOver, EveryUploadError, EveryDownloadError, Naks, EveryNak, EveryMaking, Demand1}
+use Rattle.demands.specs.Demand1.{naks, PacketRefusal, UploadOver, EveryUploadError, EveryDownloadError, Naks, EveryNak, EveryMaking}
 use Rattle.demands.proofs.Checks.{check-33, check-35, check-sound, session-34, session-through, check-through, check-refuses, not-true}
 use Rattle.demands.proofs.Carried.{isPlain}
 use Rattle.demands.proofs.Receiving as steps
@@ -580,15 +580,3 @@ every-nak sv l session clock input out e s = go (spoken sv l session clock input
         by r q (five h) = absurd (omega arith)
         by r q (seven h) = nak-refused sv l session clock input out (k .ended) e q (k .ended .acted)
         by r q (nine h) = absurd (omega arith)
-
--- THEOREM: demand 1
-pub demand-1 : Demand1
-demand-1 =
-    record {
-      answers = every-call-answers;
-      locals = every-local-refusal;
-      making = every-making;
-      upload-errors = every-upload-error;
-      download-errors = every-download-error;
-      naks = every-nak;
-    }

@@ -33,7 +33,7 @@ use Rattle.demands.specs.Feeding.{feed, feedAll, feedPieces}
 use Rattle.demands.specs.Demand1.{RefusedBy, Reachable, Naks, NothingElse}
 use Rattle.demands.specs.Demand2.{SentReads}
 use Rattle.demands.specs.Demand3.{serverAt, lentAt, filesAt, sentAt, AreBytes, OfBytes, Live, Free, Owned, OnlyFour, Listed, Stands}
-use Rattle.demands.proofs.Answered.{demand-1}
+use Rattle.demands.proofs.Demand1.{demand-1}
 use Rattle.demands.proofs.Demand2.{demand-2}
 use Rattle.demands.proofs.Unique.{calls-determined}
 use Rattle.demands.proofs.Whole.{demand-3}

@@ -4,6 +4,7 @@ pub mod Deciding
 pub mod Carried
 pub mod Receiving
 pub mod Answered
+pub mod Demand1
 pub mod ClosingIsLosing
 pub mod Unique
 pub mod Parts
@@ -31,6 +32,7 @@ pub mod Fields
 pub mod Offering
 pub mod Naming
 pub mod Whole
+pub mod Demands
 pub mod Plain
 pub mod Example
 pub mod AtWork

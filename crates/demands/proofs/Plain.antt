@@ -18,7 +18,7 @@ use Rattle.history.specs.Calls.{Call, callOf}
 use Rattle.demands.specs.Parts.{sessionIn, bytesIn, outIn, oneOf}
 use Rattle.demands.specs.Events.{typeOf}
 use Rattle.demands.specs.Demand1.{Answers, refuses, silent, closes, sends, Says, UploadOver, over, overrun, uploadErrors, downloadErrors, naks}
-use Rattle.demands.proofs.Answered.{demand-1}
+use Rattle.demands.proofs.Demand1.{demand-1}
 
 -- ---- numbers in a list, by a test on the list
 

@@ -16,7 +16,7 @@ use Rattle.server.specs.declared.Server.{Server}
 use Rattle.server.specs.State.{Lent, lent, Outcome, outcome, doneWith, linkOf, withLink, withPart}
 use Rattle.server.specs.Check.{fits, soundParts}
 use Rattle.server.specs.Making.{newServer, emptied, emptyOf, makes, makeOf}
-use Rattle.history.specs.Calls.{Call, receive, callOf}
+use Rattle.history.specs.Calls.{Call, receive, callOf, Start, legal, History, after}
 use Rattle.demands.specs.Parts.{sessionIn, bytesIn, outIn, openIn, roomIn, oneOf}
 
 -- ---- the answers of a call
@@ -103,6 +103,13 @@ pub record LocalRefusals (sv : Server) (l : Lent) (c : Call) : Type 0 where
 
 abbrev pub EveryLocalRefusal : Type 0
 EveryLocalRefusal = (sv : Server) (l : Lent) (c : Call) → LocalRefusals sv l c
+
+-- 35 is given "never for a state that calls made from the empty store". Nor is 33: what is lent stays long enough. So after any history a call is
+-- refused only for the session that it names (34) or for the output that it is lent (32).
+abbrev pub OnlyByTheCaller : Type 0
+OnlyByTheCaller =
+    (s : Start) → legal s ≡ true → (h : History) (c : Call) (n : ℕ)
+    → RefusedBy (after s h .server) (after s h .lent) c n → oneOf n (32 ∷ 34 ∷ []) ≡ true
 
 -- ---- making a server: 33, where nothing changes, or a server; there is no other refusal
 
@@ -191,6 +198,7 @@ EveryNak =
 pub record Demand1 : Type 0 where
   pub answers : EveryCallAnswers
   pub locals : EveryLocalRefusal
+  pub only-by-the-caller : OnlyByTheCaller
   pub making : EveryMaking
   pub upload-errors : EveryUploadError
   pub download-errors : EveryDownloadError

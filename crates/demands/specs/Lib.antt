@@ -9,3 +9,4 @@ pub mod Events
 pub mod Effect
 pub mod Accepted
 pub mod Demand3
+pub mod Demands

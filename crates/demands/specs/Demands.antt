@@ -1,0 +1,33 @@
+-- ALL THAT IS PROMISED, in one statement: the three demands, sentence by sentence. Whoever reads one file reads this one; the file behind each name
+-- says it in full. `demands` (proofs/Demands.antt) proves all of it together. Assumes nothing.
+use mathlib.Core.Path.{_≡_}
+use mathlib.Core.Bool.{true}
+use mathlib.Core.List.{map}
+use Rattle.history.specs.Calls.{Start, legal, History}
+use Rattle.paging.specs.Examples.{table, got, want}
+use Rattle.paging.specs.Paging.{PageAnswer, Paging, PagingWhole}
+use Rattle.demands.specs.Demand1.{Demand1}
+use Rattle.demands.specs.Unique.{CallsDetermined}
+use Rattle.demands.specs.Demand2.{Demand2}
+use Rattle.demands.specs.Demand3.{Demand3}
+
+pub record Demands : Type 1 where
+  -- 1. "Every byte sequence, clock reading and lent buffer gets an answer. The program always ends, asks nothing of its caller beforehand, and refuses
+  -- by a number from the table or closes the link. A refusal leaves the files, the session and the output buffer as that table says."
+  pub every-answer : Demand1
+  -- 2. "Every packet written or read, header check, selection, refusal and closing is what FTL0 version 0 .. and our marked house rules define": the
+  -- contract of each call is an equation with a definition written from the papers, so no other answer meets it
+  pub determined : CallsDetermined
+  -- "A packet written reads back as itself. Cutting elsewhere the bytes that a link takes .. changes no packet sent and no state after it."
+  pub real-answers : Demand2
+  -- 3. "From an empty store, after any calls, links lost at any byte and clocks running backwards included: each storage block is free or belongs to
+  -- one file; no file number is given twice; a complete file is the bytes accepted under its number, in order, with only the four server-set fields
+  -- replaced; a call changes no file but its own. Upload times rise strictly in order of completion."
+  pub sound-store : (s : Start) → legal s ≡ true → (h : History) → Demand3 s h
+  -- "So whoever selects from upload time 0, then again above each page's newest time, with an equation that has room for that condition, until a page
+  -- is shorter than MAXSEL, has been given every matching file complete by then once, oldest first." (crates/paging/specs/Paging.antt)
+  pub page-answer : PageAnswer
+  pub paging : Paging
+  pub paging-whole : PagingWhole
+  -- P1 to P12 of the scope paper: what the definitions give is what the paper says (crates/paging/specs/Examples.antt)
+  pub examples : map got table ≡ map want table
