@@ -30,6 +30,7 @@ use Rattle.demands.specs.Accepted.{accepted, reserved, numbersGiven, Com
 use Rattle.demands.specs.Closing.{ClosesBy, Unwelcome, eventAt}
 use Rattle.demands.specs.Cut.{SameAfter, seen, joined, passed, untaken, _▸▸_}
 use Rattle.demands.specs.Feeding.{feed, feedAll, feedPieces}
+use Rattle.demands.specs.Parts.{oneOf}
 use Rattle.demands.specs.Demand1.{RefusedBy, Reachable, Naks, NothingElse}
 use Rattle.demands.specs.Demand2.{SentReads}
 use Rattle.demands.specs.Demand3.{serverAt, lentAt, filesAt, sentAt, AreBytes, OfBytes, Live, Free, Owned, OnlyFour, Listed, Stands}
@@ -117,6 +118,10 @@ output-by-32 =
 -- none of these: an output of 258 bytes
 pub none-refused : (n : ℕ) → RefusedBy (serverAt small opened) (lentAt small opened) (rx 6 (upload 0)) n → ⊥
 none-refused = demand-1 .locals _ _ (rx 6 (upload 0)) .by-none (good .fits) (good .sound) (reached _ _ _) room
+
+-- this login is a call after a history, so its number is 32 or 34
+pub by-34-after-calls : oneOf 34 (32 ∷ 34 ∷ []) ≡ true
+by-34-after-calls = demand-1 .only-by-the-caller small small-legal opened (login 2 6 output) 34 second-by-34
 
 -- making with 0 blocks is refused by 33, and what was lent stays as it was
 pub no-blocks-by-33 :

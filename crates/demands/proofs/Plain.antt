@@ -14,9 +14,10 @@ use Rattle.session.specs.declared.state.Uplink.the-variants as up
 use Rattle.session.specs.declared.reply.Answer.the-variants as answer
 use Rattle.server.specs.declared.Server.{Server}
 use Rattle.server.specs.State.{Lent, Outcome, outcome, doneWith, linkOf}
-use Rattle.history.specs.Calls.{Call, callOf}
+use Rattle.history.specs.Calls.{Call, callOf, Start, legal, History, after}
 use Rattle.demands.specs.Parts.{sessionIn, bytesIn, outIn, oneOf}
 use Rattle.demands.specs.Events.{typeOf}
+use Rattle.demands.specs.Demand1.{RefusedBy}
 use Rattle.demands.specs.Demand1.{Answers, refuses, silent, closes, sends, Says, UploadOver, over, overrun, uploadErrors, downloadErrors, naks}
 use Rattle.demands.proofs.Demand1.{demand-1}
 
@@ -168,6 +169,15 @@ sent-call sv l c taken size e = go (demand-1 .answers sv l c)
           omega (arith, t, below-32 (r .kind) (length (r .info) / 256) (r .listed), r .listed),
           r .same-length,
         )
+
+-- ---- after a history
+
+-- no call is refused by 33 or 35
+pub not-after-calls : (s : Start) → legal s ≡ true → (h : History) (c : Call) (n : ℕ) → RefusedBy (after s h .server) (after s h .lent) c n
+    → oneOf n (33 ∷ 35 ∷ []) ≡ false
+unfolding noneIn
+not-after-calls s lawful h c n e =
+    apart-from n (32 ∷ 34 ∷ []) (33 ∷ 35 ∷ []) refl (demand-1 .only-by-the-caller s lawful h c n e)
 
 -- ---- the refusals that go out as a packet
 
