@@ -9,7 +9,6 @@ use Rattle.session.specs.State.{withUp, withDown}
 use Rattle.decide.specs.declared.act.Act.{Act}
 use Rattle.decide.specs.declared.act.Act.the-variants as act
 use Rattle.carry.specs.declared.turn.Last.{Last}
-use Rattle.carry.specs.declared.turn.Turn.{Turn}
 use Rattle.carry.specs.Turn.{turnOf, Mem, mem, Turned, turned, Frees, Writes, Moves, Chooses}
 use Rattle.carry.specs.Upload as upload
 use Rattle.carry.specs.Download as download

@@ -1,5 +1,5 @@
 -- The acts of the downlink, and closing (document 01, "Downlink", "Equations", "Lost link"). Assumes nothing.
-use mathlib.Core.Bool.{Bool, true, false, cond}
+use mathlib.Core.Bool.{cond}
 use mathlib.Core.List.{List}
 use Prim.Native.Nat.{ℕ}
 use lib.Dec.{eqb, ltb}

@@ -17,7 +17,6 @@ use Rattle.session.specs.declared.state.Downlink.{Downlink}
 use Rattle.session.specs.declared.state.Downlink.the-variants as down
 use Rattle.session.specs.declared.reply.Reply.{Reply}
 use Rattle.session.specs.declared.reply.Reply.the-variants as reply
-use Rattle.session.specs.declared.reply.Answer.{Answer}
 use Rattle.session.specs.declared.reply.Answer.the-variants as answer
 use Rattle.session.specs.State.{closedSession, withHeld, withUp, withDown}
 use Rattle.session.specs.Reply.{Told, told, sentInfo, tell, answered}
@@ -33,6 +32,7 @@ use Rattle.server.specs.Check.{fits, checkOf}
 use Rattle.server.specs.Sending.{Due, leastOf, bytesFrom, dataOf, sendingOf, dueOf}
 use Rattle.server.specs.Calls.{onLogin, loginOf, onLose, loseOf, dueAs, onRequest, requestOf, onCheck, receiveOf}
 use Rattle.server.specs.Making.{newServer, makeOf}
+use Rattle.server.proofs.Answering.{isRefused, tell-not, answered-not, due-not}
 use Rattle.history.specs.Calls.{Call, login, receive, request, lose, callOf}
 use Rattle.demands.specs.Parts.{sessionIn, bytesIn, outIn, openIn, roomIn, checkIn, oneOf}
 use Rattle.demands.specs.Demand1.{Sends, Answers, refuses, silent, closes, sends, EveryCallAnswers, RefusedBy, Fits, IsSound}
@@ -303,50 +303,8 @@ every-call-answers sv l (lose session) = lost sv l session
 
 -- ---- a call that goes through is not refused
 
-isRefused : Answer → Bool
-isRefused (answer.Quiet taken) = false
-isRefused (answer.Sent taken size) = false
-isRefused (answer.Closed taken) = false
-isRefused (answer.Refused n) = true
-
-told-not : (r : Reply) (taken : ℕ) (out : List ℕ) → isRefused (tell r taken out .answer) ≡ false
-unfolding tell isRefused
-told-not reply.Nothing taken out = refl
-told-not reply.Closing taken out = refl
-told-not reply.DataEnd taken out = refl
-told-not (reply.Login clock) taken out = refl
-told-not (reply.Go number offset) taken out = refl
-told-not (reply.UploadError e) taken out = refl
-told-not reply.Ack taken out = refl
-told-not (reply.Nak e) taken out = refl
-told-not (reply.DownloadError e) taken out = refl
-told-not reply.Aborted taken out = refl
-told-not reply.Completed taken out = refl
-told-not (reply.Selected count) taken out = refl
-
-answered-not : (r : Reply) (taken : ℕ) (out : List ℕ) → 258 ≤ length out → isRefused (answered r taken out .answer) ≡ false
-answered-not r taken out h = ap (λ (t : Told). isRefused (t .answer)) (told-room r taken out h) ∙ told-not r taken out
-
-sending-not : (s : Session) (place offset sent : ℕ) (disk owner : List ℕ) (fs : List File) (out : List ℕ) → 258 ≤ length out
-    → isRefused (sendingOf s place offset sent disk owner fs out .asked .answer) ≡ false
-unfolding sendingOf dataOf isRefused
-sending-not s place offset sent disk owner fs out h = go (ltb (offset + sent) (fileAt fs place .size)) _ refl
-  where
-    go : (t : Bool) (d : Due) → isRefused (d .asked .answer) ≡ false
-        → isRefused (cond t d (due-as (withDown s (down.Ended place)) (answered reply.DataEnd 0 out)) .asked .answer) ≡ false
-    go true d e = e
-    go false d e = answered-not reply.DataEnd 0 out h
-
-due-not : (d : Downlink) (s : Session) (disk owner : List ℕ) (fs : List File) (out : List ℕ) → 258 ≤ length out
-    → isRefused (dueOf d s disk owner fs out .asked .answer) ≡ false
-unfolding dueOf isRefused
-due-not down.Idle s disk owner fs out h = refl
-due-not (down.Sending place offset sent) s disk owner fs out h = sending-not s place offset sent disk owner fs out h
-due-not (down.Ended place) s disk owner fs out h = refl
-due-not (down.Aborting place) s disk owner fs out h = answered-not reply.Aborted 0 out h
-
 not-refused : (sv : Server) (l : Lent) (c : Call) (i : ℕ) → checkIn sv l c ≡ Go i → 258 ≤ roomIn c → isRefused (callOf sv l c .done .answer) ≡ false
-unfolding loginOf onLogin requestOf onRequest dueAs loseOf onLose isRefused
+unfolding loginOf onLogin requestOf onRequest dueAs loseOf onLose
 not-refused sv l (login session clock out) i e h = rw e (answered-not (reply.Login clock) 0 out h)
 not-refused sv l (receive session clock input out) i e h = go (steps.receives sv l session clock input out)
   where
@@ -355,7 +313,7 @@ not-refused sv l (receive session clock input out) i e h = go (steps.receives sv
         let c : Refuse n ≡ Go i = sym f ∙ e in
         let z : _≡_ {A = ℕ} 0 1 = cc in absurd (omega arith)
     go (steps.ends-none f) = ap (λ (o : Outcome). isRefused (o .done .answer)) (f .is)
-    go (steps.ends-packet f) = ap (λ (o : Outcome). isRefused (o .done .answer)) (f .is) ∙ told-not (f .turn .turn .reply) (f .heard .taken) out
+    go (steps.ends-packet f) = ap (λ (o : Outcome). isRefused (o .done .answer)) (f .is) ∙ tell-not (f .turn .turn .reply) (f .heard .taken) out
 not-refused sv l (request session out) i e h =
     rw e (due-not (linkOf sv i .down) (linkOf sv i) (l .disk) (ownerPart sv l) (files (tablePart sv l)) out h)
 not-refused sv l (lose session) i e h = rw e
@@ -380,7 +338,7 @@ every-local-refusal sv l c =
           (sym
           (not-refused sv l c (sessionIn c - 1)
           (through f s r ∙ ap (λ (t : Bool). cond t (Refuse 32) (Go (sessionIn c - 1))) (le-ltb (roomIn c) 258 h)) h)
-          ∙ (unfold isRefused in ap isRefused e));
+          ∙ ap isRefused e);
     }
   where
     through : Fits sv l → IsSound sv l → Reachable sv c → checkIn sv l c ≡ cond (ltb (roomIn c) 258) (Refuse 32) (Go (sessionIn c - 1))

@@ -6,7 +6,7 @@ use Prim.Native.Nat.{ℕ, _+_, _-_, _*_, _≤_, _<_}
 use native.Mathlib.Omega.{arith}
 use lib.Dec.{eqb, ltb}
 use lib.ListN.{length, take, drop}
-use borrow.Author.Tests.{not-true, le-ltb, ne-eqb, ltb-false, eqb-false}
+use borrow.Author.Tests.{le-ltb, ne-eqb, ltb-false, eqb-false}
 use Rattle.packet.specs.declared.frame.Frame.{Frame}
 use Rattle.packet.specs.Numbers.{number, four}
 use Rattle.packet.specs.Packet.{packetOf}
@@ -33,7 +33,7 @@ use Rattle.server.specs.Calls.{answeredBy, heardBy, stepOf, onCheck, receiveOf,
 use Rattle.history.specs.Calls.{Call, login, receive, request, lose, callOf}
 use Rattle.history.specs.Good.{Good}
 use Rattle.history.specs.Stored.{filesOf}
-use Rattle.history.proofs.GoodFacts.{Facts, good-facts, good-check}
+use Rattle.history.proofs.GoodFacts.{Facts, linked-as, good-facts, good-check}
 use Rattle.history.proofs.Parts.{front-back}
 use Rattle.history.proofs.Leaves.{memOf, backIn, stored-parts}
 use Rattle.demands.specs.Events.{Event, nothing, uploading, heardOf, onGo, onSent, onAnswer, receiveEvent, eventBy, sessionOf}
@@ -73,11 +73,6 @@ unfolding answered
 answered-event r taken out h n frame info clock k = rw (le-ltb (length out) 258 h) (tell-event r taken out n frame info clock k)
 
 -- ---- a call that goes through is that of its own session
-
-linked-as : (w k : Bool) → inState w k ≡ true → k ≡ w
-unfolding inState
-linked-as true k e = e
-linked-as false k e = not-true k e
 
 pub by-check : (sv : Server) (l : Lent) → Good sv l → (session : ℕ) (wanted : Bool) (out : ℕ) (P : Check → Type 0) → ((r : ℕ) → P (Refuse r))
     → (session - 1 < sv .sessions → linkOf sv (session - 1) .linked ≡ wanted → 258 ≤ out → P (Go (session - 1)))

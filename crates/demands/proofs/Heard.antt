@@ -6,14 +6,15 @@ use mathlib.Core.Option.{Option, none, some}
 use Prim.Native.Nat.{ℕ, _+_, _-_, _*_, _≤_}
 use native.Mathlib.Omega.{arith}
 use lib.Dec.{eqb, ltb}
-use lib.ListN.{length, take, drop, set, replicate, length-append, length-replicate}
+use lib.ListN.{length, take, drop, set}
 use borrow.Author.Tests.{ltb-false}
 use Rattle.packet.specs.declared.frame.Frame.{Frame}
 use Rattle.packet.specs.declared.frame.Frame.the-variants.{Open, TooLong, Refused}
 use Rattle.packet.specs.declared.frame.Framed.{Framed}
 use Rattle.packet.specs.Machine.{Step, more, ends, Call, called, call}
 use Rattle.packet.specs.Frame.{Held, Event, packet, too-long, none-held, announcedIn, packetIn}
-use Rattle.packet.specs.Frame.{judged, byte, padded, withoutPacket, answerBy, answerOf, refusedPart, receiveOf}
+use Rattle.packet.proofs.FrameLaws.{padded-length}
+use Rattle.packet.specs.Frame.{judged, byte, withoutPacket, answerBy, answerOf, refusedPart, receiveOf}
 use Rattle.files.proofs.Choice.{take-le}
 use Rattle.server.specs.Turns.{sizeIn, hearOf}
 
@@ -56,18 +57,15 @@ pub record Fitting (f : Framed) : Type 0 where
   pub whole : length (f .info) ≡ 256
   pub small : sizeIn (f .frame) ≤ 256
 
-padded-whole : (info : List ℕ) → length info ≤ 256 → length (padded info) ≡ 256
-padded-whole info h = omega (arith, length-append info (replicate (256 - length info) 0), length-replicate {A = ℕ} (256 - length info) 0)
-
 without-fits : (taken held : ℕ) (frame : Frame) → sizeIn frame ≤ 256 → Fitting (withoutPacket taken held frame)
 unfolding withoutPacket
-without-fits taken held frame h = record { whole = padded-whole [] (omega arith); small = h }
+without-fits taken held frame h = record { whole = padded-length [] (omega arith); small = h }
 
 answer-fits : (taken : ℕ) (h : Held) (e : Option Event) → Short e → Fitting (answerBy taken h e)
 unfolding answerBy sizeIn
 answer-fits taken h none s = without-fits taken (h .count) Open (omega arith)
 answer-fits taken h (some too-long) s = without-fits taken (h .count) TooLong (omega arith)
-answer-fits taken h (some (packet kind info)) s = record { whole = padded-whole info s; small = s }
+answer-fits taken h (some (packet kind info)) s = record { whole = padded-length info s; small = s }
 
 received-fits : (part : List ℕ) (held : ℕ) (input : List ℕ) → Fitting (receiveOf part held input .answer)
 unfolding receiveOf answerOf sizeIn

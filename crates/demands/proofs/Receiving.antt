@@ -6,10 +6,11 @@ use mathlib.Core.Option.{some}
 use Prim.Native.Nat.{ℕ, _*_, _-_, _≤_, _<_}
 use native.Mathlib.Omega.{arith}
 use borrow.Author.Tests.{le-ltb}
-use lib.ListN.{length, take, drop, replicate, length-append, length-replicate, take-append-drop}
+use lib.ListN.{length, take, drop, replicate, take-append-drop}
 use Rattle.packet.specs.declared.frame.Frame.the-variants.{Refused}
 use Rattle.packet.specs.declared.frame.Framed.{Framed}
-use Rattle.packet.specs.Frame.{Event, packet, too-long, none-held, heard, padded, withoutPacket, answerBy}
+use Rattle.packet.specs.Frame.{Event, packet, too-long, none-held, heard, withoutPacket, answerBy}
+use Rattle.packet.proofs.FrameLaws.{padded-length}
 use Rattle.session.specs.declared.state.Session.{Session}
 use Rattle.session.specs.declared.state.Uplink.{Uplink}
 use Rattle.session.specs.declared.reply.Reply.the-variants as reply
@@ -55,9 +56,6 @@ put-back-same sv i m t =
     )
 
 -- ---- what is heard
-
-padded-length : (info : List ℕ) → length info ≤ 256 → length (padded info) ≡ 256
-padded-length info h = length-append info (replicate (256 - length info) 0) ∙ rw (length-replicate {A = ℕ} (256 - length info) 0) (omega arith)
 
 pub record FramedFacts (taken : ℕ) (f : Framed) : Type 0 where
   pub took : f .taken ≡ taken

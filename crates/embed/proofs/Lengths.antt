@@ -24,12 +24,13 @@ use Rattle.server.specs.State.{Lent, linkOf, Outcome}
 use Rattle.server.specs.Check.{checkOf}
 use Rattle.server.specs.Sending.{Due, leastOf, dataOf, sendingOf, dueOf}
 use Rattle.server.specs.Calls.{answeredBy, heardBy, stepOf, onCheck, receiveOf, Opened, onLogin, loginOf, dueAs, onRequest, requestOf}
+use Rattle.server.proofs.Answering.{isRefused}
 use Rattle.embed.specs.declared.words.Ready.{Ready}
 use Rattle.embed.specs.declared.words.Ready.the-variants as ready
 use Rattle.embed.specs.Words.{serverAt, readyOf}
 use Rattle.embed.specs.Ends.{Local}
 use Rattle.embed.specs.Calls as calls
-use Rattle.embed.proofs.Refusals.{isRefused, readyNumber, ready-number, Ended, through, refused, receive-ended, login-ended, request-ended}
+use Rattle.embed.proofs.Refusals.{readyNumber, ready-number, Ended, through, refused, receive-ended, login-ended, request-ended}
 
 -- ---- an answer's packet
 

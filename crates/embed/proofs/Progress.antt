@@ -29,12 +29,13 @@ use Rattle.server.specs.Check.{fits, soundParts, inState, sessionCheck, checkPa
 use Rattle.server.specs.Turns.{hearOf}
 use Rattle.server.specs.Calls.{answeredBy, heardBy, stepOf, onCheck, receiveOf}
 use Rattle.server.proofs.CheckLaws.{check-go, both-true}
+use Rattle.server.proofs.Answering.{isRefused, step-not}
 use Rattle.embed.specs.declared.words.Ready.{Ready}
 use Rattle.embed.specs.declared.words.Ready.the-variants as ready
 use Rattle.embed.specs.Words.{serverAt, readyOf}
 use Rattle.embed.specs.Ends.{Local, Takes}
 use Rattle.embed.specs.Calls as calls
-use Rattle.embed.proofs.Refusals.{isRefused, checkNumber, check-number, readyNumber, ready-number, step-not}
+use Rattle.embed.proofs.Refusals.{checkNumber, check-number, readyNumber, ready-number}
 
 -- ---- bytes taken by a machine
 

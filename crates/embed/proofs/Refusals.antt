@@ -7,28 +7,22 @@ use Prim.Native.Nat.{ℕ, _+_, _-_, _≤_}
 use native.Mathlib.Omega.{arith}
 use lib.Dec.{eqb, ltb}
 use lib.ListN.{length, take, drop}
-use borrow.Author.Tests.{le-ltb}
-use Rattle.session.specs.declared.state.Session.{Session}
-use Rattle.session.specs.declared.state.Downlink.{Downlink}
 use Rattle.session.specs.declared.state.Downlink.the-variants as down
 use Rattle.session.specs.declared.reply.Answer.{Answer}
 use Rattle.session.specs.declared.reply.Answer.the-variants as answer
-use Rattle.session.specs.declared.reply.Reply.{Reply}
 use Rattle.session.specs.declared.reply.Reply.the-variants as reply
 use Rattle.session.specs.Reply as replies
 use Rattle.blocks.specs.FreeMap.{freeCount}
-use Rattle.table.specs.declared.File.{File}
-use Rattle.table.specs.Table.{fileAt}
 use Rattle.server.specs.declared.Server.{Server}
 use Rattle.server.specs.declared.check.Check.{Check}
 use Rattle.server.specs.declared.check.Check.the-variants as check
 use Rattle.server.specs.State.{Lent, words, linkOf, Outcome, outcome, doneWith}
 use Rattle.server.specs.Check.{sizesFit, soundParts, fits, inState, sessionCheck, checkParts, checkOf}
-use Rattle.server.specs.Sending.{Due, dueOf, sendingOf, dataOf}
-use Rattle.server.specs.Calls.{answeredBy, heardBy, stepOf, onCheck, receiveOf, Opened, opened, onLogin}
+use Rattle.server.specs.Calls.{onCheck, receiveOf, Opened, opened, onLogin}
 use Rattle.server.specs.Calls.{loginOf, Lost, lost, onLose, loseOf, dueAs, onRequest, requestOf}
 use Rattle.server.specs.Making.{Emptied, emptied, newServer, emptyOf, makes, makeOf}
 use Rattle.server.proofs.CheckLaws.{check-go}
+use Rattle.server.proofs.Answering.{isRefused, answered-not, step-not, due-not}
 use Rattle.embed.specs.declared.words.Ready.{Ready}
 use Rattle.embed.specs.declared.words.Ready.the-variants as ready
 use Rattle.embed.specs.Words.{serverAt, isState, readyOf}
@@ -79,57 +73,6 @@ ready-number state counts = go (ltb (length state) 54) (ltb counts 2) (isState s
     go false true c = (omega arith, omega arith)
     go false false true = (omega arith, omega arith)
     go false false false = (omega arith, omega arith)
-
--- ---- a call that goes through is not refused
-
-abbrev pub isRefused : Answer → Bool
-isRefused (answer.Quiet taken) = false
-isRefused (answer.Sent taken size) = false
-isRefused (answer.Closed taken) = false
-isRefused (answer.Refused n) = true
-
-tell-not : (r : Reply) (taken : ℕ) (out : List ℕ) → isRefused (replies.tell r taken out .answer) ≡ false
-unfolding replies.tell
-tell-not reply.Nothing taken out = refl
-tell-not reply.Closing taken out = refl
-tell-not reply.DataEnd taken out = refl
-tell-not (reply.Login clock) taken out = refl
-tell-not (reply.Go number offset) taken out = refl
-tell-not (reply.UploadError e) taken out = refl
-tell-not reply.Ack taken out = refl
-tell-not (reply.Nak e) taken out = refl
-tell-not (reply.DownloadError e) taken out = refl
-tell-not reply.Aborted taken out = refl
-tell-not reply.Completed taken out = refl
-tell-not (reply.Selected count) taken out = refl
-
-answered-not : (r : Reply) (taken : ℕ) (out : List ℕ) → 258 ≤ length out → isRefused (replies.answered r taken out .answer) ≡ false
-unfolding replies.answered
-answered-not r taken out h = rw (le-ltb (length out) 258 h) (tell-not r taken out)
-
-pub step-not : (sv : Server) (i clock : ℕ) (input : List ℕ) (l : Lent) (out : List ℕ) → 258 ≤ length out
-    → isRefused (stepOf sv i clock input l out .done .answer) ≡ false
-unfolding stepOf heardBy answeredBy
-step-not sv i clock input l out h = answered-not _ _ out h
-
-either-not : (t : Bool) (a b : Due) → isRefused (a .asked .answer) ≡ false → isRefused (b .asked .answer) ≡ false
-    → isRefused (cond t a b .asked .answer) ≡ false
-either-not true a b p q = p
-either-not false a b p q = q
-
-sending-not : (s : Session) (place offset sent : ℕ) (disk owner : List ℕ) (fs : List File) (out : List ℕ) → 258 ≤ length out
-    → isRefused (sendingOf s place offset sent disk owner fs out .asked .answer) ≡ false
-unfolding sendingOf dataOf
-sending-not s place offset sent disk owner fs out h =
-    either-not (ltb (offset + sent) (fileAt fs place .size)) _ _ refl (answered-not reply.DataEnd 0 out h)
-
-due-not : (d : Downlink) (s : Session) (disk owner : List ℕ) (fs : List File) (out : List ℕ) → 258 ≤ length out
-    → isRefused (dueOf d s disk owner fs out .asked .answer) ≡ false
-unfolding dueOf
-due-not down.Idle s disk owner fs out h = refl
-due-not (down.Sending place offset sent) s disk owner fs out h = sending-not s place offset sent disk owner fs out h
-due-not (down.Ended place) s disk owner fs out h = refl
-due-not (down.Aborting place) s disk owner fs out h = answered-not reply.Aborted 0 out h
 
 -- ---- the server's calls: not refused, or refused by a number of the table with all as it was
 

@@ -9,10 +9,9 @@ use native.Mathlib.Numerals.{add-one}
 use lib.Dec.{ltb, eqb}
 use lib.ListN.{length, getD, set, drop, replicate, length-set, length-replicate, drop-of-length-le}
 use lib.Seq.{drop-cons}
-use borrow.Author.Tests.{lt-ltb, le-ltb, eqb-true, eqb-false, eq-eqb, ne-eqb}
+use borrow.Author.Tests.{lt-ltb, le-ltb, eqb-false, eq-eqb, ne-eqb}
 use Rattle.header.specs.Items.{Field}
-use Rattle.equation.specs.Holds.{Relation, relationOf}
-use Rattle.equation.specs.Symbols.{Symbol, rel, and, or, bad, symbols}
+use Rattle.equation.specs.Symbols.{Symbol, rel, and, or, bad}
 use Rattle.equation.specs.Tree.{pushed, joined, bind, run}
 use Rattle.equation.specs.Marks.{settledBy, relationsOf, markedTrue}
 use Rattle.equation.specs.Answer.{numberOf, verdict, answer, outcomeOf, answerOn, validityOf}

@@ -15,7 +15,7 @@ use Rattle.equation.specs.Marks.{relationsOf}
 use Rattle.equation.specs.Answer.{isYes, selects, validityOf}
 use Rattle.equation.specs.Newer.{newer, newerBytes, narrowed}
 use Rattle.equation.specs.declared.evaluation.Truth.the-variants.{No, Yes}
-use Rattle.equation.proofs.Trees.{Accepted, accepted, answer-truth}
+use Rattle.equation.proofs.Trees.{accepted, answer-truth}
 use Rattle.equation.proofs.First.{newer-holds}
 use Rattle.equation.proofs.Append.{narrowed-parse, narrowed-truth, narrowed-length, newer-parse}
 

@@ -1,22 +1,22 @@
 -- Laws on the steps of an equation: from token to token, that they are its symbols, and what the code that lists them keeps. Assumes nothing.
 use mathlib.Core.Path.{_≡_, refl, sym, ap, ap₂, _∙_}
 use mathlib.Core.Bool.{Bool, true, false, cond}
-use mathlib.Core.List.{List, [], _∷_, _++_}
+use mathlib.Core.List.{List, [], _∷_}
 use Prim.Native.Nat.{ℕ, zero, suc, _+_, _-_, _*_, _≤_, _<_}
 use native.Mathlib.Omega.{arith}
 use native.Mathlib.Numerals.{add-one}
-use lib.Dec.{leb, ltb, eqb}
+use lib.Dec.{leb, ltb}
 use lib.ListN.{length, getD, set, take, drop, length-set, length-drop, drop-of-length-le}
 use lib.Seq.{sets, drop-drop, getD-drop, take-all, take-nil}
 use borrow.Author.Tests.{lt-ltb}
 use Rattle.packet.specs.Numbers.{number}
 use Rattle.equation.specs.Holds.{Relation, relationOf}
-use Rattle.equation.specs.Symbols.{good, connectiveOf, relationAt, tokenOf, Symbol, rel, and, or, bad, follow, symbolsPast, symbols, relations}
+use Rattle.equation.specs.Symbols.{good, connectiveOf, relationAt, tokenOf, Symbol, rel, and, or, follow, symbolsPast, symbols, relations}
 use Rattle.equation.specs.Marks.{relationsOf}
 use Rattle.equation.specs.Parsed.{relationFrom, symbolAt, symbolsBy, relationsBy, stepThen, stepsPast, stepsOf}
 use Rattle.equation.specs.declared.tokens.Token.{Token}
 use Rattle.equation.specs.declared.tokens.Token.the-variants.{Bad, End, And, Or, Rel}
-use Rattle.equation.proofs.TokenLaws.{no-relation, relation-fits, relation-within, more-within}
+use Rattle.equation.proofs.TokenLaws.{no-relation, relation-within, more-within}
 use Rattle.equation.proofs.SymbolLaws.{joinToken, join-within}
 
 -- ---- the relation at a place, as the code reads it

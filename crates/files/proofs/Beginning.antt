@@ -21,7 +21,7 @@ use Rattle.table.specs.declared.Given.{Given}
 use Rattle.table.specs.declared.Given.the-variants.{UsedUp, Next}
 use Rattle.table.specs.Table.{noFile, files, putTable, freeOf}
 use Rattle.table.specs.Given.{mostGiven, nextNumber, blocksFor}
-use Rattle.table.proofs.Records.{length-files, files-put, length-put, get-put, get-put-other}
+use Rattle.table.proofs.Records.{length-files, files-put, length-put, get-put, get-put-other, uploaded-none}
 use Rattle.table.specs.Order.{inOrder}
 use Rattle.table.proofs.Finding.{free-found}
 use Rattle.table.proofs.Ordering.{in-order-same}
@@ -33,7 +33,7 @@ use Rattle.files.specs.View.{recordAt, bytesAt, viewAt}
 use Rattle.files.specs.Uploads.{Begins, begins, newFile, beginAt, beginIn, beginWith, beginOf}
 use Rattle.files.specs.Sound.{places, Sound}
 use Rattle.files.proofs.Calls.{done, refused, by-number}
-use Rattle.files.proofs.Soundness.{sound-of, store-is, counts-same, view-same, no-time, no-number, files-most, free-blocks}
+use Rattle.files.proofs.Soundness.{sound-of, store-is, counts-same, view-same, no-time, files-most, free-blocks}
 
 -- ---- the cases
 
@@ -126,7 +126,7 @@ module _ (map owner table : List ℕ) (last latest : ℕ) (s : Sound map owner t
             (λ q n. counts-same owner o (q + 1) (r .others (q + 1) (λ e. omega arith) (λ e. n (omega arith))))
             (counts-own p o z l (r .own)));
         order = λ from.
-            ap (inOrder from) (files-put table p f) ∙ in-order-same from (files table) p f (no-time f refl ∙ sym (no-number (recordAt table p) z));
+            ap (inOrder from) (files-put table p f) ∙ in-order-same from (files table) p f (no-time f refl ∙ sym (uploaded-none (recordAt table p) z));
         fewer = r .free;
         blocks-size = r .size;
         table-size = length-put table p f;

@@ -16,7 +16,7 @@ use Rattle.stored.proofs.Laws.{sets-number, set-contents, set-kept}
 use Rattle.table.specs.declared.File.{File}
 use Rattle.table.specs.Table.{files, putTable, uploaded}
 use Rattle.table.specs.Order.{inOrder}
-use Rattle.table.proofs.Records.{files-put, length-put, get-put, get-put-other}
+use Rattle.table.proofs.Records.{files-put, length-put, get-put, get-put-other, uploaded-time}
 use Rattle.table.proofs.Ordering.{in-order-last}
 use Rattle.table.proofs.Keeping.{time-le, sound-completed}
 use Rattle.files.specs.View.{recordAt, bytesAt, viewAt}
@@ -25,7 +25,7 @@ use Rattle.files.specs.Completion.{checkOf, completed, completeNumber, c
 use Rattle.files.specs.Sound.{Sound, Sizes}
 use Rattle.files.proofs.Calls.{done, outcome-done, outcome-kept, after-first, after-second, after-none, place-is, place-held}
 use Rattle.files.proofs.Choice.{take-le}
-use Rattle.files.proofs.Soundness.{sound-of, disk-is, view-same, no-time, has-time, place-below, place-most, file-fits, file-room}
+use Rattle.files.proofs.Soundness.{sound-of, disk-is, view-same, no-time, place-below, place-most, file-fits, file-room}
 
 -- ---- an accepted file
 
@@ -118,7 +118,7 @@ module _ (map disk owner table : List ℕ) (last latest : ℕ) (s : Sound map ow
             (sound-completed last latest (countsOf owner) (files table) (s .files) p n time h w);
         newest = λ h q. omega (arith, time-le last latest (countsOf owner) (files table) (s .files) q);
         order = λ h z from b.
-            let u : uploaded g ≡ time = has-time g n in
+            let u : uploaded g ≡ time = uploaded-time g n in
             ap (inOrder from) (files-put table p g)
             ∙ in-order-last from (files table) p g l (no-time f z)
             (λ q. omega (arith, time-le last latest (countsOf owner) (files table) (s .files) q)) (omega arith);

@@ -6,7 +6,7 @@ use Prim.Native.Nat.{ℕ, _+_, _*_, _/_, _%_, _≤_, _<_}
 use native.Mathlib.Omega.{arith}
 use lib.ListN.{length, getD, take, List·getD-eq-default}
 use lib.Dec.{leb, eqb}
-use borrow.Author.Tests.{leb-true, le-leb, eqb-true, eq-eqb, ne-eqb, lt-ltb}
+use borrow.Author.Tests.{leb-true, le-leb, eqb-true, eq-eqb, lt-ltb}
 use Rattle.blocks.specs.Owners.{blocks, countsOf}
 use Rattle.blocks.specs.Check.{Agrees, agreesTest}
 use Rattle.blocks.specs.Answers.{storeFits, diskFits}
@@ -103,12 +103,6 @@ no-time f e = go (eqb (f .number) 0)
     go : (t : Bool) → cond t 0 (f .time) ≡ 0
     go true = refl
     go false = e
-
-pub no-number : (f : File) → f .number ≡ 0 → uploaded f ≡ 0
-no-number f e = rw (eq-eqb (f .number) 0 e)
-
-pub has-time : (f : File) → (f .number ≡ 0 → ⊥) → uploaded f ≡ f .time
-has-time f n = rw (ne-eqb (f .number) 0 n)
 
 pub place-below : (table : List ℕ) (p : ℕ) → (recordAt table p .number ≡ 0 → ⊥) → p < length (files table)
 place-below table p n =

@@ -18,7 +18,6 @@ use Rattle.session.specs.declared.reply.Reply.{Reply}
 use Rattle.session.specs.declared.reply.Reply.the-variants.{Nothing, DataEnd, Completed, Aborted}
 use Rattle.session.specs.State.{withUp, withDown, withNext, withSelection}
 use Rattle.blocks.proofs.Owners.{blocks-le}
-use Rattle.blocks.specs.Owners.{blocks}
 use Rattle.table.specs.declared.File.{File}
 use Rattle.table.specs.declared.Given.{Given}
 use Rattle.table.specs.declared.Given.the-variants.{UsedUp, Next}

@@ -45,7 +45,7 @@ record Tests (sv : Server) (l : Lent) : Type 0 where
   store : soundTest (mapPart sv l) (ownerPart sv l) (tablePart sv l) (sv .last .number) (sv .last .time) ≡ true
   sessions : linksSound (files (tablePart sv l)) (sv .sessions) (sv .most) (l .selected) (l .held) (sv .links) ≡ true
 
-linked-as : (w k : Bool) → inState w k ≡ true → k ≡ w
+pub linked-as : (w k : Bool) → inState w k ≡ true → k ≡ w
 unfolding inState
 linked-as true k e = e
 linked-as false k e = not-true k e

@@ -1,10 +1,6 @@
 -- What an act leaves of the store and of its session, as the theorems on calls use it.
 use mathlib.Core.Path.{_≡_}
-use mathlib.Core.Bool.{Bool, true, false}
-use mathlib.Core.List.{List}
-use Prim.Native.Nat.{ℕ, _+_, _≤_, _<_}
 use lib.ListN.{length}
-use Rattle.table.specs.Table.{files}
 use Rattle.files.specs.View.{viewAt}
 use Rattle.files.specs.Sound.{Sound, Sizes}
 use Rattle.carry.specs.declared.turn.Last.{Last}

@@ -21,7 +21,7 @@ use Rattle.server.specs.Check.{sizesFit}
 use Rattle.server.specs.Making.{newServer, emptyOf, makeOf, zeroed}
 use Rattle.server.proofs.CheckLaws.{sizes-true, Room, room-true, both-true}
 use Rattle.server.proofs.CheckLaws as check
-use Rattle.history.specs.Calls.{Start, legal, made, making, State, state}
+use Rattle.history.specs.Calls.{Start, legal, made, State, state}
 use Rattle.history.specs.Good.{Good}
 use Rattle.history.proofs.Parts.{front-back, front-length}
 use Rattle.history.proofs.GoodFacts.{least-blocks, facts-good}

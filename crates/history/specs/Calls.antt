@@ -5,11 +5,10 @@ use mathlib.Core.List.{List, []}
 use Prim.Native.Nat.{ℕ}
 use lib.ListN.{length}
 use Rattle.server.specs.declared.Server.{Server}
-use Rattle.server.specs.declared.Made.{Made}
 use Rattle.server.specs.State.{Lent, lent, Outcome, outcome}
 use Rattle.server.specs.Check.{fits}
-use Rattle.server.specs.Making.{newServer, Emptied, Makes, makeOf}
-use Rattle.server.specs.Calls.{Opened, Lost, loginOf, receiveOf, requestOf, loseOf}
+use Rattle.server.specs.Making.{newServer, Makes, makeOf}
+use Rattle.server.specs.Calls.{loginOf, receiveOf, requestOf, loseOf}
 
 -- ---- a call
 

@@ -1,7 +1,6 @@
 -- What holds of every state that calls made: none of the facts of refusals 33 and 35 is broken. Assumes nothing.
 use mathlib.Core.Path.{_≡_}
 use mathlib.Core.Bool.{true}
-use Prim.Native.Nat.{ℕ}
 use lib.ListN.{length}
 use Rattle.server.specs.declared.Server.{Server}
 use Rattle.server.specs.State.{Lent}

@@ -2,21 +2,19 @@
 use mathlib.Core.Path.{_≡_, refl, sym, ap, _∙_}
 use mathlib.Core.Bool.{Bool, true, false, cond}
 use mathlib.Core.List.{List, [], _∷_, _++_}
-use Prim.Native.Nat.{ℕ, zero, suc, _+_, _-_, _≤_, _<_}
+use Prim.Native.Nat.{ℕ, suc, _+_, _-_, _≤_, _<_}
 use native.Mathlib.Omega.{arith}
 use native.Mathlib.Numerals.{add-one}
-use borrow.Author.Tests.{lt-ltb, le-ltb, ltb-true, ltb-false, eq-eqb, ne-eqb, eqb-true, eqb-false}
+use borrow.Author.Tests.{ltb-true, ltb-false, eq-eqb, ne-eqb, eqb-true, eqb-false}
 use lib.Dec.{ltb, leb, eqb}
 use lib.ListN.{length, take, drop, getD, drop-of-length-le, length-drop}
 use lib.Seq.{drop-cons, drop-drop, take-all}
 use Rattle.packet.specs.Names.{bytesOf}
-use Rattle.lines.specs.declared.numeral.Digits.{Digits}
 use Rattle.lines.specs.declared.numeral.Digits.the-variants as decimal
 use Rattle.lines.specs.declared.numeral.Pairs.{Pairs}
 use Rattle.lines.specs.declared.numeral.Pairs.the-variants as hex
 use Rattle.lines.specs.declared.commands.Number.{Number}
 use Rattle.lines.specs.declared.commands.Number.the-variants as number
-use Rattle.lines.specs.declared.commands.Command.{Command}
 use Rattle.lines.specs.declared.commands.Command.the-variants.{Unreadable, Time, Open, Drop, Rx}
 use Rattle.lines.specs.Numerals.{digit, digits, valueFrom, decimalBy, decimalAt, hexValue, isHex, bytesIn, HexRead, hexRead, hexIn}
 use Rattle.lines.specs.Commands.{onto, fieldsOf, same, endsAt, numberIn, commandOfTwo, commandOfThree, commandOfFields}

@@ -1,5 +1,5 @@
 -- Laws on the printed lines: written piece by piece, each is the line of its definition. Assumes nothing.
-use mathlib.Core.Path.{_≡_, refl, sym, ap, _∙_}
+use mathlib.Core.Path.{_≡_, refl, ap, _∙_}
 use mathlib.Core.Bool.{Bool, true, false, cond}
 use mathlib.Core.List.{List, [], _∷_, _++_, append-assoc}
 use Prim.Native.Nat.{ℕ, zero, suc, _+_, _*_, _%_, _-_, _≤_, _<_}
@@ -7,16 +7,16 @@ use Prim.Native.String.{String}
 use native.Mathlib.Omega.{arith}
 use borrow.Author.Tests.{le-leb, lt-leb, leb-true}
 use lib.Dec.{leb}
-use lib.ListN.{length, set, drop, take, getD, replicate, length-append, length-set, length-drop}
+use lib.ListN.{length, set, drop, take, getD, replicate, length-append, length-drop}
 use lib.Seq.{sets, length-sets, take-append-seam, take-all}
 use Rattle.packet.specs.declared.names.Name.{Name}
 use Rattle.packet.specs.Names.{bytesOf, names, nameOf, named}
 use Rattle.packet.specs.Numbers.{storedAt}
 use Rattle.packet.proofs.NumberLaws.{stored-at}
 use Rattle.lines.specs.Text.{decimalOf, hexOf}
-use Rattle.lines.specs.Lines.{Printed, printed, printedIn, sentLine, packetLine, closedLine, refusedLine, errorLine, blocksLine}
+use Rattle.lines.specs.Lines.{printed, printedIn, sentLine, packetLine, closedLine, refusedLine, errorLine, blocksLine}
 use Rattle.lines.proofs.TextLaws.{hex-length, digits-most, digits-most-32, digits-most-8}
-use Rattle.lines.proofs.Writing.{joined, printed-whole, printed-none}
+use Rattle.lines.proofs.Writing.{joined, printed-whole}
 
 -- ---- one piece behind those that stand at the front of the text
 

@@ -12,7 +12,7 @@ use lib.ListN.{length, take, drop, getD, set, replicate, drop-of-length-le, leng
 use lib.Seq.{drop-cons, drop-drop, sets, sets-eq, length-take-le, take-at}
 use Rattle.lines.specs.Numerals.{hexValue, isHex, bytesIn}
 use Rattle.lines.specs.Pairs.{allHex, pairsIn, digitValue, pairByte}
-use Rattle.lines.proofs.NumeralLaws.{pair, bytes-count, Pair, next-pair}
+use Rattle.lines.proofs.NumeralLaws.{pair, bytes-count, next-pair}
 
 -- ---- the test: `most` is the largest value passed
 

@@ -1,20 +1,18 @@
 -- THEOREMS: what is written in decimal and in hex reads back as itself, and so does a whole `rx` line. Assumes nothing.
-use mathlib.Core.Path.{_≡_, refl, sym, ap, _∙_}
+use mathlib.Core.Path.{_≡_, refl}
 use mathlib.Core.Bool.{Bool, true, false, cond}
 use mathlib.Core.List.{List, [], _∷_, _++_}
 use Prim.Native.Nat.{ℕ, zero, suc, _+_, _*_, _/_, _%_, _-_, _≤_, _<_}
 use native.Mathlib.Omega.{arith}
 use borrow.Author.Tests.{lt-ltb, le-ltb, le-leb, ltb-true, ltb-false, eq-eqb, ne-eqb}
-use lib.Dec.{ltb, leb, eqb}
+use lib.Dec.{ltb, eqb}
 use lib.ListN.{length, getD}
 use Rattle.packet.specs.Names.{bytesOf}
-use Rattle.lines.specs.declared.commands.Number.{Number}
 use Rattle.lines.specs.declared.commands.Number.the-variants as number
-use Rattle.lines.specs.declared.commands.Command.{Command}
-use Rattle.lines.specs.declared.commands.Command.the-variants.{Unreadable, Time, Open, Drop, Rx}
+use Rattle.lines.specs.declared.commands.Command.the-variants.{Rx}
 use Rattle.lines.specs.Text.{digitsWithin, decimalOf, hexDigit, hexOf}
 use Rattle.lines.specs.Numerals.{digit, digits, valueFrom, decimalBy, decimalAt, hexValue, isHex, bytesIn}
-use Rattle.lines.specs.Commands.{onto, fieldsOf, same, endsAt, numberIn, commandOfTwo, commandOfThree, commandOfFields, commandOf, rxBytes}
+use Rattle.lines.specs.Commands.{onto, fieldsOf, same, endsAt, numberIn, commandOfThree, commandOfFields, commandOf, rxBytes}
 use Rattle.lines.specs.Reading.{field}
 use Rattle.lines.proofs.TextLaws.{opened, none, digits-some}
 use Rattle.lines.proofs.NumeralLaws.{digit-least}

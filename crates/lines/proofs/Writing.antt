@@ -1,16 +1,15 @@
 -- Laws on pieces written at a place, one behind the other. Assumes nothing.
-use mathlib.Core.Path.{_≡_, refl, sym, ap, _∙_}
-use mathlib.Core.Bool.{Bool, true, false, cond}
-use mathlib.Core.List.{List, [], _∷_, _++_, append-nil}
-use Prim.Native.Nat.{ℕ, zero, suc, _+_, _*_, _/_, _%_, _-_, _≤_, _<_}
+use mathlib.Core.Path.{_≡_}
+use mathlib.Core.List.{List, [], _∷_, _++_}
+use Prim.Native.Nat.{ℕ, suc, _+_, _/_, _%_, _-_, _≤_, _<_}
 use native.Mathlib.Omega.{arith}
 use native.Mathlib.Numerals.{add-one}
 use borrow.Author.Tests.{le-leb, lt-leb}
-use lib.ListN.{length, set, drop, take, getD, drop-of-length-le}
+use lib.ListN.{length, set, drop, getD, drop-of-length-le}
 use lib.Seq.{sets, sets-eq, set-comm}
 use Rattle.lines.specs.Text.{decimalOf, hexDigit, hexOf}
 use Rattle.lines.proofs.TextLaws.{one-digit, digits-one, more-digits, digits-more, hex-next}
-use Rattle.lines.specs.Lines.{Printed, printed, printedIn}
+use Rattle.lines.specs.Lines.{printed, printedIn}
 
 -- two pieces written one behind the other are their join, written once
 pub joined : (text : List ℕ) (at : ℕ) (xs ys : List ℕ) → sets (sets text at xs) (at + length xs) ys ≡ sets text at (xs ++ ys)

@@ -1,7 +1,7 @@
 -- How the code reads pairs of hex digits (Numerals.antt): the digits are tested one by one, and each pair becomes a number of two bytes and then
 -- the byte that it stands for. That this comes to Numerals.antt is proved in proofs/PairLaws.antt. Assumes nothing.
 use mathlib.Core.Bool.{Bool, true, false, cond}
-use mathlib.Core.List.{List, [], _∷_, map}
+use mathlib.Core.List.{List, [], _∷_}
 use Prim.Native.Nat.{ℕ, _+_, _*_, _/_, _%_}
 use lib.Dec.{ltb}
 use Rattle.lines.specs.Numerals.{hexValue}

@@ -1,7 +1,7 @@
 -- Numbers and bytes as text (document 01, "The script program": "a decimal clock", "Hex is lower-case, read or printed"). Assumes nothing.
 use mathlib.Core.Bool.{true, false, cond}
 use mathlib.Core.List.{List, [], _∷_, _++_}
-use Prim.Native.Nat.{ℕ, zero, suc, _+_, _*_, _/_, _%_}
+use Prim.Native.Nat.{ℕ, zero, suc, _+_, _/_, _%_}
 use lib.Dec.{ltb}
 
 -- the decimal digits of n in ASCII, in which "0" is 48; n has at most `most` digits more than one

@@ -1,8 +1,8 @@
 -- The facts of refusal 35 that concern the sessions (document 01, "Refusals by number"): "a length, offset or name points at what the store
 -- lacks". Assumes nothing.
-use mathlib.Core.Bool.{Bool, true, false, cond, _&&_, not}
+use mathlib.Core.Bool.{Bool, true, false, cond, not}
 use mathlib.Core.List.{List, [], _∷_}
-use Prim.Native.Nat.{ℕ, _+_, _*_, _/_}
+use Prim.Native.Nat.{ℕ, _+_, _*_}
 use lib.Dec.{eqb, leb, ltb}
 use lib.ListN.{length, getD, take, drop}
 use Rattle.packet.specs.Frame.{announcedIn}

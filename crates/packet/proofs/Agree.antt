@@ -1,26 +1,21 @@
 -- The framing of a link and the plain reader agree, and cutting a link's bytes elsewhere changes no answer. Assumes nothing.
-use mathlib.Core.Path.{_≡_, refl, sym, ap, subst, _∙_}
+use mathlib.Core.Path.{_≡_, refl, sym, ap, _∙_}
 use mathlib.Core.Bool.{Bool, true, false, cond}
 use mathlib.Core.List.{List, [], _∷_, _++_, flatten}
-use mathlib.Core.Option.{Option, none, some}
-use Prim.Native.Nat.{ℕ, zero, suc, _+_, _-_, _*_, _/_, _%_, _≤_, _<_}
+use mathlib.Core.Option.{some}
+use Prim.Native.Nat.{ℕ, zero, suc, _+_, _-_, _≤_, _<_}
 use native.Mathlib.Numerals.{add-one}
-use native.Mathlib.Nat.{add-assoc, zero-add}
+use native.Mathlib.Nat.{zero-add}
 use native.Mathlib.Omega.{arith}
-use borrow.Author.Tests.{ltb-true, ltb-false, lt-ltb, le-ltb, eq-eqb}
+use borrow.Author.Tests.{ltb-false, lt-ltb, le-ltb}
 use lib.Dec.{ltb}
-use lib.ListN.{length, getD, set, take, drop, replicate, length-set, length-drop, length-append, take-append-drop, length-take}
+use lib.ListN.{length, getD, set, take, drop, replicate, length-append}
 use lib.Seq.{getD-set-other, sets, sets-eq, take-append-seam, length-take-le, take-suc, split-at}
 use Rattle.packet.specs.declared.plain.Plain.the-variants as plain
-use Rattle.packet.specs.declared.frame.Mark.{Mark}
-use Rattle.packet.specs.declared.frame.Mark.the-variants.{More, Long, End}
-use Rattle.packet.specs.Packet.{announced, kindIn, readAnswer, packetOf}
-use Rattle.packet.specs.Machine.{Step, more, ends, Run, Call, called, further, call, run, runs}
-use Rattle.packet.specs.Frame.{Held, Event, packet, too-long, none-held, announcedIn, packetIn, judged, byte}
-use Rattle.packet.specs.Feed.{Part, markOf, fedMore, afterByte, feedOf}
-use Rattle.packet.proofs.Cut.{cut-elsewhere, call-cut, call-end, step-more, step-ends}
-use Rattle.packet.proofs.FeedLaws.{more-short}
-use Rattle.packet.proofs.FrameLaws.{feed-is-call}
+use Rattle.packet.specs.Packet.{announced, kindIn, readAnswer}
+use Rattle.packet.specs.Machine.{more, ends, Call, further, call, runs}
+use Rattle.packet.specs.Frame.{Held, Event, packet, none-held, announcedIn, judged, byte}
+use Rattle.packet.proofs.Cut.{cut-elsewhere, step-more, step-ends}
 use Rattle.packet.proofs.PacketLaws.{clash}
 
 -- ---- THEOREM: the bytes of a link, cut elsewhere, come to the same packets and the same state

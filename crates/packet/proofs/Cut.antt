@@ -1,13 +1,13 @@
 -- However the bytes of a link are cut, the events and the state are the same: one proof for every device that is a machine
 -- (specs/Machine.antt). Assumes nothing.
 use mathlib.Core.Path.{_≡_, refl, sym, ap, _∙_}
-use mathlib.Core.List.{List, [], _∷_, _++_, append-assoc, flatten}
-use mathlib.Core.Option.{Option, none, some}
+use mathlib.Core.List.{List, [], _∷_, _++_, flatten}
+use mathlib.Core.Option.{none, some}
 use Prim.Native.Nat.{ℕ, zero, suc, _+_, _≤_}
-use native.Mathlib.Nat.{add-assoc, zero-add}
+use native.Mathlib.Nat.{zero-add}
 use native.Mathlib.Omega.{arith}
 use lib.ListN.{length, drop, length-drop}
-use Rattle.packet.specs.Machine.{Step, more, ends, Run, Call, stopped, also, stepped, further, called, eventsOf, run, runs, call, calls}
+use Rattle.packet.specs.Machine.{Step, more, ends, Call, also, stepped, further, called, eventsOf, run, runs, call, calls}
 
 module _ {S E : Type 0} (byte : S → ℕ → Step S E) where
   -- ---- all the bytes

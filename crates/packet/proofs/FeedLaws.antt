@@ -8,7 +8,7 @@ use native.Mathlib.Nat.{add-assoc, zero-add, add-zero}
 use native.Mathlib.Omega.{arith}
 use borrow.Author.Tests.{ltb-true, ltb-false, lt-ltb, le-ltb}
 use lib.Dec.{ltb}
-use lib.ListN.{length, getD, set, take, drop, drop-of-length-le, length-drop}
+use lib.ListN.{length, set, take, drop, drop-of-length-le, length-drop}
 use lib.Seq.{sets, getD-set-other, length-take-le, drop-drop}
 use Rattle.packet.specs.declared.frame.Mark.{Mark}
 use Rattle.packet.specs.declared.frame.Mark.the-variants.{More, Long, End}

@@ -2,25 +2,24 @@
 use mathlib.Core.Path.{_≡_, refl, sym, ap, _∙_}
 use mathlib.Core.Bool.{Bool, true, false, cond}
 use mathlib.Core.List.{List, [], _∷_, _++_}
-use mathlib.Core.Option.{Option, none, some}
+use mathlib.Core.Option.{none, some}
 use Prim.Native.Nat.{ℕ, zero, suc, _+_, _-_, _≤_, _<_}
 use native.Mathlib.Numerals.{add-one}
-use native.Mathlib.Nat.{add-assoc, zero-add, add-zero, sub-zero, zero-sub}
+use native.Mathlib.Nat.{zero-add, sub-zero, zero-sub}
 use native.Mathlib.Omega.{arith}
-use borrow.Author.Tests.{ltb-true, ltb-false, eq-eqb, ne-eqb, lt-ltb, le-ltb}
+use borrow.Author.Tests.{ltb-false, eq-eqb, ne-eqb, lt-ltb, le-ltb}
 use lib.Dec.{ltb}
-use lib.ListN.{length, getD, set, take, drop, replicate, drop-of-length-le, replicate-append-replicate, length-drop}
-use lib.Seq.{drop-cons, take-suc-set, take-length, length-take-le, sets-eq}
+use lib.ListN.{length, getD, set, take, drop, replicate, replicate-append-replicate, length-drop, length-append, length-replicate}
+use lib.Seq.{take-suc-set, take-length, length-take-le, sets-eq, take-append-seam}
 use Rattle.packet.specs.declared.frame.Mark.{Mark}
 use Rattle.packet.specs.declared.frame.Mark.the-variants.{More, Long, End}
 use Rattle.packet.specs.declared.frame.Fed.{Fed}
 use Rattle.packet.specs.declared.frame.Frame.the-variants.{Open, TooLong, Whole, Refused}
-use Rattle.packet.specs.declared.frame.Framed.{Framed}
 use Rattle.packet.specs.Numbers.{storedAt}
 use Rattle.packet.proofs.NumberLaws.{stored-at}
 use Rattle.packet.specs.Packet.{kindIn}
 use Rattle.packet.specs.Machine.{Step, more, ends, Call, call, called, further}
-use Rattle.packet.specs.Frame.{Held, Event, packet, too-long, none-held, announcedIn, packetIn, judged, byte, padded, heard, withoutPacket, answerBy, answerOf, receiveOf}
+use Rattle.packet.specs.Frame.{Held, Event, too-long, none-held, announcedIn, packetIn, judged, byte, padded, heard, withoutPacket, answerBy, answerOf, receiveOf}
 use Rattle.packet.specs.Feed.{markOf, Part, fedIn, fedMore, afterByte, feedOf}
 
 -- ---- clearing a part
@@ -32,6 +31,14 @@ pub cleared-all : (l : List ℕ) (i n : ℕ) → length l ≤ i → i ≤ n → 
 cleared-all l i n h k e t =
     let s : i ≡ length l = omega arith in
     sym (take-length l) ∙ ap (λ (j : ℕ). take j l) (sym s) ∙ t ∙ ap (λ (j : ℕ). replicate j 0) (s ∙ e)
+
+-- ---- information in 256 bytes
+
+pub padded-length : (info : List ℕ) → length info ≤ 256 → length (padded info) ≡ 256
+padded-length info h = omega (arith, length-append info (replicate (256 - length info) 0), length-replicate {A = ℕ} (256 - length info) 0)
+
+pub padded-front : (info : List ℕ) → take (length info) (padded info) ≡ info
+padded-front info = take-append-seam info (replicate (256 - length info) 0)
 
 -- ---- feeding is the machine's call
 

@@ -5,7 +5,6 @@ use Prim.Native.Nat.{ℕ, zero, suc, _≤_, _<_}
 use Prim.Native.String.{String}
 use native.Mathlib.Omega.{arith}
 use lib.ListN.{length, getD, replicate, List·getD-eq-default, List·getD-map}
-use Rattle.packet.specs.declared.names.Name.{Name}
 use Rattle.packet.specs.Names.{named, nameOf, names, bytesOf, in17}
 
 -- a type above 17 has no name

@@ -1,17 +1,14 @@
 -- Laws on numbers in bytes. Assumes nothing.
-use mathlib.Core.Path.{_≡_, refl, sym, ap, _∙_}
-use mathlib.Core.Bool.{Bool, true, false, cond}
-use mathlib.Core.List.{List, [], _∷_, _++_}
-use Prim.Native.Nat.{ℕ, zero, suc, _+_, _*_, _/_, _%_, _≤_, _<_}
+use mathlib.Core.Path.{_≡_, _∙_}
+use mathlib.Core.List.{List, [], _∷_}
+use Prim.Native.Nat.{ℕ, suc, _+_, _*_, _/_, _%_, _≤_, _<_}
 use native.Mathlib.Nat.{div-div-eq-div-mul, add-mul-mod-self-left}
 use native.Mathlib.Numerals.{add-one}
 use native.Mathlib.Omega.{arith}
 use borrow.Author.Tests.{le-leb, lt-leb}
-use lib.Dec.{leb}
 use lib.ListN.{length, take, drop, getD, set}
 use lib.Seq.{drop-cons, sets, sets-eq, paste, paste-zero, paste-suc, take-length}
 use Rattle.packet.specs.Numbers.{number, two, four, numberAt, fitsAt, storedAt}
-use Rattle.packet.specs.declared.numbers.Number.{Number}
 use Rattle.packet.specs.declared.numbers.Number.the-variants.{Short, Value}
 
 -- two and four elements from a place on, one by one

@@ -1,17 +1,15 @@
 -- Laws on packets written and read. Assumes nothing.
-use mathlib.Core.Path.{_≡_, refl, sym, ap, subst, _∙_}
+use mathlib.Core.Path.{_≡_, refl, subst, _∙_}
 use mathlib.Core.Bool.{Bool, true, false, cond}
 use mathlib.Core.List.{List, [], _∷_, _++_}
-use Prim.Native.Nat.{ℕ, zero, suc, _+_, _*_, _/_, _%_, _-_, _≤_, _<_}
+use Prim.Native.Nat.{ℕ, _+_, _*_, _/_, _%_, _-_, _≤_, _<_}
 use native.Mathlib.Omega.{arith}
 use native.Mathlib.Nat.{add-mul-mod-self-left, mod-eq-of-lt}
 use borrow.Author.Tests.{lt-ltb, le-ltb, ltb-false}
 use lib.Dec.{ltb}
 use lib.ListN.{length, take, drop, getD, set, length-append}
 use lib.Seq.{sets-eq, drop-drop, take-append-seam, take-add, length-take-le}
-use Rattle.packet.specs.declared.plain.Written.{Written}
 use Rattle.packet.specs.declared.plain.Written.the-variants.{Refused, Packet}
-use Rattle.packet.specs.declared.plain.Plain.{Plain}
 use Rattle.packet.specs.declared.plain.Plain.the-variants as plain
 use Rattle.packet.specs.Numbers.{storedAt}
 use Rattle.packet.proofs.NumberLaws.{stored-at}

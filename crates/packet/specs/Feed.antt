@@ -1,6 +1,6 @@
 -- How the framing's code goes: bytes are stored up to the end of a packet, which stays in the part until it is taken out.
 -- That this comes to Frame.antt is proved in proofs/FrameLaws.antt. Assumes nothing.
-use mathlib.Core.Bool.{Bool, true, false, cond}
+use mathlib.Core.Bool.{cond}
 use mathlib.Core.List.{List, [], _∷_}
 use Prim.Native.Nat.{ℕ, _+_, _-_}
 use lib.Dec.{ltb}

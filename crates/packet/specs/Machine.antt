@@ -2,7 +2,7 @@
 use mathlib.Core.List.{List, [], _∷_, _++_}
 use mathlib.Core.Option.{Option, none, some}
 use Prim.Native.Nat.{ℕ, zero, suc, _+_}
-use lib.ListN.{length, drop}
+use lib.ListN.{drop}
 
 -- what a byte does: the next state, and the event that it ends in, if any
 pub data Step (S E : Type 0) : Type 0 where

@@ -1,18 +1,19 @@
 -- The server's answer to a SELECT_CMD, from its bytes on. Assumes nothing.
-use mathlib.Core.Path.{_≡_, _∙_}
+use mathlib.Core.Path.{_≡_}
 use mathlib.Core.Bool.{true}
 use mathlib.Core.List.{List, _++_}
 use Prim.Native.Nat.{ℕ, _+_, _-_, _*_, _≤_, _<_}
 use native.Mathlib.Omega.{arith}
 use native.Mathlib.Numerals.{add-one}
 use native.Mathlib.Nat.{suc-mul, mul-le-mul-right}
-use lib.ListN.{length, take, drop, replicate, length-append, length-replicate, length-drop}
-use lib.Seq.{take-append-seam, length-take-le}
+use lib.ListN.{length, take, drop, replicate, length-drop}
+use lib.Seq.{length-take-le}
 use borrow.Author.Tests.{eq-eqb, ne-eqb, le-ltb, le-leb}
 use Rattle.packet.specs.Numbers.{two}
 use Rattle.packet.specs.Packet.{packetOf}
 use Rattle.packet.specs.declared.frame.Frame.the-variants.{Whole}
 use Rattle.packet.specs.Frame.{padded}
+use Rattle.packet.proofs.FrameLaws.{padded-length, padded-front}
 use Rattle.equation.specs.Answer.{validityOf}
 use Rattle.table.specs.declared.File.{File}
 use Rattle.table.specs.Table.{files}
@@ -56,16 +57,6 @@ goes sv l session out g m =
       m .linked,
       le-ltb (length out) 258 (m .room),
     )
-
--- ---- information in 256 bytes
-
-padded-length : (info : List ℕ) → length info ≤ 256 → length (padded info) ≡ 256
-padded-length info h =
-    length-append info (replicate (256 - length info) 0)
-    ∙ (let e : length (replicate {A = ℕ} (256 - length info) 0) ≡ 256 - length info = length-replicate (256 - length info) 0 in omega arith)
-
-padded-front : (info : List ℕ) → take (length info) (padded info) ≡ info
-padded-front info = take-append-seam info (replicate (256 - length info) 0)
 
 -- ---- deciding
 

@@ -9,11 +9,11 @@ use Rattle.header.proofs.Set.{verdict-parts}
 use Rattle.table.specs.declared.File.{File}
 use Rattle.table.specs.Table.{noFile, uploaded}
 use Rattle.table.proofs.Finding.{by-equal}
-use Rattle.table.proofs.Records.{uploaded-file}
+use Rattle.table.proofs.Records.{uploaded-file, uploaded-none, uploaded-time}
 use Rattle.files.specs.View.{View, recordAt}
 use Rattle.files.specs.Uploads.{newFile, grown}
 use Rattle.files.specs.Completion.{completed}
-use Rattle.files.proofs.Soundness.{no-time, no-number, has-time, file-fits}
+use Rattle.files.proofs.Soundness.{no-time, file-fits}
 use Rattle.carry.specs.declared.turn.Last.{Last}
 use Rattle.server.specs.declared.Server.{Server}
 use Rattle.server.specs.State.{Lent, mapPart, ownerPart, tablePart}
@@ -51,7 +51,7 @@ module _ (last : Last) (before : Files) (last′ : Last) (after : Files) where
 
   pub complete-kept : Change last before last′ after → (p : ℕ) → Complete (before p) → after p ≡ before p
   complete-kept (same r) p c = r .files p
-  complete-kept (begins r) p c = other-kept (r .place) p (no-number (before (r .place) .file) (r .free)) (r .others) c
+  complete-kept (begins r) p c = other-kept (r .place) p (uploaded-none (before (r .place) .file) (r .free)) (r .others) c
   complete-kept (receives r) p c = other-kept (r .place) p (no-time (before (r .place) .file) (r .partial .time)) (r .others) c
   complete-kept (completes r) p c = other-kept (r .place) p (no-time (before (r .place) .file) (r .partial .time)) (r .others) c
   complete-kept (discards r) p c = other-kept (r .place) p (no-time (before (r .place) .file) (r .partial .time)) (r .others) c
@@ -74,7 +74,7 @@ module _ (last : Last) (before : Files) (last′ : Last) (after : Files) where
   new-here r =
       let f = before (r .place) .file in
       let bytes = before (r .place) .bytes in
-      let t : uploaded (completed (r .time) f) ≡ r .time = has-time (completed (r .time) f) (r .partial .number) in
+      let t : uploaded (completed (r .time) f) ≡ r .time = uploaded-time (completed (r .time) f) (r .partial .number) in
       let q = verdict-parts bytes (f .size) (r .whole) in
       let u = ap (λ (x : Last). x .time) (r .given) in
       subst (New last last′) (sym (r .here))
@@ -102,4 +102,4 @@ pub time-given : (sv : Server) (l : Lent) → Facts sv l → (p : ℕ) → Compl
 time-given sv l g p c =
     let n = uploaded-file (recordAt (tablePart sv l) p) (λ z. omega arith) in
     let f = file-fits (mapPart sv l) (ownerPart sv l) (tablePart sv l) (sv .last .number) (sv .last .time) (g .sound) p n in
-    omega (arith, f .time, has-time (recordAt (tablePart sv l) p) n)
+    omega (arith, f .time, uploaded-time (recordAt (tablePart sv l) p) n)

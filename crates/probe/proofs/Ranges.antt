@@ -13,7 +13,7 @@ use Rattle.blocks.specs.Answers.{storeFits, reserveNumber}
 use Rattle.equation.specs.Answer.{validityOf}
 use Rattle.table.specs.Given.{blocksFor}
 use Rattle.files.specs.Uploads.{Begins, beginOf}
-use Rattle.files.specs.Selection.{Selects, chosen, selectNumber, selectOf}
+use Rattle.files.specs.Selection.{Selects, selectNumber, selectOf}
 use Rattle.files.proofs.Calls.{done, refused, by-number}
 use Rattle.files.proofs.Beginning.{NotBegun, HasBegun, begin-cases}
 use Rattle.files.proofs.Choice.{chosen-most}

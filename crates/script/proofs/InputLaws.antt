@@ -6,12 +6,12 @@ use mathlib.Core.List.{List, [], _∷_, _++_}
 use Prim.Native.Nat.{ℕ, zero, suc, _+_, _-_, _%_, _≤_, _<_}
 use native.Mathlib.Numerals.{add-one}
 use lib.Dec.{eqb, ltb}
-use lib.ListN.{length, getD, set, take, drop, length-drop, length-append, drop-of-length-le}
+use lib.ListN.{length, getD, set, take, drop, length-drop, drop-of-length-le}
 use lib.Seq.{drop-drop, take-suc, drop-cons, append-snoc, set-at, length-take-le, getD-append-add, getD-drop}
-use borrow.Author.Tests.{eq-eqb, ne-eqb, eqb-true, eqb-false, lt-ltb, le-ltb, ltb-false, ltb-true}
+use borrow.Author.Tests.{eq-eqb, ne-eqb, eqb-true, eqb-false, lt-ltb, le-ltb, ltb-false}
 use Rattle.script.specs.Parts.{bytesFrom, restOf}
 use Rattle.lines.specs.Commands.{readOf}
-use Rattle.script.specs.Input.{lineLength, Passed, foundOf, findOf, movedOf, Shifted, shifted, shiftOf}
+use Rattle.script.specs.Input.{lineLength, Passed, foundOf, findOf, movedOf, shifted, shiftOf}
 use Rattle.script.proofs.PartLaws.{bytes-part, part-length, rest-part, rest-length}
 
 positive : (n : ℕ) → (n ≡ 0 → ⊥) → 0 < n

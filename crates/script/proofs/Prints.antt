@@ -1,8 +1,8 @@
 -- What a step prints is the whole line of its call's answer, and nothing else. Assumes nothing.
 use native.Mathlib.Omega.{arith}
-use mathlib.Core.Path.{_≡_, refl, sym, _∙_, ap}
+use mathlib.Core.Path.{_≡_}
 use mathlib.Core.Bool.{Bool, true, false, cond}
-use mathlib.Core.List.{List, [], _++_}
+use mathlib.Core.List.{List, _++_}
 use Prim.Native.Nat.{ℕ, _+_, _-_, _≤_, _<_}
 use lib.Dec.{eqb, ltb}
 use lib.ListN.{length, take, drop, replicate}
@@ -19,7 +19,6 @@ use Rattle.session.specs.State.{withDown}
 use Rattle.session.specs.Reply.{tell, answered}
 use Rattle.table.specs.declared.File.{File}
 use Rattle.table.specs.Table.{files, fileAt}
-use Rattle.carry.specs.Turn.{Turned}
 use Rattle.server.specs.declared.Server.{Server}
 use Rattle.server.specs.declared.check.Check.{Check}
 use Rattle.server.specs.declared.check.Check.the-variants.{Go, Refuse}
@@ -36,9 +35,8 @@ use Rattle.script.specs.Parts.{bytesFrom}
 use Rattle.script.specs.Doing.{sessionOf}
 use Rattle.script.specs.Calling.{hearOf, callOf}
 use Rattle.script.specs.Printing.{lineFor, showOf}
-use Rattle.script.specs.Day.{Stepping, printsOf, answeredOf, turnOf}
+use Rattle.script.specs.Day.{printsOf, answeredOf, turnOf}
 use Rattle.script.specs.Day as day
-use Rattle.script.specs.Line.{room}
 use Rattle.script.proofs.Room.{shown-whole}
 
 -- ---- the numbers of refusals have 8 bits

@@ -2,19 +2,18 @@
 use native.Mathlib.Omega.{arith}
 use native.Mathlib.Nat.{mod-eq-of-lt}
 use mathlib.Core.Path.{_≡_, refl, sym, _∙_, ap}
-use mathlib.Core.Bool.{Bool, true, false, cond, not}
-use mathlib.Core.List.{List, []}
-use Prim.Native.Nat.{ℕ, zero, suc, _+_, _-_, _*_, _/_, _%_, _≤_, _<_}
-use lib.Dec.{eqb, leb, ltb}
+use mathlib.Core.Bool.{Bool, true, false, cond}
+use mathlib.Core.List.{List}
+use Prim.Native.Nat.{ℕ, suc, _+_, _-_, _*_, _%_, _≤_, _<_}
+use lib.Dec.{eqb, ltb}
 use lib.ListN.{length, getD, set, take, List·getD-eq-default}
 use lib.Seq.{getD-set-same, length-take-le}
-use borrow.Author.Tests.{ltb-true, ltb-false, eqb-false}
+use borrow.Author.Tests.{ltb-true, ltb-false}
 use Rattle.session.specs.declared.state.Session.{Session}
 use Rattle.session.specs.declared.state.Downlink.{Downlink}
 use Rattle.session.specs.declared.state.Downlink.the-variants as down
-use Rattle.session.specs.declared.reply.Answer.{Answer}
 use Rattle.session.specs.declared.reply.Answer.the-variants as answer
-use Rattle.session.specs.declared.reply.Reply.the-variants.{DataEnd, Aborted}
+use Rattle.session.specs.declared.reply.Reply.the-variants.{DataEnd}
 use Rattle.session.specs.State.{closedSession, withDown}
 use Rattle.session.specs.Reply.{answered}
 use Rattle.table.specs.declared.File.{File}
@@ -25,16 +24,16 @@ use Rattle.blocks.proofs.Owners.{blocks-le}
 use Rattle.files.specs.Sound.{soundTest}
 use Rattle.files.proofs.Soundness.{sound-facts, file-room}
 use Rattle.links.specs.Sound.{linksSound}
-use Rattle.links.proofs.Facts.{LinksFacts, LinkFacts, SendingAt}
+use Rattle.links.proofs.Facts.{LinkFacts}
 use Rattle.links.proofs.Facts as links
 use Rattle.server.specs.declared.Server.{Server}
 use Rattle.server.specs.declared.check.Check.{Check}
 use Rattle.server.specs.declared.check.Check.the-variants.{Go, Refuse}
 use Rattle.server.specs.State.{Lent, linkOf, withLink, words, ownerPart, tablePart}
 use Rattle.server.specs.Check.{sizesFit, roomFits, soundParts, inState, sessionCheck, checkParts, checkOf}
-use Rattle.server.specs.Sending.{leastOf, told, dataOf, sendingOf, dueOf, Due}
-use Rattle.server.specs.Calls.{onRequest, dueAs, requestOf}
-use Rattle.server.proofs.CheckLaws.{check-go, Passed}
+use Rattle.server.specs.Sending.{leastOf, told, dataOf, sendingOf, dueOf}
+use Rattle.server.specs.Calls.{onRequest, dueAs}
+use Rattle.server.proofs.CheckLaws.{check-go}
 
 -- ---- what a call that goes through says of the state
 

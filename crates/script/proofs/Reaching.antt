@@ -4,11 +4,10 @@ use native.Mathlib.Omega.{arith}
 use mathlib.Core.Path.{_≡_, refl, sym, _∙_, ap, subst}
 use mathlib.Core.Bool.{Bool, true, false, cond}
 use mathlib.Core.List.{List}
-use mathlib.Core.Option.{Option, none, some}
+use mathlib.Core.Option.{none, some}
 use Prim.Native.Nat.{ℕ, _+_, _≤_}
 use lib.Dec.{ltb}
 use lib.ListN.{length, replicate}
-use Rattle.session.specs.declared.reply.Answer.{Answer}
 use Rattle.session.specs.declared.reply.Answer.the-variants as answer
 use Rattle.server.specs.declared.Server.{Server}
 use Rattle.server.specs.declared.Done.{Done}
@@ -21,7 +20,7 @@ use Rattle.lines.specs.declared.commands.Command.{Command}
 use Rattle.lines.specs.declared.commands.Command.the-variants as command
 use Rattle.script.specs.declared.Day.{Day}
 use Rattle.script.specs.Calling.{callOf}
-use Rattle.script.specs.Day.{beginOf, printsOf, answeredOf, turnOf, stepOf, stepping, steppedTo, Stepping}
+use Rattle.script.specs.Day.{beginOf, printsOf, answeredOf, turnOf, stepOf, stepping, steppedTo}
 use Rattle.script.specs.Reached.{Script, Move, begins, steps, Moves, nothing, _▹_, moved, reached, ownCall, further, callsAt, callsOf, stepCall, Own, MadeByCalls, EveryScript}
 use Rattle.script.proofs.Own.{by-call}
 use Rattle.script.proofs.Ending.{RestsIn, line-ends}

@@ -1,13 +1,13 @@
 -- No line is lost: a text of 560 bytes has room for any line that a step prints. Assumes nothing.
 use native.Mathlib.Omega.{arith}
 use mathlib.Core.Path.{_≡_, refl}
-use mathlib.Core.List.{List, [], _++_}
+use mathlib.Core.List.{List, _++_}
 use Prim.Native.Nat.{ℕ, _≤_, _<_}
 use lib.ListN.{length, take, drop}
 use borrow.Author.Tests.{le-leb}
 use Rattle.session.specs.declared.reply.Answer.{Answer}
 use Rattle.session.specs.declared.reply.Answer.the-variants as answer
-use Rattle.lines.specs.Lines.{Printed, printed, printedIn}
+use Rattle.lines.specs.Lines.{printed, printedIn}
 use Rattle.lines.proofs.LineLaws.{packet-most, closed-most, refused-most}
 use Rattle.script.specs.Printing.{lineFor, showOf}
 

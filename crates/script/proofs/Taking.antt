@@ -2,15 +2,14 @@
 use native.Mathlib.Omega.{arith}
 use native.Mathlib.Nat.{le-trans}
 use mathlib.Core.Path.{_≡_, refl, sym, _∙_, ap}
-use mathlib.Core.Bool.{Bool, true, false, cond}
+use mathlib.Core.Bool.{Bool, true, false}
 use mathlib.Core.List.{List, [], _∷_}
 use mathlib.Core.Option.{Option, none, some}
 use Prim.Native.Nat.{ℕ, _+_, _-_, _*_, _≤_, _<_}
-use lib.Dec.{eqb, ltb}
-use lib.ListN.{length, take, drop, length-drop}
+use lib.ListN.{length, drop, length-drop}
 use lib.Seq.{length-take-le}
 use borrow.Author.Tests.{eq-eqb, lt-ltb, le-ltb}
-use Rattle.packet.specs.Machine.{Step, more, ends, Call, called, call}
+use Rattle.packet.specs.Machine.{Step, more, ends, called, call}
 use Rattle.packet.specs.Frame.{Held, Event, packet, too-long, byte, withoutPacket, answerBy, answerOf}
 use Rattle.packet.specs.Frame as frame
 use Rattle.session.specs.declared.reply.Reply.{Reply}
@@ -26,10 +25,10 @@ use Rattle.server.specs.declared.check.Check.{Check}
 use Rattle.server.specs.declared.check.Check.the-variants.{Go, Refuse}
 use Rattle.server.specs.State.{Lent, linkOf, part}
 use Rattle.server.specs.Check.{checkOf}
-use Rattle.server.specs.Turns.{HeardIn, hearOf}
+use Rattle.server.specs.Turns.{hearOf}
 use Rattle.server.specs.Calls.{answeredBy, heardBy, stepOf, onCheck, receiveOf}
-use Rattle.server.proofs.CheckLaws.{check-go, Passed}
-use Rattle.script.proofs.Pumping.{Through, through, link-facts, in-open}
+use Rattle.server.proofs.CheckLaws.{check-go}
+use Rattle.script.proofs.Pumping.{through, link-facts, in-open}
 
 -- ---- the bytes that a link's device takes
 

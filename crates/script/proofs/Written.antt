@@ -1,6 +1,6 @@
 -- A step prints no more than the text has room for. Assumes nothing.
 use native.Mathlib.Omega.{arith}
-use mathlib.Core.Path.{_≡_, refl, sym, _∙_, ap}
+use mathlib.Core.Path.{_≡_, refl}
 use mathlib.Core.Bool.{Bool, true, false, cond}
 use mathlib.Core.List.{List, [], _++_}
 use Prim.Native.Nat.{ℕ, _≤_}
@@ -9,7 +9,7 @@ use lib.ListN.{length, drop, replicate}
 use borrow.Author.Tests.{leb-true, le-leb}
 use Rattle.session.specs.declared.reply.Answer.{Answer}
 use Rattle.server.specs.State.{Lent, Outcome}
-use Rattle.lines.specs.Lines.{Printed, printed, printedIn}
+use Rattle.lines.specs.Lines.{printed, printedIn}
 use Rattle.script.specs.declared.Day.{Day}
 use Rattle.script.specs.Doing.{sessionOf}
 use Rattle.script.specs.Calling.{callOf}

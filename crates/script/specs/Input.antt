@@ -1,5 +1,5 @@
 -- The lines of a script in the bytes read so far (document 01, "The script program"). Assumes nothing.
-use mathlib.Core.Bool.{Bool, true, false, cond}
+use mathlib.Core.Bool.{Bool, cond}
 use mathlib.Core.List.{List, [], _∷_, _++_}
 use mathlib.Core.Path.{_≡_}
 use Prim.Native.Nat.{ℕ, suc, _+_, _≤_}
@@ -7,7 +7,7 @@ use lib.Dec.{eqb, ltb}
 use lib.ListN.{length, take, drop}
 use Rattle.script.specs.declared.input.Found.{Found}
 use Rattle.script.specs.declared.input.Found.the-variants as found
-use Rattle.script.specs.Parts.{bytesFrom, restOf}
+use Rattle.script.specs.Parts.{bytesFrom}
 
 -- the bytes before the first newline, 10, or all
 unfoldable pub lineLength : List ℕ → ℕ

@@ -1,7 +1,7 @@
 -- The states that a script reaches from a server just made (document 01, "The script program"), and what its steps are there: the server's own calls,
 -- with the test of 35. So a script is a history of calls, and what is proved of histories holds of it. Assumes nothing.
 use mathlib.Core.Path.{_≡_}
-use mathlib.Core.Bool.{Bool, true, false, cond}
+use mathlib.Core.Bool.{true, cond}
 use mathlib.Core.List.{List}
 use mathlib.Core.Option.{Option, none, some}
 use Prim.Native.Nat.{ℕ, _≤_, _<_}
@@ -10,7 +10,7 @@ use lib.ListN.{length, take, replicate}
 use Rattle.session.specs.declared.reply.Answer.the-variants as answer
 use Rattle.server.specs.declared.Server.{Server}
 use Rattle.server.specs.State.{Lent, Outcome}
-use Rattle.history.specs.Calls.{Call, login, receive, request, lose, State, state, Start, legal, made, History, start, _▸_, after}
+use Rattle.history.specs.Calls.{Call, login, receive, request, lose, state, Start, legal, made, History, start, _▸_, after}
 use Rattle.history.specs.Calls as server
 use Rattle.lines.specs.declared.commands.Command.{Command}
 use Rattle.script.specs.declared.doing.Doing.{Doing}
@@ -20,7 +20,7 @@ use Rattle.script.specs.Parts.{bytesFrom}
 use Rattle.script.specs.Doing.{sessionOf}
 use Rattle.script.specs.Calling.{callOf}
 use Rattle.script.specs.Printing.{lineFor}
-use Rattle.script.specs.Day.{dayOf, beginOf, Stepping, stepOf}
+use Rattle.script.specs.Day.{dayOf, beginOf, stepOf}
 
 -- ---- what a program does with a script
 

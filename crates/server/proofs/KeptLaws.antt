@@ -1,13 +1,12 @@
 -- On a sound state the calls without the test of 35 are the calls with it. Assumes nothing.
 use mathlib.Core.Path.{_≡_, ap}
-use mathlib.Core.Bool.{Bool, true, false, cond}
-use mathlib.Core.List.{List, []}
+use mathlib.Core.Bool.{Bool, true, false}
+use mathlib.Core.List.{List}
 use Prim.Native.Nat.{ℕ}
 use lib.ListN.{length}
 use Rattle.server.specs.declared.Server.{Server}
 use Rattle.server.specs.declared.check.Check.{Check}
-use Rattle.server.specs.declared.check.Check.the-variants.{Go, Refuse}
-use Rattle.server.specs.State.{Lent, lent}
+use Rattle.server.specs.State.{Lent}
 use Rattle.server.specs.Check.{soundParts, checkParts, checkOf}
 use Rattle.server.specs.Calls.{onCheck, receiveOf, onLogin, loginOf, onLose, loseOf, onRequest, requestOf}
 use Rattle.server.specs.Kept.{keptParts, keptCheck, receiveKept, loginKept, loseKept, requestKept}

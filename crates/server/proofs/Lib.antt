@@ -1,3 +1,4 @@
 pub mod CheckLaws
 pub mod SendLaws
 pub mod KeptLaws
+pub mod Answering

@@ -1,16 +1,14 @@
 -- The calls of the driver (document 01). Each is one definition of all that it is handed: the answer, the server, the slices and the output
 -- afterwards. Assumes nothing.
 use mathlib.Core.Path.{_≡_}
-use mathlib.Core.Bool.{Bool, true, false, cond}
+use mathlib.Core.Bool.{true, false}
 use mathlib.Core.List.{List}
-use Prim.Native.Nat.{ℕ, _+_, _*_, _≤_, _<_}
+use Prim.Native.Nat.{ℕ, _+_, _*_, _≤_}
 use lib.ListN.{length, replicate}
-use Rattle.session.specs.declared.state.Session.{Session}
-use Rattle.session.specs.declared.reply.Answer.{Answer}
 use Rattle.session.specs.declared.reply.Answer.the-variants as answer
 use Rattle.session.specs.declared.reply.Reply.the-variants.{Login}
 use Rattle.session.specs.State.{closedSession, freshSession, withHeld}
-use Rattle.session.specs.Reply.{Told, answered}
+use Rattle.session.specs.Reply.{answered}
 use Rattle.carry.specs.Turn.{mem, Turned}
 use Rattle.server.specs.declared.Server.{Server}
 use Rattle.server.specs.declared.Done.{Done}

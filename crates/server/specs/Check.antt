@@ -1,7 +1,7 @@
 -- The local refusals (document 01, "Refusals by number"): "Order: 33, 35, 34, 32 first." Assumes nothing.
 use mathlib.Core.Bool.{Bool, true, false, cond, not}
 use mathlib.Core.List.{List}
-use Prim.Native.Nat.{ℕ, _+_, _*_, _-_}
+use Prim.Native.Nat.{ℕ, _*_, _-_}
 use lib.Dec.{eqb, leb, ltb}
 use lib.ListN.{length, take}
 use Rattle.table.specs.Table.{files}

@@ -1,10 +1,10 @@
 -- What is due on the downlink at a request (document 01, "Downlink"): "Each further request by the driver yields one DATA of up to 256 bytes, as
 -- full as can be, then DATA_END; with nothing due it yields nothing and changes nothing." Assumes nothing.
-use mathlib.Core.Bool.{Bool, true, false, cond}
+use mathlib.Core.Bool.{cond}
 use mathlib.Core.List.{List, _++_}
 use Prim.Native.Nat.{ℕ, _+_, _-_, _%_}
 use lib.Dec.{ltb}
-use lib.ListN.{length, drop, replicate}
+use lib.ListN.{drop, replicate}
 use Rattle.packet.specs.Packet.{packetOf}
 use Rattle.session.specs.declared.state.Session.{Session}
 use Rattle.session.specs.declared.state.Downlink.{Downlink}

@@ -1,7 +1,7 @@
 -- The server's state: what it holds by value, and the slices that are lent to each call. Assumes nothing.
 use mathlib.Core.List.{List, _++_}
 use Prim.Native.Nat.{ℕ, _+_, _*_, _/_}
-use lib.ListN.{length, getD, set, take, drop}
+use lib.ListN.{getD, set, take, drop}
 use Rattle.session.specs.declared.state.Session.{Session}
 use Rattle.session.specs.declared.reply.Answer.{Answer}
 use Rattle.session.specs.State.{closedSession}

@@ -5,7 +5,7 @@ use lib.ListN.{length, take, drop}
 use Rattle.packet.specs.declared.frame.Frame.{Frame}
 use Rattle.packet.specs.declared.frame.Frame.the-variants.{Open, TooLong, Whole, Refused}
 use Rattle.packet.specs.declared.frame.Framed.{Framed}
-use Rattle.packet.specs.Frame.{Heard, receiveOf}
+use Rattle.packet.specs.Frame.{receiveOf}
 use Rattle.session.specs.declared.state.Session.{Session}
 use Rattle.table.specs.Table.{files}
 use Rattle.decide.specs.Decide.{decideOf}

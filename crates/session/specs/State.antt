@@ -1,6 +1,6 @@
 -- A session's state (document 01, "Two states a session"): "Each session carries an uplink state and a downlink state that move
 -- separately." Assumes nothing.
-use mathlib.Core.Bool.{Bool, true, false}
+use mathlib.Core.Bool.{true, false}
 use Prim.Native.Nat.{ℕ}
 use Rattle.session.specs.declared.state.Uplink.{Uplink}
 use Rattle.session.specs.declared.state.Uplink.the-variants as up

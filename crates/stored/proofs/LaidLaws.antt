@@ -22,6 +22,7 @@ use Rattle.header.proofs.Walk.{item-within, head-short, head-end, head-zero, he
 use Rattle.header.proofs.Written.{Bytes, bytes-drop}
 use Rattle.equation.specs.Holds.{Relation}
 use Rattle.equation.specs.Marks.{settledBy}
+use Rattle.equation.proofs.Settled.{fields-short}
 use Rattle.stored.proofs.Feeding.{cut}
 use Rattle.stored.specs.Laid.{laidAt, laidFrom, laid, Lies, Row}
 
@@ -211,12 +212,6 @@ item-bytes xs at m =
 
 -- ---- the mark
 
-short-fields : (file : List ℕ) → length file < 2 → fieldsOf file ≡ []
-unfolding fieldsOf marked
-short-fields [] h = refl
-short-fields (a ∷ []) h = refl
-short-fields (a ∷ b ∷ bs) h = absurd (omega arith)
-
 marked-fields : (file : List ℕ) → 2 ≤ length file → getD file 0 0 ≡ 170 → getD file 1 0 ≡ 85 → fieldsOf file ≡ walk 0 (drop 2 file) .items
 unfolding fieldsOf marked
 marked-fields [] h e f = absurd (omega arith)
@@ -242,7 +237,7 @@ module _ (disk row : List ℕ) (n : ℕ) (rs : List Relation) (ms : List ℕ) wh
   none-met e = rw e
 
   pub met-short : n < 2 → ms ≡ settledBy (fieldsOf (laid disk row n)) rs ms
-  met-short h = none-met (short-fields (laid disk row n) (omega (arith, laid-length disk row 0 n)))
+  met-short h = none-met (fields-short (laid disk row n) (omega (arith, laid-length disk row 0 n)))
 
   module _ (h : 2 ≤ n) (a : ℕ) (p : a ≡ laidAt disk row 0) where
     first : getD (laid disk row n) 0 0 ≡ a

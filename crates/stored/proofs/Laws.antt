@@ -9,7 +9,7 @@ use lib.Dec.{eqb, leb}
 use lib.ListN.{length, drop, replicate}
 use borrow.Author.Tests.{eqb-true, eq-eqb, leb-true, le-leb}
 use Rattle.blocks.specs.Owners.{blocks}
-use Rattle.blocks.specs.Contents.{held, contents, stored}
+use Rattle.blocks.specs.Contents.{held, stored}
 use Rattle.blocks.proofs.Answers.{disk-fits}
 use Rattle.header.specs.Items.{fieldsOf}
 use Rattle.header.specs.Header.{verdict, checkItems}

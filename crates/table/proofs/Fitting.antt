@@ -5,17 +5,16 @@ use mathlib.Core.List.{List, [], _∷_}
 use Prim.Native.Nat.{ℕ, zero, suc, _+_, _≤_, _<_}
 use native.Mathlib.Omega.{arith}
 use native.Mathlib.Numerals.{add-one}
-use lib.ListN.{length, getD, take, drop, drop-of-length-le}
+use lib.ListN.{length, getD, drop, drop-of-length-le}
 use lib.Seq.{drop-cons, getD-drop}
 use lib.Dec.{eqb, leb}
 use borrow.Author.Tests.{eqb-true, eqb-false, eq-eqb, ne-eqb, leb-true, le-leb, lt-leb}
 use Rattle.table.specs.declared.File.{File}
 use Rattle.table.specs.declared.Key.{Key}
 use Rattle.table.specs.declared.Key.the-variants.{Number, Time}
-use Rattle.table.specs.Table.{noFile, fileAt, uploaded, keyOf, keys, numbers, times}
+use Rattle.table.specs.Table.{noFile, fileAt, keys, numbers, times}
 use Rattle.table.specs.Given.{blocksFor}
 use Rattle.table.specs.Fit.{fileFits, recordFits, recordsFitFrom, recordsFit, same, among, apart, distinctOf, FileFits, Fits, Distinct, Sound}
-use Rattle.table.proofs.Records.{key-at}
 use Rattle.table.proofs.Finding.{by-equal, within}
 
 -- both parts of a test

@@ -7,7 +7,7 @@ use mathlib.Core.List.{List, [], _∷_}
 use lib.ListN.{length, getD}
 use lib.Dec.{eqb, leb}
 use Rattle.table.specs.declared.File.{File}
-use Rattle.table.specs.Table.{fileAt, uploaded, numbers, times}
+use Rattle.table.specs.Table.{fileAt, numbers, times}
 use Rattle.table.specs.Given.{blocksFor}
 
 -- ---- the tests

@@ -1,9 +1,9 @@
 -- `blocks::count_of` meets its contract. The invariant: what is counted and what is left are all blocks of the owner.
-use Prim.Native.Nat.{ℕ, _+_, _-_, _≤_}
-use mathlib.Core.Path.{_≡_, refl, ap}
+use Prim.Native.Nat.{_+_, _-_, _≤_}
+use mathlib.Core.Path.{_≡_, ap}
 use native.Mathlib.Omega.{arith}
 use native.Mathlib.Nat.{zero-add}
-use lib.ListN.{length, take, drop, drop-of-length-le}
+use lib.ListN.{length, drop, drop-of-length-le}
 use Rattle.blocks.specs.Owners.{blocks}
 use Rattle.blocks.proofs.Owners.{blocks-le}
 use Rattle.blocks.proofs.Parts.{part-count, part-size}

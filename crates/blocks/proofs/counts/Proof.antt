@@ -1,9 +1,9 @@
 -- `blocks::counts` meets its contract. The invariant is `Counted`: the counts and what is left are all blocks.
-use Prim.Native.Nat.{ℕ, _+_, _-_, _≤_, _<_}
-use mathlib.Core.Path.{_≡_, refl, ap, _∙_}
+use Prim.Native.Nat.{ℕ, _+_, _-_}
+use mathlib.Core.Path.{refl, ap, _∙_}
 use native.Mathlib.Omega.{arith}
 use native.Mathlib.Nat.{zero-add}
-use lib.ListN.{getD-replicate, length, getD, drop, drop-of-length-le}
+use lib.ListN.{getD-replicate, length, getD, drop-of-length-le}
 use Rattle.blocks.specs.Owners.{blocks}
 use Rattle.blocks.proofs.Owners.{counts-all}
 use Rattle.blocks.proofs.Parts.{Counted, run-fits, run-added}

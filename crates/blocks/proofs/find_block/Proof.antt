@@ -2,7 +2,7 @@
 use Prim.Native.Nat.{ℕ, _+_, _-_, _≤_}
 use mathlib.Core.Path.{_≡_, sym, ap, _∙_}
 use native.Mathlib.Omega.{arith}
-use lib.ListN.{length, drop}
+use lib.ListN.{drop}
 use Rattle.blocks.specs.Owners.{nth}
 use Rattle.blocks.proofs.Parts.{find-start, find-next, find-le}
 use Rattle.blocks.proofs.find_block.Statement.{statement}

@@ -1,6 +1,6 @@
 -- `blocks::next_of` meets its contract. Where block `from` is not the owner's, parts that are none of the owner's are passed over first.
 use Prim.Native.Nat.{_-_}
-use mathlib.Core.Path.{_≡_, refl, sym, _∙_}
+use mathlib.Core.Path.{sym, _∙_}
 use Rattle.blocks.proofs.Owners.{next-here, next-end}
 use borrow.Author.Needs.{needs}
 use Rattle.blocks.proofs.next_of.Statement.{statement}

@@ -1,9 +1,9 @@
 -- `blocks::owners_within` meets its contract. The invariant: an owner passed is above, or what is left to test are the owners from k on.
 use Prim.Native.Nat.{_-_, _≤_}
 use mathlib.Core.Path.{_≡_, refl, sym, ap, _∙_}
-use mathlib.Core.Bool.{Bool, true, false, _&&_}
+use mathlib.Core.Bool.{Bool, _&&_}
 use native.Mathlib.Omega.{arith}
-use lib.ListN.{length, drop, drop-of-length-le}
+use lib.ListN.{length, drop}
 use borrow.Author.Tests.{le-leb, lt-leb}
 use Rattle.blocks.specs.Check.{within}
 use Rattle.blocks.proofs.Steps.{within-step, within-end, and-none, and-all}

@@ -1,8 +1,8 @@
 -- `blocks::pass_parts` meets its contract. The invariant: the search from the block reached finds what the search from the start finds.
-use Prim.Native.Nat.{ℕ, _+_, _-_, _≤_}
+use Prim.Native.Nat.{_+_, _-_, _≤_}
 use mathlib.Core.Path.{_≡_, refl, sym, _∙_}
 use native.Mathlib.Omega.{arith}
-use lib.ListN.{length, take, drop}
+use lib.ListN.{length}
 use Rattle.blocks.specs.Owners.{nextOf}
 use Rattle.blocks.proofs.Parts.{part-size, pass-part}
 use Rattle.blocks.proofs.pass_parts.Statement.{statement}

@@ -1,5 +1,5 @@
 -- `blocks::pass_whole` meets its contract. The invariant: the blocks passed are all of the owner.
-use Prim.Native.Nat.{ℕ, _+_, _-_, _≤_}
+use Prim.Native.Nat.{_+_, _-_, _≤_}
 use mathlib.Core.Path.{_≡_, sym, _∙_}
 use native.Mathlib.Omega.{arith}
 use lib.ListN.{length}

@@ -1,9 +1,9 @@
 -- `blocks::run_end` meets its contract. The run goes on from its first block by single blocks, by parts and by single blocks again.
-use Prim.Native.Nat.{ℕ, _+_, _-_, _≤_}
-use mathlib.Core.Path.{_≡_, refl}
+use Prim.Native.Nat.{_+_, _-_}
+use mathlib.Core.Path.{refl}
 use native.Mathlib.Omega.{arith}
-use lib.ListN.{length, getD}
-use Rattle.blocks.proofs.Parts.{RunTo, run-one, run-join}
+use lib.ListN.{getD}
+use Rattle.blocks.proofs.Parts.{run-one, run-join}
 use borrow.Author.Needs.{needs}
 use Rattle.blocks.proofs.run_end.Statement.{statement}
 use Rattle.blocks.proofs.run_end.Tie as tie

@@ -1,5 +1,5 @@
 -- `blocks::scan_other` meets its contract. The invariant: the blocks passed are all of the owner.
-use Prim.Native.Nat.{ℕ, _+_, _-_, _≤_}
+use Prim.Native.Nat.{_+_, _-_, _≤_}
 use native.Mathlib.Omega.{arith}
 use lib.ListN.{length}
 use Rattle.blocks.proofs.Parts.{RunTo, run-none, run-one, run-join}

@@ -1,9 +1,9 @@
 -- `blocks::skip_parts` meets its contract. The invariant: the block looked for is found from the block reached on, past the blocks left.
-use Prim.Native.Nat.{ℕ, _+_, _-_, _≤_}
-use mathlib.Core.Path.{_≡_, refl, sym, _∙_}
+use Prim.Native.Nat.{_+_, _-_, _≤_}
+use mathlib.Core.Path.{_≡_, sym}
 use native.Mathlib.Omega.{arith}
 use native.Mathlib.Nat.{zero-add}
-use lib.ListN.{length, take, drop}
+use lib.ListN.{length, drop}
 use Rattle.blocks.specs.Owners.{nth}
 use Rattle.blocks.proofs.Parts.{part-size, skip-part}
 use Rattle.blocks.proofs.skip_parts.Statement.{statement}

@@ -1,6 +1,6 @@
 -- `blocks::word_is` meets its contract. The word is 0 where the part has no free block, and all ones where its 64 blocks are free.
-use Prim.Native.Nat.{ℕ, _*_, _-_}
-use mathlib.Core.Path.{_≡_, sym, ap, _∙_}
+use Prim.Native.Nat.{_*_, _-_}
+use mathlib.Core.Path.{sym, ap, _∙_}
 use native.Mathlib.Omega.{arith}
 use lib.Dec.{eqb}
 use Rattle.blocks.proofs.Parts.{owned-part, free-part}

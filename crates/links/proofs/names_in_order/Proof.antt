@@ -1,8 +1,8 @@
 -- `links::names_in_order` meets its contract. The invariant: the numbers before the k-th are those of complete files.
-use Prim.Native.Nat.{ℕ, _-_, _≤_}
+use Prim.Native.Nat.{_-_, _≤_}
 use mathlib.Core.Path.{_≡_, refl, sym, _∙_}
 use native.Mathlib.Omega.{arith}
-use lib.ListN.{length, getD, take, drop}
+use lib.ListN.{getD, take, drop}
 use Rattle.table.specs.Table.{files}
 use Rattle.links.specs.Sound.{namesSound}
 use Rattle.links.proofs.Names.{passed, failed, none-left, named-place, named-none}

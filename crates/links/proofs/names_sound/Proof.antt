@@ -1,5 +1,5 @@
 -- `links::names_sound` meets its contract. Assumes nothing.
-use mathlib.Core.Path.{_≡_, sym, _∙_}
+use mathlib.Core.Path.{sym, _∙_}
 use Rattle.table.specs.declared.Key.the-variants.{Number}
 use Rattle.table.specs.Table.{files}
 use Rattle.table.proofs.Fitting.{distinct-facts}

@@ -5,7 +5,6 @@ use mathlib.Core.Path.{_≡_, refl, _∙_}
 use mathlib.Core.List.{List}
 use Prim.Native.Nat.{ℕ}
 use lib.ListN.{length}
-use borrow.Author.Needs.{needs}
 use Rattle.passday.proofs.play.Statement.{statement}
 use Rattle.passday.proofs.play.Tie as tie
 use Rattle.passday.proofs.play.Reads as reads

@@ -1,6 +1,5 @@
 -- `stored::settle_items` meets its contract. The invariant is that of the equation's walk over the items, which begin at byte 2.
-use mathlib.Core.Path.{_≡_}
-use Prim.Native.Nat.{_+_, _-_}
+use Prim.Native.Nat.{_-_}
 use native.Mathlib.Omega.{arith}
 use lib.ListN.{length, drop, length-drop}
 use Rattle.header.specs.declared.items.Head.the-variants.{Broken, End}

@@ -1,10 +1,8 @@
 -- `table::all_apart` meets its contract. The invariant is `Down`: the values from `at` on are apart, and none of them but 0 is below `low`.
-use Prim.Native.Nat.{ℕ, _+_, _-_}
-use mathlib.Core.Path.{_≡_, refl, sym, ap, _∙_}
-use mathlib.Core.Bool.{true, false}
+use Prim.Native.Nat.{_-_}
+use mathlib.Core.Path.{refl, sym, _∙_}
 use native.Mathlib.Omega.{arith}
-use lib.ListN.{length, getD, drop}
-use Rattle.table.specs.Fit.{among, apart}
+use lib.ListN.{getD}
 use Rattle.table.proofs.Fitting.{Down, down-start, down-lower, down-other, down-done, down-twice}
 use borrow.Author.Needs.{needs}
 use Rattle.table.proofs.all_apart.Statement.{statement}

@@ -1,8 +1,7 @@
 -- `table::distinct` meets its contract. The numbers are tested, then the times.
-use mathlib.Core.Path.{_≡_, sym, ap, _∙_}
-use mathlib.Core.Bool.{Bool, cond, true, false}
+use mathlib.Core.Path.{sym, ap, _∙_}
+use mathlib.Core.Bool.{Bool, cond, false}
 use native.Mathlib.Omega.{arith}
-use lib.ListN.{length}
 use Rattle.table.specs.Table.{files, times}
 use Rattle.table.specs.Fit.{apart}
 use Rattle.table.proofs.Fitting.{distinct-by, distinct-past}

@@ -1,9 +1,8 @@
 -- `table::keys_apart` meets its contract. Where the values do not rise, they are tested in a row.
-use mathlib.Core.Path.{_≡_, sym, ap, _∙_}
+use mathlib.Core.Path.{sym, ap, _∙_}
 use native.Mathlib.Omega.{arith}
-use mathlib.Core.List.{List}
 use Prim.Native.Nat.{ℕ}
-use lib.ListN.{length, take}
+use lib.ListN.{take}
 use lib.Seq.{length-take-le}
 use Rattle.table.specs.Fit.{apart}
 use borrow.Author.Needs.{needs}

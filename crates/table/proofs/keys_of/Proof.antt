@@ -1,6 +1,6 @@
 -- `table::keys_of` meets its contract. The invariant: the values up to `at` are the keys of the places up to `at`.
-use Prim.Native.Nat.{ℕ, _+_, _-_, _≤_}
-use mathlib.Core.Path.{_≡_, refl, sym, ap, _∙_}
+use Prim.Native.Nat.{ℕ, _-_, _≤_}
+use mathlib.Core.Path.{_≡_, refl, ap, _∙_}
 use native.Mathlib.Omega.{arith}
 use lib.ListN.{length, take, length-set, length-replicate}
 use Rattle.table.specs.Table.{files, keys}

@@ -1,8 +1,7 @@
 -- `table::record_at` meets its contract. The four words of the place are its record.
 use Prim.Native.Nat.{_-_}
 use mathlib.Core.Path.{sym}
-use native.Mathlib.Omega.{arith}
-use Rattle.table.proofs.Records.{file-words, length-files}
+use Rattle.table.proofs.Records.{file-words}
 use borrow.Author.Needs.{needs}
 use Rattle.table.proofs.record_at.Statement.{statement}
 use Rattle.table.proofs.record_at.Tie as tie

@@ -1,6 +1,6 @@
 -- `table::rise` meets its contract. The invariant is `Down`, on the numbers or the times of the records.
-use Prim.Native.Nat.{ℕ, _+_, _-_}
-use mathlib.Core.Path.{_≡_, refl, sym, ap, _∙_, subst}
+use Prim.Native.Nat.{ℕ, _-_}
+use mathlib.Core.Path.{_≡_, sym, ap, _∙_, subst}
 use mathlib.Core.Bool.{true, false}
 use mathlib.Core.List.{List}
 use native.Mathlib.Omega.{arith}
@@ -8,7 +8,6 @@ use lib.ListN.{length, length-map}
 use Rattle.table.specs.declared.File.{File}
 use Rattle.table.specs.declared.Key.{Key}
 use Rattle.table.specs.Table.{files, keyOf, keys}
-use Rattle.table.specs.Fit.{apart}
 use Rattle.table.proofs.Fitting.{Down, down-start, down-lower, down-done}
 use Rattle.table.proofs.Records.{key-at}
 use borrow.Author.Needs.{needs}

@@ -1,5 +1,5 @@
 -- `equation::evaluation::evaluate` meets its contract. 511 marks are enough for 2,047 bytes. Assumes nothing.
-use mathlib.Core.Path.{sym, ap, _∙_}
+use mathlib.Core.Path.{ap, _∙_}
 use mathlib.Core.List.{List}
 use Prim.Native.Nat.{ℕ}
 use native.Mathlib.Omega.{arith}

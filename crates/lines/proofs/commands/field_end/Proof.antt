@@ -4,8 +4,7 @@ use Rattle.lines.proofs.commands.field_end.Reads as reads
 use Rattle.lines.proofs.commands.field_end.Lts as lts
 use native.Mathlib.Omega.{arith}
 use mathlib.Core.Path.{_≡_, refl, sym, _∙_}
-use Prim.Native.Nat.{_≤_, _-_, _+_}
-use borrow.Author.Needs.{needs}
+use Prim.Native.Nat.{_-_}
 use lib.ListN.{length}
 use Rattle.lines.specs.Reading.{fieldEnd}
 use Rattle.lines.proofs.FieldLaws.{end-next, end-tab, end-line}

@@ -8,7 +8,7 @@ use Rattle.lines.proofs.commands.field_end.Reads as field-end-reads
 use Rattle.lines.proofs.commands.number_to.Reads as number-to-reads
 use Rattle.lines.proofs.commands.read_rx.Reads as read-rx-reads
 use native.Mathlib.Omega.{arith}
-use mathlib.Core.Path.{_≡_, sym, _∙_}
+use mathlib.Core.Path.{sym, _∙_}
 use lib.Seq.{length-take-le}
 use Rattle.lines.proofs.FieldLaws.{one-field, two-fields, three-bad, three-value}
 

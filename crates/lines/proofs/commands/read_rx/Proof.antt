@@ -5,7 +5,7 @@ use Rattle.lines.proofs.commands.read_rx.Reads as reads
 use Rattle.lines.proofs.commands.read_rx.Lts as lts
 use Rattle.lines.proofs.numeral.hex.Reads as hex-reads
 use Rattle.lines.proofs.commands.same_text.Reads as same-text-reads
-use mathlib.Core.Path.{_≡_, sym, _∙_}
+use mathlib.Core.Path.{sym, _∙_}
 use lib.ListN.{drop}
 use Rattle.packet.specs.Names.{bytesOf}
 use Rattle.lines.proofs.FieldLaws.{rx-bad, rx-bytes, rx-other}

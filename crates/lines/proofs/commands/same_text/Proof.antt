@@ -4,8 +4,7 @@ use Rattle.lines.proofs.commands.same_text.Reads as reads
 use Rattle.lines.proofs.commands.same_text.Lts as lts
 use native.Mathlib.Omega.{arith}
 use mathlib.Core.Path.{_≡_, refl, sym, _∙_}
-use Prim.Native.Nat.{_≤_, _-_, _+_}
-use borrow.Author.Needs.{needs}
+use Prim.Native.Nat.{_≤_, _-_}
 use lib.ListN.{length, drop}
 use Rattle.lines.specs.Commands.{same}
 use Rattle.lines.proofs.FieldLaws.{same-next, same-stop, same-end, same-lengths}

@@ -1,6 +1,6 @@
 use native.Mathlib.Omega.{arith}
-use mathlib.Core.Path.{_≡_, sym, _∙_}
-use lib.ListN.{length, drop, length-drop}
+use mathlib.Core.Path.{sym, _∙_}
+use lib.ListN.{drop, length-drop}
 use Rattle.lines.proofs.NumeralLaws.{hex-odd, hex-end}
 use Rattle.lines.proofs.PairLaws.{even-digits}
 use borrow.Author.Needs.{needs}

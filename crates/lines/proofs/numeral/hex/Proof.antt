@@ -6,7 +6,7 @@ use Rattle.lines.proofs.numeral.hex.Lts as lts
 use Rattle.lines.proofs.numeral.has_pairs.Reads as has-pairs-reads
 use Rattle.lines.proofs.numeral.put_pairs.Reads as put-pairs-reads
 use native.Mathlib.Omega.{arith}
-use mathlib.Core.Path.{_≡_, sym, _∙_}
+use mathlib.Core.Path.{sym, _∙_}
 use Rattle.lines.proofs.NumeralLaws.{hex-empty, hex-short, hex-whole, hex-bad, bytes-of}
 
 returns : tie.Need-returns

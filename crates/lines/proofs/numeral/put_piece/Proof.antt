@@ -1,5 +1,4 @@
-use native.Mathlib.Omega.{arith}
-use mathlib.Core.Path.{_≡_, sym, _∙_}
+use mathlib.Core.Path.{_∙_}
 use Rattle.lines.proofs.PairLaws.{zeros-length, zeros-pairs, front-within, front-length, front-put}
 use borrow.Author.Needs.{needs}
 use Rattle.lines.proofs.numeral.put_piece.Statement.{statement}

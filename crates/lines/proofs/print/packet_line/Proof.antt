@@ -5,9 +5,8 @@ use Rattle.lines.proofs.print.packet_line.Reads as reads
 use Rattle.lines.proofs.print.packet_line.Lts as lts
 use Rattle.lines.proofs.print.sent_line.Reads as sent-line-reads
 use native.Mathlib.Omega.{arith}
-use lib.ListN.{length, length-drop, length-take}
 use Rattle.lines.proofs.LineLaws.{no-head, too-long, no-type, has-line}
-use mathlib.Core.Path.{_≡_, ap, _∙_}
+use mathlib.Core.Path.{ap, _∙_}
 use mathlib.Core.List.{List}
 use Prim.Native.Nat.{ℕ}
 use Rattle.lines.specs.Lines.{printedIn}

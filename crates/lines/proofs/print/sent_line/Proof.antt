@@ -9,8 +9,8 @@ use Rattle.lines.proofs.write.width.Reads as width-reads
 use Rattle.packet.proofs.bytes.store.Reads as store-reads
 use Rattle.packet.proofs.names.name_of.Reads as name-of-reads
 use native.Mathlib.Omega.{arith}
-use mathlib.Core.Path.{_≡_, refl, ap, sym, _∙_}
-use lib.ListN.{length, length-set, length-append}
+use mathlib.Core.Path.{sym}
+use lib.ListN.{length-set}
 use lib.Seq.{length-take-le}
 use Rattle.lines.proofs.TextLaws.{digits-most}
 use Rattle.lines.proofs.Writing.{printed-none}

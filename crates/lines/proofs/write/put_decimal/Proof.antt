@@ -4,12 +4,11 @@ use Rattle.lines.proofs.write.put_decimal.Reads as reads
 use Rattle.lines.proofs.write.put_decimal.Lts as lts
 use native.Mathlib.Omega.{arith}
 use mathlib.Core.Path.{_≡_, refl}
-use Prim.Native.Nat.{_≤_, _-_, _+_, _*_, _/_}
-use borrow.Author.Needs.{needs}
+use Prim.Native.Nat.{_≤_, _-_, _+_, _/_}
 use lib.ListN.{length, length-set}
 use lib.Seq.{sets}
 use Rattle.lines.specs.Text.{decimalOf}
-use Rattle.lines.proofs.TextLaws.{digits-one, digits-more, digits-some}
+use Rattle.lines.proofs.TextLaws.{digits-more, digits-some}
 use Rattle.lines.proofs.Writing.{decimal-step, decimal-end}
 
 abbrev Inv-loop : tie.InvT-loop

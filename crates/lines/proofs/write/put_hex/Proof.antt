@@ -6,7 +6,6 @@ use Rattle.lines.proofs.write.hex_digit.Reads as hex-digit-reads
 use native.Mathlib.Omega.{arith}
 use mathlib.Core.Path.{_≡_, refl}
 use Prim.Native.Nat.{_≤_, _-_, _+_, _*_}
-use borrow.Author.Needs.{needs}
 use lib.ListN.{length, drop, length-set}
 use lib.Seq.{sets}
 use Rattle.lines.specs.Text.{hexOf}

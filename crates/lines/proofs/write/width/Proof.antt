@@ -3,9 +3,8 @@ use Rattle.lines.proofs.write.width.Tie as tie
 use Rattle.lines.proofs.write.width.Reads as reads
 use Rattle.lines.proofs.write.width.Lts as lts
 use native.Mathlib.Omega.{arith}
-use mathlib.Core.Path.{_≡_, refl}
-use Prim.Native.Nat.{_≤_, _-_, _+_, _*_}
-use borrow.Author.Needs.{needs}
+use mathlib.Core.Path.{_≡_}
+use Prim.Native.Nat.{_-_, _+_}
 use lib.ListN.{length}
 use Rattle.lines.specs.Text.{decimalOf}
 use Rattle.lines.proofs.TextLaws.{digits-most, digits-one, digits-more, digits-some}

@@ -2,7 +2,7 @@ use native.Mathlib.Omega.{arith}
 use Prim.Native.Nat.{_≤_, _-_, _+_}
 use mathlib.Core.Path.{_≡_}
 use lib.ListN.{length, length-set}
-use lib.Seq.{paste, length-paste}
+use lib.Seq.{paste}
 use borrow.Author.Needs.{needs}
 use Rattle.packet.proofs.NumberLaws.{refused-at, accepted-at, unstored-at, stored-none, stored-next, stored-all}
 use Rattle.packet.proofs.bytes.store.Statement.{statement}

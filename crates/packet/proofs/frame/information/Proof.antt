@@ -1,9 +1,4 @@
-use Rattle.packet.specs.Numbers.{storedAt}
-use lib.ListN.{replicate}
 use native.Mathlib.Omega.{arith}
-use mathlib.Core.Path.{_≡_, refl, sym, ap, _∙_}
-use lib.ListN.{length, take, drop, length-drop}
-use lib.Seq.{length-take-le}
 use Rattle.packet.proofs.FrameLaws.{taken-out}
 use borrow.Author.Needs.{needs}
 use Rattle.packet.proofs.frame.information.Statement.{statement}

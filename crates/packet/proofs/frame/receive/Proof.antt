@@ -1,6 +1,5 @@
 use native.Mathlib.Omega.{arith}
-use mathlib.Core.Path.{_≡_, refl, sym, ap, _∙_}
-use lib.ListN.{length}
+use mathlib.Core.Path.{_∙_}
 use Rattle.packet.proofs.FrameLaws.{refused-size, refused-count, end-size, heard-more, heard-long, heard-end}
 use borrow.Author.Needs.{needs}
 use Rattle.packet.proofs.frame.receive.Statement.{statement}

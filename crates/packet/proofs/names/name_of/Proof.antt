@@ -1,4 +1,4 @@
-use mathlib.Core.Path.{_≡_, refl, sym}
+use mathlib.Core.Path.{sym}
 use native.Mathlib.Omega.{arith}
 use Rattle.packet.specs.Names.{names, bytesOf}
 use Rattle.packet.proofs.NameLaws.{unnamed, rows, row, size}

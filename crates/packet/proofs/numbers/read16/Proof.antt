@@ -1,7 +1,7 @@
 use Rattle.packet.specs.Numbers.{number}
 use Rattle.packet.specs.declared.numbers.Number.the-variants.{Value}
 use native.Mathlib.Omega.{arith}
-use mathlib.Core.Path.{_≡_, sym, ap, _∙_}
+use mathlib.Core.Path.{sym, ap, _∙_}
 use Rattle.packet.proofs.NumberLaws.{short-at, value-at, taken2}
 use borrow.Author.Needs.{needs}
 use Rattle.packet.proofs.numbers.read16.Statement.{statement}

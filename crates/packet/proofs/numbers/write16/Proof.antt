@@ -1,5 +1,4 @@
 use native.Mathlib.Omega.{arith}
-use mathlib.Core.Path.{_≡_, sym, ap, _∙_}
 use lib.ListN.{length-set}
 use Rattle.packet.proofs.NumberLaws.{refused-at, accepted-at, unstored-at, stored2}
 use borrow.Author.Needs.{needs}

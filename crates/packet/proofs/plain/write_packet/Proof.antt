@@ -1,6 +1,6 @@
 use native.Mathlib.Omega.{arith}
-use mathlib.Core.Path.{_≡_, refl, sym, _∙_}
-use lib.ListN.{length, length-set}
+use mathlib.Core.Path.{refl, _∙_}
+use lib.ListN.{length-set}
 use Rattle.packet.specs.Packet.{leftIn}
 use Rattle.packet.proofs.PacketLaws.{stored-packet, refused-kind, refused-long, refused-room, accepted}
 use borrow.Author.Needs.{needs}

@@ -1,5 +1,4 @@
 use native.Mathlib.Omega.{arith}
-use borrow.Author.Needs.{needs}
 use Rattle.script.proofs.InputLaws.{none-passed}
 use Rattle.script.proofs.input.line_length.Statement.{statement}
 use Rattle.script.proofs.input.line_length.Tie as tie

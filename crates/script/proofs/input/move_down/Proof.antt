@@ -5,8 +5,8 @@ use Rattle.script.proofs.input.move_down.Lts as lts
 use Prim.Native.Nat.{ℕ, _+_, _-_, _≤_}
 use native.Mathlib.Omega.{arith}
 use native.Mathlib.Numerals.{add-one}
-use mathlib.Core.Path.{_≡_, refl, sym, _∙_, ap}
-use lib.ListN.{length, drop, length-set}
+use mathlib.Core.Path.{_≡_, refl, _∙_, ap}
+use lib.ListN.{length, length-set}
 use Rattle.script.specs.Input.{movedOf}
 use Rattle.script.proofs.InputLaws.{move-step, move-none}
 

@@ -3,10 +3,10 @@ use Rattle.script.proofs.input.newline_from.Statement.{statement}
 use Rattle.script.proofs.input.newline_from.Tie as tie
 use Rattle.script.proofs.input.newline_from.Reads as reads
 use Rattle.script.proofs.input.newline_from.Lts as lts
-use Prim.Native.Nat.{ℕ, _+_, _-_, _≤_}
+use Prim.Native.Nat.{_+_, _-_}
 use native.Mathlib.Omega.{arith}
 use native.Mathlib.Numerals.{add-one}
-use mathlib.Core.Path.{_≡_, refl, sym, _∙_}
+use mathlib.Core.Path.{_≡_}
 use lib.ListN.{length, drop}
 use Rattle.script.specs.Input.{lineLength}
 use Rattle.script.proofs.InputLaws.{line-here, line-on, line-end}

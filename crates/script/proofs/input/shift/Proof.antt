@@ -6,7 +6,6 @@ use Rattle.script.proofs.input.shift.Lts as lts
 use Rattle.script.proofs.input.move_down.Reads as move-down-reads
 use Rattle.script.proofs.parts.least.Reads as least-reads
 use Rattle.script.proofs.parts.rest.Reads as rest-reads
-use mathlib.Core.Path.{_∙_}
 use Rattle.script.proofs.PartLaws.{rest-room}
 use Rattle.script.proofs.InputLaws.{shift-part}
 

@@ -4,7 +4,6 @@ use Rattle.script.proofs.printing.show_packet.Tie as tie
 use Rattle.script.proofs.printing.show_packet.Reads as reads
 use Rattle.script.proofs.printing.show_packet.Lts as lts
 use Rattle.lines.proofs.print.packet_line.Reads as packet-line-reads
-use native.Mathlib.Omega.{arith}
 use lib.Seq.{take-all, length-take-le}
 use mathlib.Core.Path.{sym}
 use native.Mathlib.Nat.{le-of-lt}

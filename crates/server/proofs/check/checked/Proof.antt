@@ -1,5 +1,4 @@
-use mathlib.Core.Path.{_≡_, sym, _∙_}
-use lib.ListN.{length}
+use mathlib.Core.Path.{sym, _∙_}
 use Rattle.server.specs.Check.{checkParts}
 use Rattle.server.proofs.CheckLaws.{sizes-true, room-true, both-true}
 use borrow.Author.Needs.{needs}

@@ -1,4 +1,4 @@
-use mathlib.Core.Path.{_≡_, sym, _∙_}
+use mathlib.Core.Path.{sym, _∙_}
 use Rattle.server.proofs.CheckLaws.{sizes-true}
 use borrow.Author.Needs.{needs}
 use Rattle.server.proofs.check.fits_all.Statement.{statement}

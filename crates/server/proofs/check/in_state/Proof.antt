@@ -1,4 +1,3 @@
-use mathlib.Core.Path.{_≡_, refl}
 use Rattle.server.specs.Check.{inState}
 use Rattle.server.proofs.check.in_state.Statement.{statement}
 use Rattle.server.proofs.check.in_state.Tie as tie

@@ -1,4 +1,4 @@
-use mathlib.Core.Path.{_≡_, refl, sym, _∙_}
+use mathlib.Core.Path.{refl, sym, _∙_}
 use Rattle.server.specs.Kept.{requestKept}
 use Rattle.server.proofs.CheckLaws.{kept-go, go-due, request-parts}
 use borrow.Author.Needs.{needs}

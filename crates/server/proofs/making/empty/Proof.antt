@@ -1,6 +1,5 @@
-use mathlib.Core.Path.{_≡_, sym}
+use mathlib.Core.Path.{sym}
 use Prim.Native.Nat.{_*_}
-use lib.ListN.{length, take}
 use lib.Seq.{length-take-le}
 use Rattle.server.specs.Making.{emptyOf}
 use borrow.Author.Needs.{needs}

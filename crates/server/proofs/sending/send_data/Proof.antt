@@ -1,5 +1,3 @@
-use native.Mathlib.Omega.{arith}
-use mathlib.Core.Path.{_≡_, sym, ap, _∙_}
 use Rattle.server.specs.Sending.{dataOf}
 use Rattle.server.proofs.SendLaws.{zeros, zeros-length, front-within, front-length, data-sent}
 use borrow.Author.Needs.{needs}

@@ -1,5 +1,4 @@
 use native.Mathlib.Omega.{arith}
-use mathlib.Core.Path.{_≡_, sym, ap, _∙_}
 use Rattle.packet.specs.Packet.{leftIn}
 use Rattle.packet.proofs.PacketLaws.{accepted}
 use borrow.Author.Needs.{needs}
