@@ -10,6 +10,7 @@ pub mod Parts
 pub mod Held
 pub mod Joined
 pub mod Others
+pub mod Own
 pub mod CutCalls
 pub mod Earlier
 pub mod Feeding
