@@ -12,6 +12,7 @@ pub mod Joined
 pub mod Others
 pub mod Own
 pub mod CutCalls
+pub mod Bare
 pub mod Earlier
 pub mod Feeding
 pub mod Demand2
