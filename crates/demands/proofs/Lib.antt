@@ -14,6 +14,7 @@ pub mod Own
 pub mod CutCalls
 pub mod Bare
 pub mod Earlier
+pub mod Flushed
 pub mod Feeding
 pub mod Demand2
 pub mod Acts
