@@ -41,6 +41,41 @@ infixr 20 _then_
 pub _then_ : {s : Start} {h k m : History} → SameAfter s h k → SameAfter s k m → SameAfter s h m
 v then w = record { state = v .state ∙ w .state; seen = v .seen ∙ w .seen }
 
+-- ---- the bytes that wait
+
+-- a call that lends them; its clock and its output do not matter
+abbrev pub lends : ℕ → List ℕ → Call
+lends session xs = receive session 0 xs (replicate 258 0)
+
+-- those of the sessions 1 to n, after a history
+unfoldable pub flush : ℕ → History → (ℕ → List ℕ) → History
+flush zero h w = h
+flush (suc n) h w = flush n h w ▸ lends (suc n) (w (suc n))
+
+pub flush-same : (n : ℕ) (h : History) (w v : ℕ → List ℕ) → ((j : ℕ) → 1 ≤ j → j ≤ n → w j ≡ v j) → flush n h w ≡ flush n h v
+unfolding flush
+flush-same zero h w v e = refl
+flush-same (suc n) h w v e =
+    ap (λ (k : History). k ▸ lends (suc n) (w (suc n))) (flush-same n h w v (λ j a b. e j a (omega arith)))
+    ∙ ap (λ (xs : List ℕ). flush n h v ▸ lends (suc n) xs) (e (suc n) (omega arith) (omega arith))
+
+-- ---- other bytes for one session
+
+pub with-own : (w : ℕ → List ℕ) (session : ℕ) (bytes : List ℕ) (k : ℕ) → k ≡ session → waitingWith w session bytes k ≡ bytes
+with-own w session bytes k e = ap (λ (b : Bool). cond b bytes (w k)) (eq-eqb k session e)
+
+pub with-other : (w : ℕ → List ℕ) (session : ℕ) (bytes : List ℕ) (k : ℕ) → (k ≡ session → ⊥) → waitingWith w session bytes k ≡ w k
+with-other w session bytes k e = ap (λ (b : Bool). cond b bytes (w k)) (ne-eqb k session e)
+
+pub with-each : (w : ℕ → List ℕ) (session : ℕ) (bytes : List ℕ) (k : ℕ) (P : List ℕ → Type 0) → (k ≡ session → P bytes)
+    → ((k ≡ session → ⊥) → P (w k))
+    → P (waitingWith w session bytes k)
+with-each w session bytes k P own other = go (eqb k session) refl
+  where
+    go : (t : Bool) → eqb k session ≡ t → P (cond t bytes (w k))
+    go true q = own (eqb-true k session q)
+    go false q = other (eqb-false k session q)
+
 module _ (s : Start) (lawful : legal s ≡ true) where
   -- a call that is refused
   pub refused-after : (h : History) (c : Call) (n : ℕ)
@@ -115,15 +150,6 @@ module _ (s : Start) (lawful : legal s ≡ true) where
 
   -- ---- the bytes that wait
 
-  -- a call that lends them; its clock and its output do not matter
-  abbrev pub lends : ℕ → List ℕ → Call
-  lends session xs = receive session 0 xs (replicate 258 0)
-
-  -- those of the sessions 1 to n, after a history
-  unfoldable pub flush : ℕ → History → (ℕ → List ℕ) → History
-  flush zero h w = h
-  flush (suc n) h w = flush n h w ▸ lends (suc n) (w (suc n))
-
   -- they end nothing
   abbrev pub Still : History → (ℕ → List ℕ) → Type 0
   Still h w = (j : ℕ) → 1 ≤ j → endsIn s h j (w j) ≡ none
@@ -132,13 +158,6 @@ module _ (s : Start) (lawful : legal s ≡ true) where
   unfolding flush
   flush-also zero h k w e = e
   flush-also (suc n) h k w e = also-after s lawful (flush n h w) (flush n k w) (flush-also n h k w e) (lends (suc n) (w (suc n)))
-
-  pub flush-same : (n : ℕ) (h : History) (w v : ℕ → List ℕ) → ((j : ℕ) → 1 ≤ j → j ≤ n → w j ≡ v j) → flush n h w ≡ flush n h v
-  unfolding flush
-  flush-same zero h w v e = refl
-  flush-same (suc n) h w v e =
-      ap (λ (k : History). k ▸ lends (suc n) (w (suc n))) (flush-same n h w v (λ j a b. e j a (omega arith)))
-      ∙ ap (λ (xs : List ℕ). flush n h v ▸ lends (suc n) xs) (e (suc n) (omega arith) (omega arith))
 
   flush-ends : (n : ℕ) (h : History) (w : ℕ → List ℕ) (j : ℕ) (xs : List ℕ) → n < j → endsIn s (flush n h w) j xs ≡ endsIn s h j xs
   unfolding flush
@@ -154,23 +173,6 @@ module _ (s : Start) (lawful : legal s ≡ true) where
       linked-after (flush n h w) (suc n) 0 (w (suc n)) (replicate 258 0)
       (flush-ends n h w (suc n) (w (suc n)) (omega arith) ∙ still (suc n) (omega arith)) i
       ∙ flush-linked n h w still i
-
-  -- ---- other bytes for one session
-
-  pub with-own : (w : ℕ → List ℕ) (session : ℕ) (bytes : List ℕ) (k : ℕ) → k ≡ session → waitingWith w session bytes k ≡ bytes
-  with-own w session bytes k e = ap (λ (b : Bool). cond b bytes (w k)) (eq-eqb k session e)
-
-  pub with-other : (w : ℕ → List ℕ) (session : ℕ) (bytes : List ℕ) (k : ℕ) → (k ≡ session → ⊥) → waitingWith w session bytes k ≡ w k
-  with-other w session bytes k e = ap (λ (b : Bool). cond b bytes (w k)) (ne-eqb k session e)
-
-  pub with-each : (w : ℕ → List ℕ) (session : ℕ) (bytes : List ℕ) (k : ℕ) (P : List ℕ → Type 0) → (k ≡ session → P bytes)
-      → ((k ≡ session → ⊥) → P (w k))
-      → P (waitingWith w session bytes k)
-  with-each w session bytes k P own other = go (eqb k session) refl
-    where
-      go : (t : Bool) → eqb k session ≡ t → P (cond t bytes (w k))
-      go true q = own (eqb-true k session q)
-      go false q = other (eqb-false k session q)
 
   no-bytes : (h : History) (j : ℕ) → endsIn s h j [] ≡ none
   unfolding call
