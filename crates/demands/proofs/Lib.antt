@@ -15,6 +15,7 @@ pub mod CutCalls
 pub mod Bare
 pub mod Earlier
 pub mod Flushed
+pub mod Uncut
 pub mod Feeding
 pub mod Demand2
 pub mod Acts
