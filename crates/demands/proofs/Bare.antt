@@ -1,18 +1,17 @@
 -- A session that holds no byte of a packet: what it holds after a login, a lost link, a request and the end of a packet. Assumes nothing.
 use mathlib.Core.Path.{_≡_, refl, sym, ap, _∙_, subst}
 use mathlib.Core.Bool.{Bool, true, false, cond}
-use mathlib.Core.List.{List, [], _∷_, _++_}
-use mathlib.Core.Option.{Option, none, some}
-use Prim.Native.Nat.{ℕ, zero, suc, _+_, _*_, _-_, _≤_, _<_}
+use mathlib.Core.List.{List, [], _∷_}
+use mathlib.Core.Option.{none, some}
+use Prim.Native.Nat.{ℕ, suc, _+_, _*_, _≤_, _<_}
 use native.Mathlib.Omega.{arith}
 use borrow.Author.Tests.{eqb-true, eqb-false}
 use lib.Dec.{eqb, ltb}
-use lib.ListN.{length, take, drop, getD, set, replicate, length-replicate}
+use lib.ListN.{length, take, replicate, length-replicate}
 use lib.Seq.{getD-set-same}
-use Rattle.packet.specs.Machine.{Step, more, ends, Call, further, called, call}
-use Rattle.packet.specs.Frame.{Held, Event, none-held, byte, answerBy}
+use Rattle.packet.specs.Machine.{Step, more, ends, Call, called, call}
+use Rattle.packet.specs.Frame.{Held, Event, none-held, byte}
 use Rattle.session.specs.declared.state.Session.{Session}
-use Rattle.session.specs.declared.state.Uplink.the-variants as up
 use Rattle.session.specs.declared.reply.Reply.the-variants as reply
 use Rattle.session.specs.State.{closedSession, freshSession, withHeld, withSelection}
 use Rattle.table.specs.declared.Given.{Given}
@@ -25,7 +24,7 @@ use Rattle.files.specs.Completion.{checkOf, completeOf, destinationsAt}
 use Rattle.files.specs.Selection.{Selects, selectOf}
 use Rattle.carry.specs.declared.turn.Last.{Last}
 use Rattle.carry.specs.declared.turn.Turn.{Turn}
-use Rattle.carry.specs.Turn.{turnOf, Mem, mem, writes, chooses}
+use Rattle.carry.specs.Turn.{turnOf, Mem, writes, chooses}
 use Rattle.carry.specs.Upload as upload
 use Rattle.carry.specs.Download as download
 use Rattle.carry.specs.Carry.{onFrees, onWrites, onMoves, onChooses, carryOut}
@@ -34,7 +33,7 @@ use Rattle.decide.specs.declared.act.Act.the-variants as act
 use Rattle.server.specs.declared.Server.{Server}
 use Rattle.server.specs.declared.check.Check.{Check}
 use Rattle.server.specs.declared.check.Check.the-variants.{Go, Refuse}
-use Rattle.server.specs.State.{Lent, lent, Outcome, outcome, doneWith, linkOf, withLink, part, withPart}
+use Rattle.server.specs.State.{Lent, lent, Outcome, linkOf, withLink, part, withPart}
 use Rattle.server.specs.Check as check
 use Rattle.server.specs.Turns.{putBack, actOf}
 use Rattle.server.specs.Calls.{onLogin, loginOf, onLose, loseOf, receiveOf}
@@ -210,7 +209,8 @@ module _ (sv : Server) (l : Lent) (good : Good sv l) (i : ℕ) (below : i < sv .
     where
       go : session ≡ i + 1 → (k : Check) → check.checkOf sv l session true 258 ≡ k
           → Bare (onLose k sv (l .selected) (l .held) .done .server)
-          (lent (l .disk) (l .map) (l .owner) (l .table) (onLose k sv (l .selected) (l .held) .selected) (onLose k sv (l .selected) (l .held) .held)) i
+          (lent (l .disk) (l .map) (l .owner) (l .table) (onLose k sv (l .selected) (l .held) .selected)
+          (onLose k sv (l .selected) (l .held) .held)) i
       go own (Refuse n) e = bare
       go own (Go j) e =
           subst

@@ -11,9 +11,7 @@ use lib.Dec.{eqb}
 use lib.ListN.{length, replicate}
 use Rattle.packet.specs.Machine.{call}
 use Rattle.session.specs.declared.reply.Answer.the-variants as answer
-use Rattle.server.specs.declared.check.Check.the-variants.{Go}
 use Rattle.server.specs.State.{Outcome, outcome, doneWith, linkOf}
-use Rattle.server.specs.Check.{checkOf}
 use Rattle.history.specs.Calls.{Call, receive, lose, callOf, state, Start, legal, History, _▸_, after}
 use Rattle.history.specs.Good.{Good}
 use Rattle.history.proofs.GoodFacts.{good-check}

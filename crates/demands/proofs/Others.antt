@@ -188,7 +188,8 @@ module _ (sv : Server) (l : Lent) (i n : ℕ) (p : List ℕ) (good : Good sv l) 
   here : i * 258 + 258 ≤ length (l .held)
   here = part-room sv l facts i below
 
-  pub check-same : (session : ℕ) (wanted : Bool) (room : ℕ) → checkOf (hold sv i n) (keep l i p) session wanted room ≡ checkOf sv l session wanted room
+  pub check-same : (session : ℕ) (wanted : Bool) (room : ℕ)
+      → checkOf (hold sv i n) (keep l i p) session wanted room ≡ checkOf sv l session wanted room
   check-same session wanted room =
       good-check (hold sv i n) (keep l i p) good′ session wanted room
       ∙ session-same sv (hold sv i n) session wanted room refl (hold-seen sv i n link-below (λ s. s .linked) (λ s m. refl) (session - 1))

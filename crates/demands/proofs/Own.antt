@@ -3,7 +3,7 @@
 use mathlib.Core.Path.{_≡_, refl, sym, ap, _∙_, subst}
 use mathlib.Core.Bool.{Bool, true, false, cond}
 use mathlib.Core.List.{List}
-use Prim.Native.Nat.{ℕ, _+_, _*_, _-_, _≤_, _<_}
+use Prim.Native.Nat.{ℕ, _+_, _*_, _<_}
 use native.Mathlib.Omega.{arith}
 use lib.Dec.{ltb}
 use lib.ListN.{length, set, replicate}
@@ -17,7 +17,7 @@ use Rattle.table.specs.Table.{fileAt, files}
 use Rattle.server.specs.declared.Server.{Server}
 use Rattle.server.specs.declared.check.Check.{Check}
 use Rattle.server.specs.declared.check.Check.the-variants.{Go, Refuse}
-use Rattle.server.specs.State.{Lent, lent, outcome, doneWith, linkOf, withLink, part, withPart, ownerPart, tablePart}
+use Rattle.server.specs.State.{Lent, outcome, doneWith, linkOf, withLink, part, ownerPart, tablePart}
 use Rattle.server.specs.Check.{checkOf}
 use Rattle.server.specs.Sending.{Due, asked, askedOf, dataOf, sendingOf, dueOf}
 use Rattle.server.specs.Calls.{onLose, loseOf, dueAs, onRequest, requestOf}
@@ -127,7 +127,8 @@ module _ (sv : Server) (l : Lent) (good : Good sv l) (i : ℕ) where
           (doneWith (withLink (hold sv i n) k (due out (linkOf (hold sv i n) k) .asked .session)) (due out (linkOf (hold sv i n) k) .asked .answer))
           (keep l i p) (due out (linkOf (hold sv i n) k) .out)
           ≡ moved i n p
-          (outcome (doneWith (withLink sv k (due out (linkOf sv k) .asked .session)) (due out (linkOf sv k) .asked .answer)) l (due out (linkOf sv k) .out))
+          (outcome (doneWith (withLink sv k (due out (linkOf sv k) .asked .session)) (due out (linkOf sv k) .asked .answer)) l
+          (due out (linkOf sv k) .out))
 
       here : i < length (sv .links) → Moved i
       here below =

@@ -7,7 +7,7 @@ use Prim.Native.Nat.{ℕ, zero, suc, _+_, _*_, _-_, _≤_, _<_}
 use native.Mathlib.Omega.{arith}
 use borrow.Author.Tests.{eqb-true, eqb-false, ltb-true, ltb-false}
 use lib.Dec.{eqb, ltb}
-use lib.ListN.{length, take, drop, getD, replicate, length-replicate, getD-replicate, replicate-append-replicate, take-append-drop}
+use lib.ListN.{length, take, drop, replicate, length-replicate, getD-replicate, replicate-append-replicate, take-append-drop}
 use lib.Seq.{take-at, drop-at}
 use Rattle.packet.specs.Machine.{call}
 use Rattle.packet.specs.Frame.{Event, none-held, byte}
@@ -26,7 +26,7 @@ use Rattle.history.proofs.Histories.{good-after, sizes-after}
 use Rattle.demands.specs.Parts.{sessionIn, outIn, openIn, roomIn, checkIn}
 use Rattle.demands.specs.Demand1.{Answers, refuses, silent, closes, sends}
 use Rattle.demands.specs.Cut.{endsIn, SameAfter}
-use Rattle.demands.specs.Uncut.{Uncut, uncut, waitingWith, onBytes, withCall, unlessRefused, uncutOf, SameUncut, UncutSame}
+use Rattle.demands.specs.Uncut.{Uncut, uncut, waitingWith, onBytes, withCall, unlessRefused, uncutOf, UncutSame}
 use Rattle.demands.proofs.Checks.{Through, check-through, state-facts}
 use Rattle.demands.proofs.Answered.{refused-call, every-call-answers}
 use Rattle.demands.proofs.Others.{others-link}
@@ -185,7 +185,8 @@ module _ (s : Start) (lawful : legal s ≡ true) where
         (λ k below. bare-lose (after s calls .server) (after s calls .lent) good k (subst (λ (n : ℕ). k < n) (sym (sessions-are calls)) below)
         (told .bare k below) session)
 
-    request-told : (session : ℕ) (out : List ℕ) (i : ℕ) → Goes (request session out) i → Told (h ▸ request session out) (withCall u (request session out))
+    request-told : (session : ℕ) (out : List ℕ) (i : ℕ) → Goes (request session out) i
+        → Told (h ▸ request session out) (withCall u (request session out))
     request-told session out i t =
         record {
           same = call-first c i t
@@ -393,6 +394,12 @@ module _ (s : Start) (lawful : legal s ≡ true) where
       go (answer.Closed taken) e t =
           by-check (λ n q. let x : answer.Closed taken ≡ answer.Refused n = sym e ∙ q in let z : _≡_ {A = ℕ} 0 1 = cc in omega arith) _ refl t
       go (answer.Refused n) e t = same-refusal n e (every-call-answers (after s h .server) (after s h .lent) c) t
+
+-- bytes wait for sessions that there are
+pub none-outside : (s : Start) → legal s ≡ true → (h : History) (j : ℕ) → (1 ≤ j → j ≤ s .sessions → ⊥) → uncutOf s h .waiting j ≡ []
+none-outside s lawful h j o =
+    let n = ap (λ (x : Server). x .sessions) (made-server s lawful) in
+    told-of s lawful h .outside j (λ a b. o a (omega (arith, b, n)))
 
 -- THEOREM: two histories that are the same without their cuts leave the same state and the same packets
 pub uncut-same : UncutSame
