@@ -53,6 +53,7 @@ unlessRefused (answer.Sent taken size) before later = later
 unlessRefused (answer.Closed taken) before later = later
 unlessRefused (answer.Refused n) before later = before
 
+-- call by call, from no call and no byte
 unfoldable pub uncutOf : Start → History → Uncut
 uncutOf s start = uncut start (λ session. [])
 uncutOf s (h ▸ c) =
