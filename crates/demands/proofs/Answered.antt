@@ -117,7 +117,7 @@ told-room r taken out h = rw (le-ltb (length out) 258 h)
 
 -- ---- refused locally
 
-refused-call : (sv : Server) (l : Lent) (c : Call) (n : ℕ) → checkIn sv l c ≡ Refuse n
+pub refused-call : (sv : Server) (l : Lent) (c : Call) (n : ℕ) → checkIn sv l c ≡ Refuse n
     → callOf sv l c ≡ outcome (doneWith sv (answer.Refused n)) l (outIn c)
 unfolding receiveOf onCheck loginOf onLogin requestOf onRequest loseOf onLose
 refused-call sv l (login session clock out) n e = rw e

@@ -6,9 +6,9 @@ use mathlib.Core.Logic.{_⊎_, inl, inr}
 use mathlib.Core.List.{List, [], _∷_, _++_, flatten}
 use Prim.Native.Nat.{ℕ, _+_, _≤_, _<_}
 use native.Mathlib.Omega.{arith}
-use lib.Dec.{ltb}
+use lib.Dec.{eqb, ltb}
 use lib.ListN.{length, getD, replicate, take, drop, length-replicate}
-use borrow.Author.Tests.{ltb-true}
+use borrow.Author.Tests.{ltb-true, eqb-true, eqb-false}
 use Rattle.packet.specs.Packet.{writeAnswer, leftIn, readAnswer}
 use Rattle.packet.specs.declared.plain.Plain.the-variants as plain
 use Rattle.header.proofs.Examples.{smallest}
@@ -29,6 +29,7 @@ use Rattle.demands.specs.Effect.{Effect, Gives, Adds, Finishes, Drops}
 use Rattle.demands.specs.Accepted.{accepted, reserved, numbersGiven, Completion, completion, completions, times}
 use Rattle.demands.specs.Closing.{ClosesBy, Unwelcome, eventAt}
 use Rattle.demands.specs.Cut.{SameAfter, seen, joined, passed, untaken, _▸▸_}
+use Rattle.demands.specs.Uncut.{uncutOf, SameUncut}
 use Rattle.demands.specs.Feeding.{feed, feedAll, feedPieces}
 use Rattle.demands.specs.Parts.{oneOf}
 use Rattle.demands.specs.Demand1.{RefusedBy, Reachable, Naks, NothingElse}
@@ -36,11 +37,12 @@ use Rattle.demands.specs.Demand2.{SentReads}
 use Rattle.demands.specs.Demand3.{serverAt, lentAt, filesAt, sentAt, AreBytes, OfBytes, Live, Free, Owned, OnlyFour, Listed, Stands}
 use Rattle.demands.proofs.Demand1.{demand-1}
 use Rattle.demands.proofs.Demand2.{demand-2}
+use Rattle.demands.proofs.Uncut.{none-outside}
 use Rattle.demands.proofs.Unique.{calls-determined}
 use Rattle.demands.proofs.Whole.{demand-3}
 use Rattle.demands.proofs.Example.{small, small-legal, pair, pair-legal, output, rx, of, upload, dataEnd, shortUpload, largeUpload, nextFile}
 use Rattle.demands.proofs.Example.{titleAboveM, data41, type18, length257, opened, halfway, beforeUpload, lostOnce, tooEarly, uploads, both}
-use Rattle.demands.proofs.Example.{continued, rest, with255, withOwner, computed}
+use Rattle.demands.proofs.Example.{chopped, unchopped, continued, rest, with255, withOwner, computed}
 
 room : 258 ≤ length {A = ℕ} output
 room = omega (arith, length-replicate {A = ℕ} 258 0)
@@ -214,6 +216,30 @@ pub byte-earlier :
 byte-earlier =
     demand-2 .earlier pair pair-legal uploads 1 6 7 (0 ∷ []) (1 ∷ []) output output (of 2 7 dataEnd ∷ []) (omega arith)
     (computed .packets .first-byte) refl room room
+
+-- the first link's UPLOAD_CMD in three pieces among the second link's calls, or in one: the two histories are the same without their cuts
+pub chopped-uncut : SameUncut pair chopped unchopped
+chopped-uncut =
+    record {
+      calls = computed .chopped .calls ∙ sym (computed .chopped .calls′);
+      waiting = λ session. go session (eqb session 1) refl (eqb session 2) refl;
+    }
+  where
+    go : (k : ℕ) (a : Bool) → eqb k 1 ≡ a → (b : Bool) → eqb k 2 ≡ b → uncutOf pair chopped .waiting k ≡ uncutOf pair unchopped .waiting k
+    go k true p b q =
+        subst (λ (j : ℕ). uncutOf pair chopped .waiting j ≡ uncutOf pair unchopped .waiting j) (sym (eqb-true k 1 p))
+        (computed .chopped .first ∙ sym (computed .chopped .first′))
+    go k false p true q =
+        subst (λ (j : ℕ). uncutOf pair chopped .waiting j ≡ uncutOf pair unchopped .waiting j) (sym (eqb-true k 2 q))
+        (computed .chopped .second ∙ sym (computed .chopped .second′))
+    go k false p false q = none-outside pair pair-legal chopped k out ∙ sym (none-outside pair pair-legal unchopped k out)
+      where
+        out : 1 ≤ k → k ≤ pair .sessions → ⊥
+        out one most = eqb-false k 1 p (omega (arith, one, most, computed .chopped .sessions, eqb-false k 2 q))
+
+-- so they leave the same
+pub chopped-same : SameAfter pair chopped unchopped
+chopped-same = demand-2 .uncut pair pair-legal chopped unchopped chopped-uncut
 
 -- a driver that may call 100 times gets no further than one that calls 10 times for 10 bytes
 pub ten-calls : feed 100 (after small opened) 1 6 output (upload 0) ≡ feedAll (after small opened) 1 6 output (upload 0)

@@ -21,7 +21,7 @@ use Rattle.server.specs.State.{Lent, lent, Outcome, outcome, doneWith, linkOf, 
 use Rattle.server.specs.Check.{sessionCheck, checkOf}
 use Rattle.server.specs.Calls.{stepOf, onCheck, receiveOf}
 use Rattle.history.specs.Calls as history
-use Rattle.history.specs.Calls.{receive, callOf, State, state, next, Start, legal, History, _▸_, after}
+use Rattle.history.specs.Calls.{receive, request, callOf, State, state, next, Start, legal, History, _▸_, after}
 use Rattle.history.specs.Good.{Good}
 use Rattle.history.proofs.GoodFacts.{good-check}
 use Rattle.history.proofs.Kept.{good-kept}
@@ -34,7 +34,8 @@ use Rattle.demands.proofs.Checks.{check-through, state-facts, through-a
 use Rattle.demands.proofs.Hearing.{Unended}
 use Rattle.demands.proofs.Held.{hold, keep, withLinks, hold-seen}
 use Rattle.demands.proofs.Joined.{shift, shifted, rest-untouched, step-joined}
-use Rattle.demands.proofs.Others.{session-same, others-sessions, others-link, others-part, moved, apart-call}
+use Rattle.demands.proofs.Others.{session-same, others-sessions, moved}
+use Rattle.demands.proofs.Own.{Free, others-free, request-free}
 use Rattle.demands.proofs.Receiving as steps
 
 -- ---- by the check
@@ -44,7 +45,7 @@ pub refused-receive : (sv : Server) (l : Lent) (session clock : ℕ) (input out 
 unfolding receiveOf onCheck
 refused-receive sv l session clock input out n e = rw e
 
-gone-on : (sv : Server) (l : Lent) (session clock : ℕ) (input out : List ℕ) (i : ℕ) → checkOf sv l session true (length out) ≡ Go i
+pub gone-on : (sv : Server) (l : Lent) (session clock : ℕ) (input out : List ℕ) (i : ℕ) → checkOf sv l session true (length out) ≡ Go i
     → receiveOf sv l out session clock input ≡ stepOf sv i clock input l out
 unfolding receiveOf onCheck
 gone-on sv l session clock input out i e = rw e
@@ -172,7 +173,7 @@ record Swapped (sv : Server) (l : Lent) (r c : history.Call) : Type 0 where
   none-last : seenOf r (callOf (callOf sv l c .done .server) (callOf sv l c .lent) r) ≡ []
 
 module _ (sv : Server) (l : Lent) (good : Good sv l) (session clock : ℕ) (xs out : List ℕ) (c : history.Call)
-    (other : sessionIn c ≡ session → ⊥) where
+    (free : (i : ℕ) → session ≡ i + 1 → Free sv l c i) where
   goodᶜ : Good (callOf sv l c .done .server) (callOf sv l c .lent)
   goodᶜ = good-kept sv l good c
 
@@ -187,7 +188,7 @@ module _ (sv : Server) (l : Lent) (good : Good sv l) (session clock : ℕ) (xs o
           session-same sv (callOf sv l c .done .server) (suc k) true (length out) (others-sessions sv l c)
           (let d : suc k - 1 ≡ k = omega arith in
           ap (λ (j : ℕ). linkOf (callOf sv l c .done .server) j .linked) d
-          ∙ ap (λ (s : Session). s .linked) (others-link sv l c k (λ q. other (let z : sessionIn c ≡ session = omega arith in z)))
+          ∙ free k (omega arith) .linked
           ∙ ap (λ (j : ℕ). linkOf sv j .linked) (sym d))
 
   check-kept : checkOf (callOf sv l c .done .server) (callOf sv l c .lent) session true (length out) ≡ checkOf sv l session true (length out)
@@ -222,8 +223,8 @@ module _ (sv : Server) (l : Lent) (good : Good sv l) (session clock : ℕ) (xs o
         none-last = ap (λ (o : Outcome). seenIn session (o .done .answer) (o .out)) last;
       }
     where
-      apart : sessionIn c ≡ e .i + 1 → ⊥
-      apart q = other (let z : sessionIn c ≡ session = omega (arith, e .through .index, e .through .from-one) in z)
+      here : Free sv l c (e .i)
+      here = free (e .i) (omega (arith, e .through .index, e .through .from-one))
 
       good₁ : Good (hold sv (e .i) (e .heard .state .count)) (keep l (e .i) (e .heard .state .part))
       good₁ = subst (λ (o : Outcome). Good (o .done .server) (o .lent)) (e .is) (good-kept sv l good (receive session clock xs out))
@@ -231,26 +232,20 @@ module _ (sv : Server) (l : Lent) (good : Good sv l) (session clock : ℕ) (xs o
       first : callOf (hold sv (e .i) (e .heard .state .count)) (keep l (e .i) (e .heard .state .part)) c
           ≡ moved (e .i) (e .heard .state .count) (e .heard .state .part) (callOf sv l c)
       first =
-          apart-call sv l (e .i) (e .heard .state .count) (e .heard .state .part) good good₁
-          (omega (arith, e .through .index, e .through .from-one, e .through .in-range)) (e .heard .size) c apart
-
-      link : linkOf (callOf sv l c .done .server) (e .i) ≡ linkOf sv (e .i)
-      link = others-link sv l c (e .i) apart
-
-      packet-part : part (e .i * 258) 258 (callOf sv l c .lent .held) ≡ part (e .i * 258) 258 (l .held)
-      packet-part = others-part sv l c (e .i) apart
+          here .moves (e .heard .state .count) (e .heard .state .part) good₁
+          (omega (arith, e .through .index, e .through .from-one, e .through .in-range)) (e .heard .size)
 
       heard : Unended (part (e .i * 258) 258 (callOf sv l c .lent .held)) (linkOf (callOf sv l c .done .server) (e .i) .held) xs
       heard =
           record {
             state = e .heard .state;
-            came = ap (λ (p : List ℕ). call byte (record { count = linkOf (callOf sv l c .done .server) (e .i) .held; part = p }) xs) packet-part
-                ∙ ap (λ (s : Session). call byte (record { count = s .held; part = part (e .i * 258) 258 (l .held) }) xs) link
+            came = ap (λ (p : List ℕ). call byte (record { count = linkOf (callOf sv l c .done .server) (e .i) .held; part = p }) xs) (here .packet)
+                ∙ ap (λ (n : ℕ). call byte (record { count = n; part = part (e .i * 258) 258 (l .held) }) xs) (here .held)
                 ∙ e .heard .came;
             size = e .heard .size;
             few = e .heard .few;
-            is = ap (λ (p : List ℕ). frame.receiveOf p (linkOf (callOf sv l c .done .server) (e .i) .held) xs) packet-part
-                ∙ ap (λ (s : Session). frame.receiveOf (part (e .i * 258) 258 (l .held)) (s .held) xs) link
+            is = ap (λ (p : List ℕ). frame.receiveOf p (linkOf (callOf sv l c .done .server) (e .i) .held) xs) (here .packet)
+                ∙ ap (λ (n : ℕ). frame.receiveOf (part (e .i * 258) 258 (l .held)) n xs) (here .held)
                 ∙ e .heard .is;
           }
 
@@ -262,9 +257,9 @@ module _ (sv : Server) (l : Lent) (good : Good sv l) (session clock : ℕ) (xs o
           ∙ steps.step-unended (callOf sv l c .done .server) (callOf sv l c .lent) session clock xs out (e .i)
           (check-through (callOf sv l c .done .server) (callOf sv l c .lent) session true (length out) (e .i) (check-kept ∙ go-on)) heard
 
-  -- bytes that end nothing, before or after a call for another session
-  passed-call : eventAt sv l (session - 1) xs ≡ none → Swapped sv l (receive session clock xs out) c
-  passed-call none-ends = go (steps.receives sv l session clock xs out)
+  -- bytes that end nothing, before or after a call that has nothing to do with them
+  free-call : eventAt sv l (session - 1) xs ≡ none → Swapped sv l (receive session clock xs out) c
+  free-call none-ends = go (steps.receives sv l session clock xs out)
     where
       go : steps.Receives sv l session clock xs out → Swapped sv l (receive session clock xs out) c
       go (steps.refused n o k q) = passed-refused n k
@@ -296,7 +291,7 @@ unended-seen sv l session clock xs out none-ends = go (steps.receives sv l sessi
     go (steps.ends-packet f) = absurd (no-packet sv l session clock xs out none-ends f)
 
 module _ (s : Start) (lawful : legal s ≡ true) where
-  joined-after : (h : History) (session clock clock′ : ℕ) (xs ys out out′ : List ℕ)
+  pub joined-after : (h : History) (session clock clock′ : ℕ) (xs ys out out′ : List ℕ)
       → endsIn s h session xs ≡ none
       → 258 ≤ length out
       → 258 ≤ length out′
@@ -320,13 +315,13 @@ module _ (s : Start) (lawful : legal s ≡ true) where
       later : List Seen
       later = seenOf (receive session clock′ ys out′) (callOf (first .server) (first .lent) (receive session clock′ ys out′))
 
-  passed-after : (h : History) (session clock : ℕ) (xs out : List ℕ) (c : history.Call)
+  free-after : (h : History) (session clock : ℕ) (xs out : List ℕ) (c : history.Call)
       → endsIn s h session xs ≡ none
-      → (sessionIn c ≡ session → ⊥)
+      → ((i : ℕ) → session ≡ i + 1 → Free (after s h .server) (after s h .lent) c i)
       → SameAfter s (h ▸ receive session clock xs out ▸ c) (h ▸ c ▸ receive session clock xs out)
   unfolding after seen
-  passed-after h session clock xs out c e other =
-      go (passed-call (after s h .server) (after s h .lent) (good-after s lawful h) session clock xs out c other e)
+  free-after h session clock xs out c e free =
+      go (free-call (after s h .server) (after s h .lent) (good-after s lawful h) session clock xs out c free e)
     where
       states : (sv sv′ : Server) (l l′ : Lent) → sv ≡ sv′ → l ≡ l′ → state sv l ≡ state sv′ l′
       states sv sv′ l l′ a b = ap (λ (x : Server). state x l) a ∙ ap (λ (x : Lent). state sv′ x) b
@@ -344,7 +339,25 @@ module _ (s : Start) (lawful : legal s ≡ true) where
             seen = lists (seen s h) _ _ _ _ (w .none-first) (w .call-seen) (w .none-last);
           }
 
-  empty-after : (h : History) (session clock : ℕ) (out : List ℕ) → SameAfter s (h ▸ receive session clock [] out) h
+  -- a call for another session
+  pub passed-after : (h : History) (session clock : ℕ) (xs out : List ℕ) (c : history.Call)
+      → endsIn s h session xs ≡ none
+      → (sessionIn c ≡ session → ⊥)
+      → SameAfter s (h ▸ receive session clock xs out ▸ c) (h ▸ c ▸ receive session clock xs out)
+  passed-after h session clock xs out c e other =
+      free-after h session clock xs out c e
+      (λ i q. others-free (after s h .server) (after s h .lent) (good-after s lawful h) c i
+      (λ r. other (let z : sessionIn c ≡ session = omega arith in z)))
+
+  -- a request of the same session
+  pub request-after : (h : History) (session clock : ℕ) (xs out out′ : List ℕ)
+      → endsIn s h session xs ≡ none
+      → SameAfter s (h ▸ receive session clock xs out ▸ request session out′) (h ▸ request session out′ ▸ receive session clock xs out)
+  request-after h session clock xs out out′ e =
+      free-after h session clock xs out (request session out′) e
+      (λ i q. request-free (after s h .server) (after s h .lent) (good-after s lawful h) i session out′ q)
+
+  pub empty-after : (h : History) (session clock : ℕ) (out : List ℕ) → SameAfter s (h ▸ receive session clock [] out) h
   unfolding after seen call
   empty-after h session clock out =
       let w = empty-call (after s h .server) (after s h .lent) session clock out in
@@ -356,7 +369,7 @@ module _ (s : Start) (lawful : legal s ≡ true) where
             (seen s h);
       }
 
-  untaken-after : (h : History) (session clock : ℕ) (xs ys out : List ℕ) (e : Event)
+  pub untaken-after : (h : History) (session clock : ℕ) (xs ys out : List ℕ) (e : Event)
       → endsIn s h session xs ≡ some e
       → SameAfter s (h ▸ receive session clock (xs ++ ys) out) (h ▸ receive session clock xs out)
   unfolding after seen
@@ -367,7 +380,7 @@ module _ (s : Start) (lawful : legal s ≡ true) where
         seen = ap (λ (o : Outcome). seen s h ++ seenIn session (o .done .answer) (o .out)) r;
       }
 
-  also-after : (h k : History) → SameAfter s h k → (c : history.Call) → SameAfter s (h ▸ c) (k ▸ c)
+  pub also-after : (h k : History) → SameAfter s h k → (c : history.Call) → SameAfter s (h ▸ c) (k ▸ c)
   unfolding after seen
   also-after h k w c =
       record {

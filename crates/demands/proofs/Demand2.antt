@@ -14,6 +14,7 @@ use Rattle.demands.specs.Demand2.{WrittenReadsBack, SentReads, SentReads
 use Rattle.demands.proofs.Answered.{every-call-answers}
 use Rattle.demands.proofs.ClosingIsLosing.{closing-is-losing, every-closing}
 use Rattle.demands.proofs.CutCalls.{cut-elsewhere}
+use Rattle.demands.proofs.Uncut.{uncut-same}
 use Rattle.demands.proofs.Earlier.{lent-earlier}
 use Rattle.demands.proofs.Feeding.{enough-calls, pieces-elsewhere}
 
@@ -61,6 +62,7 @@ demand-2 =
       closing = every-closing;
       closing-is-losing = closing-is-losing;
       cut = cut-elsewhere;
+      uncut = uncut-same;
       earlier = lent-earlier;
       enough = enough-calls;
       pieces = pieces-elsewhere;

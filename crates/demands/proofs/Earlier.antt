@@ -31,7 +31,7 @@ event-kept sv l c session xs one other =
     apart : sessionIn c ≡ session - 1 + 1 → ⊥
     apart q = other (let z : sessionIn c ≡ session = omega arith in z)
 
-ends-kept : (s : Start) (h : History) (c : Call) (session : ℕ) (xs : List ℕ) → 1 ≤ session → (sessionIn c ≡ session → ⊥)
+pub ends-kept : (s : Start) (h : History) (c : Call) (session : ℕ) (xs : List ℕ) → 1 ≤ session → (sessionIn c ≡ session → ⊥)
     → endsIn s (h ▸ c) session xs ≡ endsIn s h session xs
 unfolding after
 ends-kept s h c session xs one other = event-kept (after s h .server) (after s h .lent) c session xs one other

@@ -23,10 +23,11 @@ use Rattle.server.specs.Check.{fits}
 use Rattle.server.specs.Making.{newServer}
 use Rattle.server.specs.Calls.{loginOf}
 use Rattle.decide.specs.Words.{wordAt}
-use Rattle.history.specs.Calls.{Call, login, receive, lose, callOf, Start, legal, History, start, _▸_, after}
+use Rattle.history.specs.Calls.{Call, login, receive, request, lose, callOf, Start, legal, History, start, _▸_, after}
 use Rattle.demands.specs.Parts.{checkIn}
 use Rattle.demands.specs.Closing.{eventAt, Unwelcome, long, unexpected}
 use Rattle.demands.specs.Cut.{endsIn, seen, sent, closed}
+use Rattle.demands.specs.Uncut.{uncutOf}
 use Rattle.demands.specs.Feeding.{feedAll, feedPieces}
 use Rattle.demands.specs.Events.{given, added, finished, dropped}
 use Rattle.demands.specs.Accepted.{uploadOf, accepted, reserved, numbersGiven, total, completion, completions}
@@ -67,9 +68,11 @@ use Rattle.links.specs.Sound as links-sound
 use Rattle.server.specs.Check as server-check
 use Rattle.server.specs.Calls as server-calls
 use Rattle.server.specs.Turns as server-turns
+use Rattle.server.specs.Sending as server-sending
 use Rattle.server.specs.Making as server-making
 use Rattle.history.specs.Calls as history-calls
 use Rattle.demands.specs.Cut as demands-cut
+use Rattle.demands.specs.Uncut as demands-uncut
 use Rattle.demands.specs.Feeding as demands-feeding
 use Rattle.demands.specs.Events as demands-events
 use Rattle.demands.specs.Accepted as demands-accepted
@@ -188,6 +191,18 @@ uploads =
 -- both files are completed in the same second, 7
 unfoldable pub both : History
 both = uploads ▸ of 1 7 dataEnd ▸ of 2 7 dataEnd
+
+-- UPLOAD_CMD of the first link in three pieces, with a byte behind its end, which is not taken. Between them UPLOAD_CMD of the second link, a
+-- request, a call for a session 3 that there is not, which is refused, and the first of two bytes of the second link that end nothing.
+unfoldable pub chopped : History
+chopped =
+    start ▸ login 1 5 output ▸ login 2 5 output ▸ of 1 6 (8 ∷ 3 ∷ []) ▸ of 2 6 (upload 0) ▸ request 1 output ▸ of 1 7 (0 ∷ []) ▸ of 3 7 (0 ∷ [])
+    ▸ of 2 7 (80 ∷ []) ▸ of 1 8 (drop 3 (upload 0) ++ 80 ∷ []) ▸ of 2 9 (0 ∷ [])
+
+-- the same packets, each in one piece and at the clock of its last byte
+unfoldable pub unchopped : History
+unchopped =
+    start ▸ login 1 5 output ▸ login 2 5 output ▸ of 2 6 (upload 0) ▸ request 1 output ▸ of 1 8 (upload 0) ▸ of 2 8 (80 ∷ 0 ∷ [])
 
 pub pair-legal : legal pair ≡ true
 unfolding pair server-check.sizesFit server-check.roomFits
@@ -320,6 +335,19 @@ pub record Both : Type 0 where
   pub file : filesAt pair both 0 .file ≡ record { number = 1; size = 80; received = 80; time = 7 }
   pub other : filesAt pair both 1 .file ≡ record { number = 2; size = 80; received = 80; time = 8 }
 
+-- the history in pieces without its cuts
+pub record Chopped : Type 0 where
+  pub sessions : pair .sessions ≡ 2
+  pub calls : uncutOf pair chopped .calls
+      ≡ start ▸ login 1 5 output ▸ login 2 5 output ▸ of 2 6 (upload 0) ▸ request 1 output ▸ of 1 8 (upload 0)
+  pub first : uncutOf pair chopped .waiting 1 ≡ []
+  pub second : uncutOf pair chopped .waiting 2 ≡ 80 ∷ 0 ∷ []
+  -- and the other one
+  pub calls′ : uncutOf pair unchopped .calls
+      ≡ start ▸ login 1 5 output ▸ login 2 5 output ▸ of 2 6 (upload 0) ▸ request 1 output ▸ of 1 8 (upload 0)
+  pub first′ : uncutOf pair unchopped .waiting 1 ≡ []
+  pub second′ : uncutOf pair unchopped .waiting 2 ≡ 80 ∷ 0 ∷ []
+
 pub record Computed : Type 0 where
   pub refusals : Refusals
   pub locals : Locals
@@ -328,6 +356,7 @@ pub record Computed : Type 0 where
   pub lost-once : LostOnce
   pub too-early : TooEarly
   pub both : Both
+  pub chopped : Chopped
 
 clash : false ≡ true → ⊥
 clash e = let z : _≡_ {A = ℕ} 0 1 = cc in omega arith
@@ -363,6 +392,8 @@ unfolding
     demands-events.onSent demands-events.onAnswer demands-accepted.addedBy demands-accepted.accepted demands-accepted.reservedBy
     demands-accepted.reserved demands-accepted.total demands-accepted.givenBy demands-accepted.numbersGiven demands-accepted.fromOne
     demands-accepted.lastFrom demands-accepted.completedBy demands-accepted.completions
+    chopped unchopped demands-uncut.onBytes demands-uncut.unlessRefused demands-uncut.uncutOf server-calls.dueAs server-calls.onRequest
+    server-calls.requestOf server-sending.dueOf
     session-expected.expectedDown decide-downlink.onFound decide-downlink.onNumbered decide-downlink.onDownload decide-downlink.onDownlink carry-download.closeTurn carry-download.selectedAs carry-download.selectTurn carry-carry.onChooses files-selection.selectNumber files-selection.selectOf equation-symbols.starsIn equation-symbols.goodText equation-symbols.goodNumber equation-symbols.good equation-symbols.connectiveOf equation-symbols.relationAt equation-symbols.tokenOf equation-symbols.follow equation-symbols.symbolsPast equation-tree.pushed equation-tree.joined equation-tree.result equation-tree.bind equation-tree.run equation-tree.parse equation-answer.refusal equation-answer.validityOf equation-relation.width
 computed =
     record {
@@ -419,4 +450,5 @@ computed =
       };
       too-early = record { numbers = refl; first = refl; second = refl; freed = refl; blocks = refl; complete = refl; gone = refl; file = refl };
       both = record { linked = refl; second = refl; beside = refl; numbers = refl; complete = refl; file = refl; other = refl };
+      chopped = record { sessions = refl; calls = refl; first = refl; second = refl; calls′ = refl; first′ = refl; second′ = refl };
     }

@@ -11,8 +11,12 @@ pub mod Parts
 pub mod Held
 pub mod Joined
 pub mod Others
+pub mod Own
 pub mod CutCalls
+pub mod Bare
 pub mod Earlier
+pub mod Flushed
+pub mod Uncut
 pub mod Feeding
 pub mod Demand2
 pub mod Acts

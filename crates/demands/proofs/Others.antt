@@ -71,7 +71,7 @@ heard-size sv l session clock input out j t = go (steps.heard-by sv l session cl
     go (unended u) = ap (λ (h : Heard). length (h .part)) (u .is) ∙ u .size
     go (ended e) = ap (λ (h : Heard). length (h .part)) (e .is) ∙ length-replicate {A = ℕ} 258 0
 
-part-room : (sv : Server) (l : Lent) → StateFacts sv l → (j : ℕ) → j < sv .sessions → j * 258 + 258 ≤ length (l .held)
+pub part-room : (sv : Server) (l : Lent) → StateFacts sv l → (j : ℕ) → j < sv .sessions → j * 258 + 258 ≤ length (l .held)
 part-room sv l f j h = omega (arith, f .room .held, part-end j (sv .sessions) 258 h)
 
 through-room : (sv : Server) (l : Lent) (session : ℕ) (wanted : Bool) (room j : ℕ) → Through sv l session wanted room j
@@ -188,7 +188,8 @@ module _ (sv : Server) (l : Lent) (i n : ℕ) (p : List ℕ) (good : Good sv l) 
   here : i * 258 + 258 ≤ length (l .held)
   here = part-room sv l facts i below
 
-  check-same : (session : ℕ) (wanted : Bool) (room : ℕ) → checkOf (hold sv i n) (keep l i p) session wanted room ≡ checkOf sv l session wanted room
+  pub check-same : (session : ℕ) (wanted : Bool) (room : ℕ)
+      → checkOf (hold sv i n) (keep l i p) session wanted room ≡ checkOf sv l session wanted room
   check-same session wanted room =
       good-check (hold sv i n) (keep l i p) good′ session wanted room
       ∙ session-same sv (hold sv i n) session wanted room refl (hold-seen sv i n link-below (λ s. s .linked) (λ s m. refl) (session - 1))

@@ -14,6 +14,7 @@ use Rattle.server.specs.State.{Lent, Outcome}
 use Rattle.history.specs.Calls.{Call, callOf}
 use Rattle.demands.specs.Closing.{ClosingIsLosing, EveryClosing}
 use Rattle.demands.specs.Cut.{CutElsewhere, LentEarlier}
+use Rattle.demands.specs.Uncut.{UncutSame}
 use Rattle.demands.specs.Feeding.{EnoughCalls, PiecesElsewhere}
 
 -- the reader finds this type and this information in front of the bytes
@@ -44,6 +45,8 @@ pub record Demand2 : Type 0 where
   pub closing : EveryClosing
   pub closing-is-losing : ClosingIsLosing
   pub cut : CutElsewhere
+  -- the same without rules of cutting: the cuts are taken out of both histories
+  pub uncut : UncutSame
   -- the same for bytes that are lent earlier, with calls of other sessions between
   pub earlier : LentEarlier
   -- the same for a driver that lends one link's bytes in pieces

@@ -3,6 +3,7 @@ pub mod Demand1
 pub mod Closing
 pub mod Unique
 pub mod Cut
+pub mod Uncut
 pub mod Feeding
 pub mod Demand2
 pub mod Events
