@@ -4,6 +4,7 @@ pub mod Closing
 pub mod Unique
 pub mod Cut
 pub mod Feeding
+pub mod Replies
 pub mod Demand2
 pub mod Events
 pub mod Effect
