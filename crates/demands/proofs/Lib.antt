@@ -14,6 +14,7 @@ pub mod Others
 pub mod CutCalls
 pub mod Earlier
 pub mod Feeding
+pub mod Informed
 pub mod Demand2
 pub mod Acts
 pub mod Decided

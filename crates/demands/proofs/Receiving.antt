@@ -56,7 +56,7 @@ put-back-same sv i m t =
 
 -- ---- what is heard
 
-padded-length : (info : List ℕ) → length info ≤ 256 → length (padded info) ≡ 256
+pub padded-length : (info : List ℕ) → length info ≤ 256 → length (padded info) ≡ 256
 padded-length info h = length-append info (replicate (256 - length info) 0) ∙ rw (length-replicate {A = ℕ} (256 - length info) 0) (omega arith)
 
 pub record FramedFacts (taken : ℕ) (f : Framed) : Type 0 where

@@ -11,7 +11,7 @@ use lib.ListN.{length, getD}
 use Rattle.packet.specs.Machine.{call}
 use Rattle.packet.specs.Frame.{packet, byte}
 use Rattle.header.specs.Items.{fieldsOf}
-use Rattle.header.specs.Header.{verdict, destinationsOf}
+use Rattle.header.specs.Header.{verdict, checkItems, destinationsOf}
 use Rattle.equation.specs.Answer.{validityOf}
 use Rattle.blocks.specs.FreeMap.{freeCount}
 use Rattle.table.specs.declared.Found.{Found}
@@ -93,6 +93,10 @@ toEnd up.Ignoring F last = reply.Nothing
 
 -- ---- DOWNLOAD_CMD (8)
 
+-- "14 hex is a destination": how many the header in a file's bytes has, none where its items are refused (no file that DATA_END accepted)
+unfoldable pub destinationsIn : List ℕ → ℕ
+destinationsIn bytes = cond (eqb (checkItems bytes) 0) (destinationsOf (fieldsOf bytes)) 0
+
 -- "DOWNLOAD: 1, then 5 or 4, 11, 2, 10": 4 "no such file"; 11 "download of a partial file"; 2 "download offset beyond the file's length"; 10 "lock
 -- destination above the file's number of destinations". An accepted one gets no packet: DATA goes out when the driver asks.
 unfoldable pub toFile : Found → Files → ℕ → ℕ → Reply
@@ -100,7 +104,7 @@ toFile Nothing F offset lock = reply.DownloadError 4
 toFile (At place) F offset lock =
     cond (eqb (F place .file .time) 0) (reply.DownloadError 11)
     (cond (ltb (length (F place .bytes)) offset) (reply.DownloadError 2)
-    (cond (ltb (destinationsOf (fieldsOf (F place .bytes))) lock) (reply.DownloadError 10) reply.Nothing))
+    (cond (ltb (destinationsIn (F place .bytes)) lock) (reply.DownloadError 10) reply.Nothing))
 
 -- "Number 0 means the next selected file"; 5 "download of number 0 and no selected file left"; the second number is the one selected
 unfoldable pub toNumbered : Server → Lent → ℕ → ℕ → Bool → List ℕ → Reply
@@ -126,7 +130,7 @@ toAck down.Idle F info = reply.Closing
 toAck (down.Sending place offset sent) F info = reply.Closing
 toAck (down.Ended place) F info =
     cond (eqb (length info) 1)
-    (cond (ltb (destinationsOf (fieldsOf (F place .bytes))) (getD info 0 0)) reply.Aborted reply.Completed)
+    (cond (ltb (destinationsIn (F place .bytes)) (getD info 0 0)) reply.Aborted reply.Completed)
     reply.Aborted
 toAck (down.Aborting place) F info = reply.Closing
 
