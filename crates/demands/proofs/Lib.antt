@@ -15,6 +15,7 @@ pub mod CutCalls
 pub mod Earlier
 pub mod Feeding
 pub mod Informed
+pub mod RepliesUp
 pub mod Demand2
 pub mod Acts
 pub mod Decided
