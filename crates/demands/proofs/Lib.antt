@@ -16,6 +16,7 @@ pub mod Earlier
 pub mod Feeding
 pub mod Informed
 pub mod RepliesUp
+pub mod RepliesDown
 pub mod Demand2
 pub mod Acts
 pub mod Decided
