@@ -17,6 +17,7 @@ pub mod Feeding
 pub mod Informed
 pub mod RepliesUp
 pub mod RepliesDown
+pub mod Replies
 pub mod Demand2
 pub mod Acts
 pub mod Decided

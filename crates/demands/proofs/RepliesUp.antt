@@ -45,6 +45,10 @@ use Rattle.demands.proofs.Checks.{StateFacts}
 use Rattle.demands.proofs.Receiving.{padded-length}
 use Rattle.demands.proofs.Informed as informed
 
+-- the uplink's state names a file where it receives one
+abbrev pub Receives : Server → Lent → Uplink → Type 0
+Receives sv l u = (place offset received : ℕ) → u ≡ up.Receiving place offset received → filesOf sv l place .file .number ≡ 0 → ⊥
+
 module _ (sv : Server) (l : Lent) (f : StateFacts sv l) (i clock : ℕ) (info : List ℕ) (short : length info ≤ 256) where
   abbrev own : Session
   own = withHeld (linkOf sv i) 0
@@ -63,7 +67,7 @@ module _ (sv : Server) (l : Lent) (f : StateFacts sv l) (i clock : ℕ) (info : 
   unfolding upload.begunAs upload.begunTurn filesUp.beginAt
   begun-at place k size h =
       rw (store-is (mapPart sv l) (ownerPart sv l) (tablePart sv l) (sv .last .number) (sv .last .time) (f .store) (f .store-sizes .some)
-          (f .store-sizes .most) place h)
+      (f .store-sizes .most) place h)
       (go _ _ _ (leb (blocksFor size) (freeCount (mapPart sv l))))
     where
       go : (map owner table : List ℕ) (t : Bool)
@@ -148,11 +152,7 @@ module _ (sv : Server) (l : Lent) (f : StateFacts sv l) (i clock : ℕ) (info : 
             file info h,
       )
 
-  -- the uplink's state names a file where it receives one
-  abbrev pub Receives : Uplink → Type 0
-  Receives u = (place offset received : ℕ) → u ≡ up.Receiving place offset received → filesOf sv l place .file .number ≡ 0 → ⊥
-
-  pub data-told : (u : Uplink) → Receives u → replied (onData u (length info) stored) ≡ toData u (filesOf sv l) info
+  pub data-told : (u : Uplink) → Receives sv l u → replied (onData u (length info) stored) ≡ toData u (filesOf sv l) info
   unfolding carryOut onChooses download.closeTurn onFrees onWrites upload.discardTurn onData toData
   data-told up.Idle r = refl
   data-told (up.Receiving place offset received) r =
@@ -205,7 +205,7 @@ module _ (sv : Server) (l : Lent) (f : StateFacts sv l) (i clock : ℕ) (info : 
           place file (eqb-true _ 0 q)))
       go false q = rw q
 
-  pub end-told : (u : Uplink) → Receives u → replied (onEnd u) ≡ toEnd u (filesOf sv l) (sv .last .time)
+  pub end-told : (u : Uplink) → Receives sv l u → replied (onEnd u) ≡ toEnd u (filesOf sv l) (sv .last .time)
   unfolding carryOut onChooses download.closeTurn onEnd toEnd
   end-told up.Idle r = refl
   end-told (up.Receiving place offset received) r = finish-told place (r place offset received refl)
