@@ -9,8 +9,7 @@ use lib.ListN.{length, getD, take, drop, replicate, length-drop, List·getD-appe
 use lib.Seq.{length-take-le, take-append-seam, take-append-le, drop-append-le}
 use Rattle.packet.specs.Numbers.{number}
 use Rattle.packet.specs.Frame.{padded}
-use Rattle.header.specs.Items.{fieldsOf}
-use Rattle.header.specs.Header.{checkItems, destinationsOf, headerOf, headerLength, headerSum, placeOf, refusedWith}
+use Rattle.header.specs.Header.{checkItems, headerOf}
 use Rattle.header.specs.declared.scan.Header.{Header}
 use Rattle.blocks.specs.Contents.{held}
 use Rattle.blocks.proofs.Held.{length-held}
@@ -66,7 +65,8 @@ module _ (sv : Server) (l : Lent) (f : StateFacts sv l) (q : ℕ) (file : filesO
   pub destinations-read : destinationsAt (l .disk) (ownerPart sv l) (tablePart sv l) q ≡ destinationsIn (filesOf sv l q .bytes)
   unfolding destinationsIn headerOf
   destinations-read =
-      destinations-is (mapPart sv l) (l .disk) (ownerPart sv l) (tablePart sv l) (sv .last .number) (sv .last .time) (f .store) (f .store-sizes) q file
+      destinations-is (mapPart sv l) (l .disk) (ownerPart sv l) (tablePart sv l) (sv .last .number) (sv .last .time) (f .store) (f .store-sizes)
+      q file
       ∙ go (eqb (checkItems (filesOf sv l q .bytes)) 0) _ _
     where
       go : (t : Bool) (x y : Header) → cond t x y .destinations ≡ cond t (x .destinations) (y .destinations)

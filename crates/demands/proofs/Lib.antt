@@ -40,3 +40,4 @@ pub mod Demands
 pub mod Plain
 pub mod Example
 pub mod AtWork
+pub mod SheetAtWork

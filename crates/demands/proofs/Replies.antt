@@ -1,13 +1,13 @@
 -- The answer sheet: what the server says to each packet is what `replyTo` says. Assumes nothing.
-use mathlib.Core.Path.{_≡_, refl, sym, ap, _∙_, subst}
+use mathlib.Core.Path.{_≡_, refl, sym, ap, _∙_}
 use mathlib.Core.Bool.{Bool, true, false, cond}
 use mathlib.Core.List.{List}
-use mathlib.Core.Option.{Option, none, some}
+use mathlib.Core.Option.{none, some}
 use Prim.Native.Nat.{ℕ, _*_, _≤_}
 use native.Mathlib.Omega.{arith}
 use borrow.Author.Tests.{eq-eqb, ne-eqb, ltb-false}
 use lib.Dec.{eqb, ltb}
-use lib.ListN.{length, getD}
+use lib.ListN.{length}
 use Rattle.packet.specs.declared.frame.Frame.the-variants.{Whole}
 use Rattle.packet.specs.Machine.{Call, call}
 use Rattle.packet.specs.Frame.{Held, Event, packet, none-held, padded, answerBy, byte}
@@ -16,7 +16,7 @@ use Rattle.session.specs.declared.reply.Reply.{Reply}
 use Rattle.session.specs.declared.reply.Reply.the-variants as reply
 use Rattle.session.specs.State.{withHeld}
 use Rattle.session.specs.Expected.{takesData, takesUpload, expectedUp, expectedDown, expected}
-use Rattle.session.specs.Reply.{Told, told, tell}
+use Rattle.session.specs.Reply.{told, tell}
 use Rattle.table.specs.declared.File.{File}
 use Rattle.table.specs.Table.{files}
 use Rattle.links.proofs.Facts.{LinkFacts}
@@ -24,10 +24,9 @@ use Rattle.carry.specs.Turn.{mem}
 use Rattle.carry.specs.Download as download
 use Rattle.carry.specs.Carry.{onChooses, carryOut}
 use Rattle.decide.specs.Uplink.{onData, onEnd, onUpload, onUplink}
-use Rattle.decide.specs.Downlink.{onDownload, onAck, onNak, onDownlink}
+use Rattle.decide.specs.Downlink.{onDownlink}
 use Rattle.decide.specs.Decide.{onPacket, onFrame, decideOf}
 use Rattle.decide.specs.declared.act.Act.{Act}
-use Rattle.decide.specs.declared.act.Act.the-variants as act
 use Rattle.server.specs.declared.Server.{Server}
 use Rattle.server.specs.declared.check.Check.the-variants.{Go}
 use Rattle.server.specs.State.{Lent, Outcome, linkOf, tablePart, part}
@@ -70,6 +69,9 @@ module _ (sv : Server) (l : Lent) (session clock : ℕ) (input out : List ℕ) (
 
   abbrev replied : Act → Reply
   replied = informed.replied sv l i clock info
+
+  on : (b : Bool) (x y : Act) (r q : Reply) → (b ≡ true → replied x ≡ r) → (b ≡ false → replied y ≡ q) → replied (cond b x y) ≡ cond b r q
+  on = informed.either sv l i clock info
 
   abbrev facts : StateFacts sv l
   facts = steps.facts sv l session clock input out i t
@@ -126,14 +128,11 @@ module _ (sv : Server) (l : Lent) (session clock : ℕ) (input out : List ℕ) (
       on (eqb kind 16) _ _ _ _
       (λ _. downlink.select-told sv l facts i clock info short (steps.selection-part sv l session clock input out i t))
       (λ _. refl))))
-    where
-      on : (b : Bool) (x y : Act) (r q : Reply) → (b ≡ true → replied x ≡ r) → (b ≡ false → replied y ≡ q) → replied (cond b x y) ≡ cond b r q
-      on = informed.either sv l i clock info
 
   packet-told : replied (onPacket own (sv .links) kind (length info) (padded info) stored selected) ≡ replyTo sv l i kind info
   unfolding carryOut onChooses download.closeTurn onPacket replyTo expected
   packet-told =
-      informed.either sv l i clock info (expected (linkOf sv i .up) (linkOf sv i .down) kind (length info)) _ _ _ _
+      on (expected (linkOf sv i .up) (linkOf sv i .down) kind (length info)) _ _ _ _
       (λ e. by-side (ltb kind 8) refl e) (λ _. refl)
     where
       by-side : (b : Bool) → ltb kind 8 ≡ b

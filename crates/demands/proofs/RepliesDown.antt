@@ -3,7 +3,7 @@ use mathlib.Core.Path.{_≡_, refl, sym, ap, _∙_}
 use mathlib.Core.Bool.{Bool, true, false, cond}
 use mathlib.Core.List.{List}
 use mathlib.Core.Option.{Option, none, some}
-use Prim.Native.Nat.{ℕ, _+_, _*_, _≤_, _<_}
+use Prim.Native.Nat.{ℕ, _*_, _≤_, _<_}
 use native.Mathlib.Omega.{arith}
 use borrow.Author.Tests.{le-ltb, eqb-true, eqb-false}
 use lib.Dec.{eqb, ltb}
@@ -29,8 +29,7 @@ use Rattle.table.proofs.Finding.{find-found, find-number}
 use Rattle.table.proofs.Records.{uploaded-file}
 use Rattle.table.proofs.Ordering.{in-order-above}
 use Rattle.files.specs.View.{recordAt, bytesAt}
-use Rattle.files.specs.Completion.{destinationsAt}
-use Rattle.files.specs.Selection.{meetsAt, chosen, selectNumber, selects, selectOf}
+use Rattle.files.specs.Selection.{meetsAt, chosen, selects, selectOf}
 use Rattle.files.specs.Selection as selection
 use Rattle.files.proofs.Selected.{meets-is}
 use Rattle.carry.specs.Turn.{turnOf}
@@ -39,7 +38,6 @@ use Rattle.carry.specs.Carry.{onChooses, carryOut}
 use Rattle.decide.specs.Words.{wordAt}
 use Rattle.decide.specs.Downlink.{onFound, onNumbered, onDownload, onAck, onNak}
 use Rattle.decide.specs.declared.act.Act.{Act}
-use Rattle.decide.specs.declared.act.Act.the-variants as act
 use Rattle.server.specs.declared.Server.{Server}
 use Rattle.server.specs.State.{Lent, linkOf, mapPart, ownerPart, tablePart, part}
 use Rattle.history.specs.Stored.{filesOf}

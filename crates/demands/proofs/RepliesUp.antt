@@ -4,7 +4,7 @@ use mathlib.Core.Bool.{Bool, true, false, cond}
 use mathlib.Core.List.{List}
 use Prim.Native.Nat.{ℕ, _+_, _≤_, _<_}
 use native.Mathlib.Omega.{arith}
-use borrow.Author.Tests.{le-ltb, eq-eqb, ne-eqb, eqb-true, eqb-false, ltb-false}
+use borrow.Author.Tests.{le-ltb, eqb-true, eqb-false, ltb-false}
 use lib.Dec.{eqb, leb, ltb}
 use lib.ListN.{length}
 use Rattle.packet.specs.Frame.{padded}
@@ -19,10 +19,9 @@ use Rattle.session.specs.State.{withHeld}
 use Rattle.table.specs.declared.File.{File}
 use Rattle.table.specs.declared.Found.{Found}
 use Rattle.table.specs.declared.Found.the-variants.{Nothing, At}
-use Rattle.table.specs.declared.Given.{Given}
 use Rattle.table.specs.declared.Given.the-variants.{UsedUp, Next}
 use Rattle.table.specs.Table.{files, fileAt, findOf, freeOf}
-use Rattle.table.specs.Given.{nextNumber, uploadTime, blocksFor}
+use Rattle.table.specs.Given.{uploadTime, blocksFor}
 use Rattle.table.proofs.Finding.{free-place, find-number}
 use Rattle.files.specs.declared.Begun.the-variants.{Refused, Started}
 use Rattle.files.specs.Uploads as filesUp
@@ -58,6 +57,9 @@ module _ (sv : Server) (l : Lent) (f : StateFacts sv l) (i clock : ℕ) (info : 
 
   abbrev replied : Act → Reply
   replied = informed.replied sv l i clock info
+
+  on : (b : Bool) (x y : Act) (r q : Reply) → (b ≡ true → replied x ≡ r) → (b ≡ false → replied y ≡ q) → replied (cond b x y) ≡ cond b r q
+  on = informed.either sv l i clock info
 
   -- ---- UPLOAD_CMD
 
@@ -117,21 +119,18 @@ module _ (sv : Server) (l : Lent) (f : StateFacts sv l) (i clock : ℕ) (info : 
       (λ _. ap (λ (n : ℕ). reply.Go number n) (sym (informed.bytes-received sv l f place (λ y. z (sym (find-number stored number place e) ∙ y))))))
       (λ _. refl))
       (λ _. refl)
-    where
-      on : (b : Bool) (x y : Act) (r q : Reply) → (b ≡ true → replied x ≡ r) → (b ≡ false → replied y ≡ q) → replied (cond b x y) ≡ cond b r q
-      on = informed.either sv l i clock info
 
   upload-words : (number size : ℕ)
       → replied (cond (eqb number 0) (act.Begin size) (onContinued (findOf stored number) number size (sv .links) stored))
       ≡ cond (eqb number 0) (toNew sv l size) (toContinued (findOf stored number) (filesOf sv l) (sv .links) number size)
   upload-words number size =
-      informed.either sv l i clock info (eqb number 0) _ _ _ _ (λ _. new-told size)
+      on (eqb number 0) _ _ _ _ (λ _. new-told size)
       (λ q. continued-told (findOf stored number) number size refl (eqb-false number 0 q))
 
   pub upload-told : replied (onUpload (sv .links) (length info) (padded info) stored) ≡ toUpload sv l info
   unfolding carryOut onUpload toUpload
   upload-told =
-      informed.either sv l i clock info (eqb (length info) 8) _ _ _ _
+      on (eqb (length info) 8) _ _ _ _
       (λ q.
       let n = eqb-true (length info) 8 q in
       rw (informed.word-padded info 0 (omega arith), informed.word-padded info 4 (omega arith)) (upload-words (wordAt info 0) (wordAt info 4)))
@@ -158,7 +157,7 @@ module _ (sv : Server) (l : Lent) (f : StateFacts sv l) (i clock : ℕ) (info : 
   data-told (up.Receiving place offset received) r =
       let file = r place offset received refl in
       rw (informed.bytes-received sv l f place file)
-      (informed.either sv l i clock info
+      (on
       (ltb (filesOf sv l place .file .size) (filesOf sv l place .file .received + length info)) _ _ _ _
       (λ _. refl)
       (λ q. stored-told place offset received file (ltb-false _ _ q)))

@@ -82,7 +82,8 @@ toData (up.Receiving place offset received) F info =
     cond (ltb (F place .file .size) (length (F place .bytes) + length info)) (reply.Nak 16) reply.Nothing
 toData up.Ignoring F info = reply.Nothing
 
--- "DATA_END gets UL_ACK_RESP or UL_NAK_RESP": the checks of the header, "then 3", upload times used up; that of an ignored upload "gets no response (H)"
+-- "DATA_END gets UL_ACK_RESP or UL_NAK_RESP": the checks of the header, "then 3", upload times used up; that of an ignored upload "gets no response
+-- (H)"
 unfoldable pub toEnd : Uplink → Files → ℕ → Reply
 toEnd up.Idle F last = reply.Closing
 toEnd (up.Receiving place offset received) F last =
