@@ -1,6 +1,6 @@
--- Small passes and calls, and what the server answers to them: by computation, from the definitions that the contracts cite. AtWork.antt applies
--- the theorems of the three demands to them, so that each is seen to speak of states, files and packets that are there. The file is document 01's
--- smallest one of 80 bytes. Assumes nothing.
+-- Small passes and calls, and what the server answers to them: by computation, from the definitions that the contracts cite. AtWork.antt and
+-- SheetAtWork.antt apply the theorems of the three demands to them, so that each is seen to speak of states, files and packets that are there. The
+-- file is document 01's smallest one of 80 bytes. Assumes nothing.
 use mathlib.Core.Path.{_≡_, refl}
 use mathlib.Core.Bool.{true, false}
 use mathlib.Core.Logic.{inl, inr}
@@ -116,6 +116,10 @@ dataEnd = 0 ∷ 1 ∷ []
 abbrev pub shortUpload : List ℕ
 shortUpload = 1 ∷ 3 ∷ 0 ∷ []
 
+-- UPLOAD_CMD to continue file 1 with another length, 81
+abbrev pub otherLength : List ℕ
+otherLength = 8 ∷ 3 ∷ 1 ∷ 0 ∷ 0 ∷ 0 ∷ 81 ∷ 0 ∷ 0 ∷ 0 ∷ []
+
 -- UPLOAD_CMD for a new file of 257 bytes, which needs two blocks
 abbrev pub largeUpload : List ℕ
 largeUpload = 8 ∷ 3 ∷ 0 ∷ 0 ∷ 0 ∷ 0 ∷ 1 ∷ 1 ∷ 0 ∷ 0 ∷ []
@@ -139,6 +143,10 @@ ack destination = 1 ∷ 12 ∷ destination ∷ []
 -- DL_NAK_CMD (13)
 abbrev pub nak : List ℕ
 nak = 0 ∷ 13 ∷ []
+
+-- DIR_SHORT_CMD (14) with no information
+abbrev pub directory : List ℕ
+directory = 0 ∷ 14 ∷ []
 
 -- DATA (0) of 41 bytes
 abbrev pub data41 : List ℕ
@@ -364,20 +372,26 @@ pub record Sheeted (h : History) (clock : ℕ) (bytes : List ℕ) (r : Reply) : 
   pub taken : call byte (unfinished small h) bytes .taken ≡ length bytes
 
 pub record Sheet : Type 0 where
-  -- UPLOAD_CMD: of one byte; new, of 257 bytes and of 80; continued, behind the 40 bytes received, and when the file is complete
+  -- UPLOAD_CMD: of one byte; new, of 257 bytes and of 80; continued, behind the 40 bytes received, with another length, for a file that is not there,
+  -- and when the file is complete
   pub short-upload : Sheeted opened 6 shortUpload (reply.UploadError 1)
   pub no-room : Sheeted opened 6 largeUpload (reply.UploadError 13)
   pub new : Sheeted opened 6 (upload 0) (reply.Go 1 0)
-  pub continued : Sheeted beforeUpload 10 (upload 1) (reply.Go 1 40)
+  pub offered : Sheeted beforeUpload 10 (upload 1) (reply.Go 1 40)
+  pub other-length : Sheeted beforeUpload 10 otherLength (reply.UploadError 2)
+  pub no-such-file : Sheeted opened 6 (upload 1) (reply.UploadError 4)
   pub finished : Sheeted lostOnce 12 (upload 1) (reply.UploadError 12)
   -- DATA: 41 bytes behind 40 of 80, and 40
   pub too-many : Sheeted halfway 8 data41 (reply.Nak 16)
   pub just-enough : Sheeted halfway 8 (40 ∷ 0 ∷ drop 40 smallest) reply.Nothing
-  -- DATA_END: too early
+  -- DATA_END: too early, and behind the whole file
   pub too-few : Sheeted halfway 8 dataEnd (reply.Nak 16)
-  -- DOWNLOAD_CMD: the next selected file, where none is selected; file 1 from its end on, from behind its end, with a lock destination, of which the
-  -- file has none
+  pub in-time : Sheeted (continued ▸ rest) 4 dataEnd reply.Ack
+  -- DOWNLOAD_CMD: the next selected file, where none is selected; file 1 when it is not there, when it is partial, from its end on, from behind its
+  -- end, and with a lock destination, of which it has none
   pub none-selected : Sheeted opened 6 nextFile (reply.DownloadError 5)
+  pub absent : Sheeted opened 6 (download 0 0) (reply.DownloadError 4)
+  pub partial : Sheeted beforeUpload 10 (download 0 0) (reply.DownloadError 11)
   pub at-the-end : Sheeted lostOnce 12 (download 80 0) reply.Nothing
   pub behind-the-end : Sheeted lostOnce 12 (download 81 0) (reply.DownloadError 2)
   pub locked : Sheeted lostOnce 12 (download 80 1) (reply.DownloadError 10)
@@ -392,7 +406,8 @@ pub record Sheet : Type 0 where
   -- DL_NAK_CMD before DATA_END and after it
   pub nak-before : Sheeted sending 13 nak reply.DataEnd
   pub nak-after : Sheeted sentAll 13 nak reply.Aborted
-  -- type 18
+  -- types 14 and 18
+  pub type-14 : Sheeted opened 6 directory (reply.DownloadError 1)
   pub type-18 : Sheeted opened 6 type18 reply.Closing
 
 pub record Computed : Type 0 where
@@ -465,12 +480,17 @@ computed =
         short-upload = record { kind = 3; info = 0 ∷ []; goes = refl; ends = refl; reply = refl; taken = refl };
         no-room = record { kind = 3; info = drop 2 largeUpload; goes = refl; ends = refl; reply = refl; taken = refl };
         new = record { kind = 3; info = drop 2 (upload 0); goes = refl; ends = refl; reply = refl; taken = refl };
-        continued = record { kind = 3; info = drop 2 (upload 1); goes = refl; ends = refl; reply = refl; taken = refl };
+        offered = record { kind = 3; info = drop 2 (upload 1); goes = refl; ends = refl; reply = refl; taken = refl };
+        other-length = record { kind = 3; info = drop 2 otherLength; goes = refl; ends = refl; reply = refl; taken = refl };
+        no-such-file = record { kind = 3; info = drop 2 (upload 1); goes = refl; ends = refl; reply = refl; taken = refl };
         finished = record { kind = 3; info = drop 2 (upload 1); goes = refl; ends = refl; reply = refl; taken = refl };
         too-many = record { kind = 0; info = drop 2 data41; goes = refl; ends = refl; reply = refl; taken = refl };
         just-enough = record { kind = 0; info = drop 40 smallest; goes = refl; ends = refl; reply = refl; taken = refl };
         too-few = record { kind = 1; info = []; goes = refl; ends = refl; reply = refl; taken = refl };
+        in-time = record { kind = 1; info = []; goes = refl; ends = refl; reply = refl; taken = refl };
         none-selected = record { kind = 8; info = drop 2 nextFile; goes = refl; ends = refl; reply = refl; taken = refl };
+        absent = record { kind = 8; info = drop 2 (download 0 0); goes = refl; ends = refl; reply = refl; taken = refl };
+        partial = record { kind = 8; info = drop 2 (download 0 0); goes = refl; ends = refl; reply = refl; taken = refl };
         at-the-end = record { kind = 8; info = drop 2 (download 80 0); goes = refl; ends = refl; reply = refl; taken = refl };
         behind-the-end = record { kind = 8; info = drop 2 (download 81 0); goes = refl; ends = refl; reply = refl; taken = refl };
         locked = record { kind = 8; info = drop 2 (download 80 1); goes = refl; ends = refl; reply = refl; taken = refl };
@@ -481,6 +501,7 @@ computed =
         no-destination = record { kind = 12; info = 1 ∷ []; goes = refl; ends = refl; reply = refl; taken = refl };
         nak-before = record { kind = 13; info = []; goes = refl; ends = refl; reply = refl; taken = refl };
         nak-after = record { kind = 13; info = []; goes = refl; ends = refl; reply = refl; taken = refl };
+        type-14 = record { kind = 14; info = []; goes = refl; ends = refl; reply = refl; taken = refl };
         type-18 = record { kind = 18; info = []; goes = refl; ends = refl; reply = refl; taken = refl };
       };
       locals = record {

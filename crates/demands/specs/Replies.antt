@@ -94,7 +94,8 @@ toEnd up.Ignoring F last = reply.Nothing
 
 -- ---- DOWNLOAD_CMD (8)
 
--- "14 hex is a destination": how many the header in a file's bytes has, none where its items are refused (no file that DATA_END accepted)
+-- "14 hex is a destination": how many the header in a file's bytes has; none where the header's items are refused, which those of a file that
+-- DATA_END accepted are not
 unfoldable pub destinationsIn : List ℕ → ℕ
 destinationsIn bytes = cond (eqb (checkItems bytes) 0) (destinationsOf (fieldsOf bytes)) 0
 
