@@ -1,5 +1,5 @@
 -- The theorems of the three demands at work: each that has hypotheses is applied to a small case of Example.antt that meets them, and what it gives
--- is stated. Assumes nothing.
+-- is stated. The answer sheet at work is SheetAtWork.antt. Assumes nothing.
 use mathlib.Core.Path.{_≡_, refl, ap, _∙_, sym, subst}
 use mathlib.Core.Bool.{Bool, true, false, cond}
 use mathlib.Core.Logic.{_⊎_, inl, inr}

@@ -141,7 +141,7 @@ validity-number eq h = rw (le-ltb 2047 (length eq) (omega arith)) (go (parse eq)
     go none z = refl
     go (some t) z = absurd (z refl)
 
-select-number : (eq : List ℕ) (n most : ℕ) → 1 ≤ most → most ≤ 50 → most ≤ n → length eq ≤ 256 → selectNumber eq n most ≡ validityOf eq
+pub select-number : (eq : List ℕ) (n most : ℕ) → 1 ≤ most → most ≤ 50 → most ≤ n → length eq ≤ 256 → selectNumber eq n most ≡ validityOf eq
 unfolding selectNumber
 select-number eq n most a b c d = rw (le-leb 1 most a, le-leb most 50 b, le-leb most n c, le-leb (length eq) 256 d)
 

@@ -1,4 +1,4 @@
--- Demand 2's sentences on packets, closing and cutting, together. Assumes nothing.
+-- Demand 2's sentences on replies, packets, closing and cutting, together. Assumes nothing.
 use mathlib.Core.Path.{_≡_, sym, ap, _∙_}
 use mathlib.Core.List.{List}
 use Prim.Native.Nat.{ℕ, _+_}
@@ -17,6 +17,7 @@ use Rattle.demands.proofs.CutCalls.{cut-elsewhere}
 use Rattle.demands.proofs.Uncut.{uncut-same}
 use Rattle.demands.proofs.Earlier.{lent-earlier}
 use Rattle.demands.proofs.Feeding.{enough-calls, pieces-elsewhere}
+use Rattle.demands.proofs.Replies.{every-reply}
 
 -- THEOREM: what the writer leaves reads back
 pub every-written-reads-back : WrittenReadsBack
@@ -59,6 +60,7 @@ demand-2 =
     record {
       written = every-written-reads-back;
       sent = every-sent-reads-back;
+      replies = every-reply;
       closing = every-closing;
       closing-is-losing = closing-is-losing;
       cut = cut-elsewhere;

@@ -1,6 +1,6 @@
--- Small passes and calls, and what the server answers to them: by computation, from the definitions that the contracts cite. AtWork.antt applies
--- the theorems of the three demands to them, so that each is seen to speak of states, files and packets that are there. The file is document 01's
--- smallest one of 80 bytes. Assumes nothing.
+-- Small passes and calls, and what the server answers to them: by computation, from the definitions that the contracts cite. AtWork.antt and
+-- SheetAtWork.antt apply the theorems of the three demands to them, so that each is seen to speak of states, files and packets that are there. The
+-- file is document 01's smallest one of 80 bytes. Assumes nothing.
 use mathlib.Core.Path.{_≡_, refl}
 use mathlib.Core.Bool.{true, false}
 use mathlib.Core.Logic.{inl, inr}
@@ -16,6 +16,8 @@ use Rattle.header.proofs.Examples.{smallest}
 use Rattle.header.specs.Header.{placeOf}
 use Rattle.session.specs.declared.state.Uplink.the-variants as up
 use Rattle.session.specs.declared.reply.Answer.the-variants as answer
+use Rattle.session.specs.declared.reply.Reply.{Reply}
+use Rattle.session.specs.declared.reply.Reply.the-variants as reply
 use Rattle.server.specs.declared.check.Check.the-variants.{Go}
 use Rattle.blocks.specs.FreeMap.{bitAt}
 use Rattle.server.specs.State.{Lent, lent, linkOf, part, mapPart, ownerPart}
@@ -32,6 +34,7 @@ use Rattle.demands.specs.Feeding.{feedAll, feedPieces}
 use Rattle.demands.specs.Events.{given, added, finished, dropped}
 use Rattle.demands.specs.Accepted.{uploadOf, accepted, reserved, numbersGiven, total, completion, completions}
 use Rattle.demands.specs.Demand1.{Says, Fits, IsSound, forgotten, cleared}
+use Rattle.demands.specs.Replies.{replyTo}
 use Rattle.demands.specs.Demand3.{serverAt, lentAt, filesAt, sentAt, infoAt, Outside}
 use Rattle.packet.specs.Frame as packet-frame
 use Rattle.packet.specs.Machine as packet-machine
@@ -41,6 +44,7 @@ use Rattle.session.specs.Expected as session-expected
 use Rattle.session.specs.Reply as session-reply
 use Rattle.table.specs.Table as table-table
 use Rattle.table.specs.Fit as table-fit
+use Rattle.table.specs.Order as table-order
 use Rattle.blocks.specs.FreeMap as blocks-freemap
 use Rattle.blocks.specs.Owners as blocks-owners
 use Rattle.blocks.specs.Contents as blocks-contents
@@ -54,6 +58,7 @@ use Rattle.equation.specs.Relation as equation-relation
 use Rattle.equation.specs.Symbols as equation-symbols
 use Rattle.equation.specs.Tree as equation-tree
 use Rattle.equation.specs.Answer as equation-answer
+use Rattle.equation.specs.Holds as equation-holds
 use Rattle.files.specs.Uploads as files-uploads
 use Rattle.files.specs.Completion as files-completion
 use Rattle.files.specs.Selection as files-selection
@@ -76,6 +81,7 @@ use Rattle.demands.specs.Uncut as demands-uncut
 use Rattle.demands.specs.Feeding as demands-feeding
 use Rattle.demands.specs.Events as demands-events
 use Rattle.demands.specs.Accepted as demands-accepted
+use Rattle.demands.specs.Replies as demands-replies
 
 -- ---- the small store and what its one link brings
 
@@ -112,6 +118,10 @@ dataEnd = 0 ∷ 1 ∷ []
 abbrev pub shortUpload : List ℕ
 shortUpload = 1 ∷ 3 ∷ 0 ∷ []
 
+-- UPLOAD_CMD to continue file 1 with another length, 81
+abbrev pub otherLength : List ℕ
+otherLength = 8 ∷ 3 ∷ 1 ∷ 0 ∷ 0 ∷ 0 ∷ 81 ∷ 0 ∷ 0 ∷ 0 ∷ []
+
 -- UPLOAD_CMD for a new file of 257 bytes, which needs two blocks
 abbrev pub largeUpload : List ℕ
 largeUpload = 8 ∷ 3 ∷ 0 ∷ 0 ∷ 0 ∷ 0 ∷ 1 ∷ 1 ∷ 0 ∷ 0 ∷ []
@@ -124,6 +134,22 @@ nextFile = 9 ∷ 8 ∷ 0 ∷ 0 ∷ 0 ∷ 0 ∷ 0 ∷ 0 ∷ 0 ∷ 0 ∷ 0 ∷ []
 abbrev pub titleAboveM : List ℕ
 titleAboveM = 5 ∷ 16 ∷ 147 ∷ 34 ∷ 0 ∷ 1 ∷ 109 ∷ []
 
+-- SELECT_CMD for a file_size (04) equal to 80
+abbrev pub size80 : List ℕ
+size80 = 8 ∷ 16 ∷ 128 ∷ 4 ∷ 0 ∷ 4 ∷ 80 ∷ 0 ∷ 0 ∷ 0 ∷ []
+
+-- DL_ACK_CMD (12) for a destination
+abbrev pub ack : ℕ → List ℕ
+ack destination = 1 ∷ 12 ∷ destination ∷ []
+
+-- DL_NAK_CMD (13)
+abbrev pub nak : List ℕ
+nak = 0 ∷ 13 ∷ []
+
+-- DIR_SHORT_CMD (14) with no information
+abbrev pub directory : List ℕ
+directory = 0 ∷ 14 ∷ []
+
 -- DATA (0) of 41 bytes
 abbrev pub data41 : List ℕ
 data41 = 41 ∷ 0 ∷ replicate 41 0
@@ -135,6 +161,10 @@ type18 = 0 ∷ 18 ∷ []
 -- 01 20: an announced length of 257
 abbrev pub length257 : List ℕ
 length257 = 1 ∷ 32 ∷ []
+
+-- DOWNLOAD_CMD of file 1 from an offset on, with a lock destination
+abbrev pub download : ℕ → ℕ → List ℕ
+download offset lock = 9 ∷ 8 ∷ 1 ∷ 0 ∷ 0 ∷ 0 ∷ offset ∷ 0 ∷ 0 ∷ 0 ∷ lock ∷ []
 
 -- the link is made
 unfoldable pub opened : History
@@ -157,6 +187,17 @@ rest = rx 11 (40 ∷ 0 ∷ drop 40 smallest)
 
 unfoldable pub lostOnce : History
 lostOnce = continued ▸ rest ▸ rx 4 dataEnd
+
+-- the complete file is selected
+unfoldable pub picked : History
+picked = lostOnce ▸ rx 12 size80
+
+-- it is downloaded: DATA is due, and then DATA_END has gone out
+unfoldable pub sending : History
+sending = lostOnce ▸ rx 12 (download 0 0)
+
+unfoldable pub sentAll : History
+sentAll = sending ▸ request 1 output ▸ request 1 output
 
 -- DATA_END comes too early, so the file is discarded; the next one gets the next number, and the same block
 unfoldable pub tooEarly : History
@@ -348,8 +389,57 @@ pub record Chopped : Type 0 where
   pub first′ : uncutOf pair unchopped .waiting 1 ≡ []
   pub second′ : uncutOf pair unchopped .waiting 2 ≡ 80 ∷ 0 ∷ []
 
+-- the small server takes these bytes, which end in a packet, and the answer sheet has this reply to it
+pub record Sheeted (h : History) (clock : ℕ) (bytes : List ℕ) (r : Reply) : Type 0 where
+  pub kind : ℕ
+  pub info : List ℕ
+  pub goes : checkIn (serverAt small h) (lentAt small h) (rx clock bytes) ≡ Go 0
+  pub ends : eventAt (serverAt small h) (lentAt small h) 0 bytes ≡ some (packet kind info)
+  pub reply : replyTo (serverAt small h) (lentAt small h) 0 kind info ≡ r
+  pub taken : call byte (unfinished small h) bytes .taken ≡ length bytes
+
+pub record Sheet : Type 0 where
+  -- UPLOAD_CMD: of one byte; new, of 257 bytes and of 80; continued, behind the 40 bytes received, with another length, for a file that is not there,
+  -- and when the file is complete
+  pub short-upload : Sheeted opened 6 shortUpload (reply.UploadError 1)
+  pub no-room : Sheeted opened 6 largeUpload (reply.UploadError 13)
+  pub new : Sheeted opened 6 (upload 0) (reply.Go 1 0)
+  pub offered : Sheeted beforeUpload 10 (upload 1) (reply.Go 1 40)
+  pub other-length : Sheeted beforeUpload 10 otherLength (reply.UploadError 2)
+  pub no-such-file : Sheeted opened 6 (upload 1) (reply.UploadError 4)
+  pub finished : Sheeted lostOnce 12 (upload 1) (reply.UploadError 12)
+  -- DATA: 41 bytes behind 40 of 80, and 40
+  pub too-many : Sheeted halfway 8 data41 (reply.Nak 16)
+  pub just-enough : Sheeted halfway 8 (40 ∷ 0 ∷ drop 40 smallest) reply.Nothing
+  -- DATA_END: too early, and behind the whole file
+  pub too-few : Sheeted halfway 8 dataEnd (reply.Nak 16)
+  pub in-time : Sheeted (continued ▸ rest) 4 dataEnd reply.Ack
+  -- DOWNLOAD_CMD: the next selected file, where none is selected; file 1 when it is not there, when it is partial, from its end on, from behind its
+  -- end, and with a lock destination, of which it has none
+  pub none-selected : Sheeted opened 6 nextFile (reply.DownloadError 5)
+  pub absent : Sheeted opened 6 (download 0 0) (reply.DownloadError 4)
+  pub partial : Sheeted beforeUpload 10 (download 0 0) (reply.DownloadError 11)
+  pub at-the-end : Sheeted lostOnce 12 (download 80 0) reply.Nothing
+  pub behind-the-end : Sheeted lostOnce 12 (download 81 0) (reply.DownloadError 2)
+  pub locked : Sheeted lostOnce 12 (download 80 1) (reply.DownloadError 10)
+  -- the next selected file, where it is file 1
+  pub selected-next : Sheeted picked 13 nextFile reply.Nothing
+  -- SELECT_CMD: titles greater than "m"; a file_size equal to 80
+  pub title-above-m : Sheeted opened 6 titleAboveM (reply.DownloadError 8)
+  pub size-80 : Sheeted lostOnce 12 size80 (reply.Selected 1)
+  -- DL_ACK_CMD for no destination, and for one, of which the file has none
+  pub acknowledged : Sheeted sentAll 13 (ack 0) reply.Completed
+  pub no-destination : Sheeted sentAll 13 (ack 1) reply.Aborted
+  -- DL_NAK_CMD before DATA_END and after it
+  pub nak-before : Sheeted sending 13 nak reply.DataEnd
+  pub nak-after : Sheeted sentAll 13 nak reply.Aborted
+  -- types 14 and 18
+  pub type-14 : Sheeted opened 6 directory (reply.DownloadError 1)
+  pub type-18 : Sheeted opened 6 type18 reply.Closing
+
 pub record Computed : Type 0 where
   pub refusals : Refusals
+  pub sheet : Sheet
   pub locals : Locals
   pub closings : Closings
   pub packets : Packets
@@ -392,9 +482,16 @@ unfolding
     demands-events.onSent demands-events.onAnswer demands-accepted.addedBy demands-accepted.accepted demands-accepted.reservedBy
     demands-accepted.reserved demands-accepted.total demands-accepted.givenBy demands-accepted.numbersGiven demands-accepted.fromOne
     demands-accepted.lastFrom demands-accepted.completedBy demands-accepted.completions
-    chopped unchopped demands-uncut.onBytes demands-uncut.unlessRefused demands-uncut.uncutOf server-calls.dueAs server-calls.onRequest
-    server-calls.requestOf server-sending.dueOf
+    chopped unchopped demands-uncut.onBytes demands-uncut.unlessRefused demands-uncut.uncutOf
     session-expected.expectedDown decide-downlink.onFound decide-downlink.onNumbered decide-downlink.onDownload decide-downlink.onDownlink carry-download.closeTurn carry-download.selectedAs carry-download.selectTurn carry-carry.onChooses files-selection.selectNumber files-selection.selectOf equation-symbols.starsIn equation-symbols.goodText equation-symbols.goodNumber equation-symbols.good equation-symbols.connectiveOf equation-symbols.relationAt equation-symbols.tokenOf equation-symbols.follow equation-symbols.symbolsPast equation-tree.pushed equation-tree.joined equation-tree.result equation-tree.bind equation-tree.run equation-tree.parse equation-answer.refusal equation-answer.validityOf equation-relation.width
+    demands-replies.roomFor demands-replies.toNew demands-replies.toContinued demands-replies.toUpload demands-replies.toData demands-replies.toEnd
+    demands-replies.destinationsIn demands-replies.toFile demands-replies.toNumbered demands-replies.toDownload demands-replies.toSelect
+    demands-replies.toAck demands-replies.toNak demands-replies.replyTo
+    picked sending sentAll table-order.leastAbove table-order.nextAbove table-order.placesAbove stored-answers.truthAt stored-answers.headerAt
+    header-header.headerOf files-selection.isYes files-selection.passing equation-answer.said equation-answer.answer equation-answer.isYes
+    equation-relation.compare equation-relation.numberMeets equation-relation.meets equation-holds.holds equation-holds.bytesOf equation-tree.truth
+    files-completion.destinationsAt carry-download.beginTurn blocks-answers.readOut links-sound.namedAt server-sending.leastOf server-sending.dataOf
+    server-sending.sendingOf server-sending.dueOf server-calls.dueAs server-calls.onRequest server-calls.requestOf
 computed =
     record {
       refusals = record {
@@ -407,6 +504,34 @@ computed =
         same-server = refl;
         same-lent = refl;
         ignoring = refl;
+      };
+      sheet = record {
+        short-upload = record { kind = 3; info = 0 ∷ []; goes = refl; ends = refl; reply = refl; taken = refl };
+        no-room = record { kind = 3; info = drop 2 largeUpload; goes = refl; ends = refl; reply = refl; taken = refl };
+        new = record { kind = 3; info = drop 2 (upload 0); goes = refl; ends = refl; reply = refl; taken = refl };
+        offered = record { kind = 3; info = drop 2 (upload 1); goes = refl; ends = refl; reply = refl; taken = refl };
+        other-length = record { kind = 3; info = drop 2 otherLength; goes = refl; ends = refl; reply = refl; taken = refl };
+        no-such-file = record { kind = 3; info = drop 2 (upload 1); goes = refl; ends = refl; reply = refl; taken = refl };
+        finished = record { kind = 3; info = drop 2 (upload 1); goes = refl; ends = refl; reply = refl; taken = refl };
+        too-many = record { kind = 0; info = drop 2 data41; goes = refl; ends = refl; reply = refl; taken = refl };
+        just-enough = record { kind = 0; info = drop 40 smallest; goes = refl; ends = refl; reply = refl; taken = refl };
+        too-few = record { kind = 1; info = []; goes = refl; ends = refl; reply = refl; taken = refl };
+        in-time = record { kind = 1; info = []; goes = refl; ends = refl; reply = refl; taken = refl };
+        none-selected = record { kind = 8; info = drop 2 nextFile; goes = refl; ends = refl; reply = refl; taken = refl };
+        absent = record { kind = 8; info = drop 2 (download 0 0); goes = refl; ends = refl; reply = refl; taken = refl };
+        partial = record { kind = 8; info = drop 2 (download 0 0); goes = refl; ends = refl; reply = refl; taken = refl };
+        at-the-end = record { kind = 8; info = drop 2 (download 80 0); goes = refl; ends = refl; reply = refl; taken = refl };
+        behind-the-end = record { kind = 8; info = drop 2 (download 81 0); goes = refl; ends = refl; reply = refl; taken = refl };
+        locked = record { kind = 8; info = drop 2 (download 80 1); goes = refl; ends = refl; reply = refl; taken = refl };
+        selected-next = record { kind = 8; info = drop 2 nextFile; goes = refl; ends = refl; reply = refl; taken = refl };
+        title-above-m = record { kind = 16; info = drop 2 titleAboveM; goes = refl; ends = refl; reply = refl; taken = refl };
+        size-80 = record { kind = 16; info = drop 2 size80; goes = refl; ends = refl; reply = refl; taken = refl };
+        acknowledged = record { kind = 12; info = 0 ∷ []; goes = refl; ends = refl; reply = refl; taken = refl };
+        no-destination = record { kind = 12; info = 1 ∷ []; goes = refl; ends = refl; reply = refl; taken = refl };
+        nak-before = record { kind = 13; info = []; goes = refl; ends = refl; reply = refl; taken = refl };
+        nak-after = record { kind = 13; info = []; goes = refl; ends = refl; reply = refl; taken = refl };
+        type-14 = record { kind = 14; info = []; goes = refl; ends = refl; reply = refl; taken = refl };
+        type-18 = record { kind = 18; info = []; goes = refl; ends = refl; reply = refl; taken = refl };
       };
       locals = record {
         short-disk = λ e. clash e;

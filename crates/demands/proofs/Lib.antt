@@ -18,6 +18,10 @@ pub mod Earlier
 pub mod Flushed
 pub mod Uncut
 pub mod Feeding
+pub mod Informed
+pub mod RepliesUp
+pub mod RepliesDown
+pub mod Replies
 pub mod Demand2
 pub mod Acts
 pub mod Decided
@@ -40,3 +44,4 @@ pub mod Demands
 pub mod Plain
 pub mod Example
 pub mod AtWork
+pub mod SheetAtWork

@@ -1,7 +1,8 @@
--- Demand 2, its sentences on packets and on cutting: "A packet written reads back as itself. Cutting elsewhere the bytes that a link takes, with each
--- packet and closing byte at the same clock and in the same place among the other calls, changes no packet sent and no state after it." That each
--- packet, header check, selection, refusal and closing is what the paper defines is the contract of each function. proofs/AtWork.antt shows the
--- statements at work. Assumes nothing.
+-- Demand 2: "Every packet written or read, header check, selection, refusal and closing is what FTL0 version 0 with its corrections of March 1991 and
+-- our marked house rules define." What the server says to each packet of a client is on one sheet, `EveryReply` (Replies.antt); the parts of it are
+-- the contracts of the functions. "A packet written reads back as itself. Cutting elsewhere the bytes that a link takes, with each packet and closing
+-- byte at the same clock and in the same place among the other calls, changes no packet sent and no state after it." proofs/AtWork.antt and
+-- SheetAtWork.antt show the statements at work. Assumes nothing.
 use mathlib.Core.Path.{_≡_}
 use mathlib.Core.List.{List}
 use Prim.Native.Nat.{ℕ, _≤_, _+_}
@@ -16,6 +17,7 @@ use Rattle.demands.specs.Closing.{ClosingIsLosing, EveryClosing}
 use Rattle.demands.specs.Cut.{CutElsewhere, LentEarlier}
 use Rattle.demands.specs.Uncut.{UncutSame}
 use Rattle.demands.specs.Feeding.{EnoughCalls, PiecesElsewhere}
+use Rattle.demands.specs.Replies.{EveryReply}
 
 -- the reader finds this type and this information in front of the bytes
 pub record Reads (bytes : List ℕ) (kind : ℕ) (info : List ℕ) : Type 0 where
@@ -42,6 +44,8 @@ SentReadsBack =
 pub record Demand2 : Type 0 where
   pub written : WrittenReadsBack
   pub sent : SentReadsBack
+  -- "Every packet written or read, header check, selection, refusal and closing is what FTL0 version 0 .. define"
+  pub replies : EveryReply
   pub closing : EveryClosing
   pub closing-is-losing : ClosingIsLosing
   pub cut : CutElsewhere

@@ -5,6 +5,7 @@ pub mod Unique
 pub mod Cut
 pub mod Uncut
 pub mod Feeding
+pub mod Replies
 pub mod Demand2
 pub mod Events
 pub mod Effect
