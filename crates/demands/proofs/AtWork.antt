@@ -516,6 +516,11 @@ pub same-length : length (filesAt small lostOnce 0 .bytes) ≡ 80
 unfolding smallest
 same-length = four .size
 
+-- with its fields set it passes the checks as a file of 80 bytes
+pub still-valid : verdict (filesAt small lostOnce 0 .bytes) 80 ≡ 0
+still-valid =
+    sym (ap (verdict (filesAt small lostOnce 0 .bytes)) same-length) ∙ demand-3 small small-legal lostOnce .valid of-bytes 0 live-whole whole
+
 -- 255 is a byte
 pub largest-byte : AreBytes (255 ∷ [])
 largest-byte = (omega arith, tt)

@@ -135,6 +135,12 @@ FourFields s h =
     OfBytes s h → (place : ℕ) → Live (filesAt s h place) → (filesAt s h place .file .time ≡ 0 → ⊥)
     → OnlyFour (accepted s h (filesAt s h place .file .number)) (filesAt s h place .bytes)
 
+-- with its fields set a complete file passes the checks of DATA_END still, so whoever downloads it can check it
+abbrev pub StaysValid : Start → History → Type 0
+StaysValid s h =
+    OfBytes s h → (place : ℕ) → Live (filesAt s h place) → (filesAt s h place .file .time ≡ 0 → ⊥)
+    → verdict (filesAt s h place .bytes) (length (filesAt s h place .bytes)) ≡ 0
+
 -- ---- "After a link lost at any byte, or closed, the partial holds exactly the whole DATA packets received, and a continuation offers that length."
 
 -- UL_GO_RESP (4) to an UPLOAD_CMD that names a file gives that number, and as offset the length of what was accepted under it
@@ -193,6 +199,7 @@ pub record Demand3 (s : Start) (h : History) : Type 0 where
   pub contents : Contents s h
   pub under : UnderNumber s h
   pub fields : FourFields s h
+  pub valid : StaysValid s h
   pub offers : (c : Call) → Offers s h c
   pub own : (c : Call) → OwnFile s h c
   pub told : (c : Call) → Told s h c
