@@ -113,7 +113,7 @@ rest-within at n size p = go (ltb n size) refl
     go false e = omega (arith, ltb-false n size e)
 
 -- what is left of the first n is the same whichever is cut off first
-drop-take : (at n : ℕ) (l : List ℕ) → take (n - at) (drop at l) ≡ drop at (take n l)
+pub drop-take : (at n : ℕ) (l : List ℕ) → take (n - at) (drop at l) ≡ drop at (take n l)
 drop-take zero n l = rw (sub-zero n)
 drop-take (suc at) zero l = rw (zero-sub (suc at))
 drop-take (suc at) (suc n) [] = take-nil (suc n - suc at)
