@@ -1,39 +1,30 @@
 -- What holds between two turns of the program: what was written, what waits to be written and what is still to come are the sheet of the script. Each
 -- turn keeps it. Assumes nothing.
 use native.Mathlib.Omega.{arith}
-use native.Mathlib.Numerals.{add-one}
 use mathlib.Core.Path.{_≡_, refl, sym, _∙_, ap}
 use mathlib.Core.Bool.{Bool, true, false, cond}
-use mathlib.Core.List.{List, [], _∷_, _++_, append-nil, append-assoc}
-use Prim.Native.Nat.{ℕ, zero, suc, _+_, _-_, _%_, _^_, _≤_, _<_}
-use lib.Dec.{eqb, ltb}
-use lib.ListN.{length, take, drop, length-append, length-drop, drop-of-length-le, take-append-drop}
-use lib.Seq.{length-take-le, take-take, take-append-le, take-append-add, take-append-seam, drop-drop}
-use borrow.Author.Tests.{ltb-true, ltb-false, lt-ltb, le-ltb}
-use Rattle.server.specs.State.{Lent}
+use mathlib.Core.List.{List, [], _++_, append-assoc}
+use Prim.Native.Nat.{ℕ, _+_, _-_, _^_, _≤_, _<_}
+use lib.Dec.{ltb}
+use lib.ListN.{length, take, drop, length-append, length-drop}
+use lib.Seq.{length-take-le, take-append-add}
+use borrow.Author.Tests.{ltb-false, le-ltb}
 use Rattle.history.specs.Calls.{Start, made}
 use Rattle.history.specs.Good.{Good}
-use Rattle.lines.specs.declared.commands.Command.{Command}
-use Rattle.lines.specs.declared.commands.Command.the-variants as command
-use Rattle.lines.specs.Lines.{errorLine}
-use Rattle.lines.specs.Commands.{Reads, commandOf, rxBytes, readOf}
-use Rattle.script.specs.declared.Day.{Day}
-use Rattle.script.specs.declared.doing.Doing.{Doing}
 use Rattle.script.specs.declared.doing.Doing.the-variants as doing
 use Rattle.script.specs.declared.input.Found.the-variants as found
-use Rattle.script.specs.Parts.{bytesFrom}
 use Rattle.script.specs.Doing.{restsOf, sessionOf}
-use Rattle.script.specs.Input.{findOf, shiftOf}
-use Rattle.script.specs.Day.{dayOf, beginOf, Stepping, stepOf}
+use Rattle.script.specs.Input.{findOf}
+use Rattle.script.specs.Day.{dayOf, Stepping, stepOf}
 use Rattle.script.specs.Sheet.{firstLine, lastLine, errorThenLast, linesFrom, sheetOf}
-use Rattle.script.proofs.Agreeing.{Agree, drop-take, good-step, step-session}
-use Rattle.script.proofs.Commands.{begin-session, ReadsLine, reads-line}
-use Rattle.script.proofs.Finding.{LineFound, find-line, find-long, find-nothing, nothing-found}
-use Rattle.script.proofs.SheetLaws.{toCome, come-rests, come-step, step-text, step-written, readable, not-readable, lines-none, lines-long, lines-unreadable, lines-begin-in}
+use Rattle.script.proofs.Agreeing.{good-step, step-session}
+use Rattle.script.proofs.Finding.{find-long, find-nothing, nothing-found}
+use Rattle.script.proofs.SheetLaws.{toCome, come-rests, come-step, step-text, step-written, lines-none, lines-long}
 use Rattle.passday.specs.declared.pass.Pass.{Pass}
 use Rattle.passday.specs.declared.pass.Stage.{Stage}
 use Rattle.passday.specs.declared.pass.Stage.the-variants as stage
-use Rattle.passday.specs.Pass.{Memory, memory, Passing, passing, passOf, newOf, overOf, withStage, leastOf, wrapped, unread, steppedTo, steppedOf, beyond, begunAs, readAt, begunOf, waitingText, flushedOf, keptOf, filledTo}
+use Rattle.passday.specs.Pass.{Memory, memory, Passing, passing, newOf, overOf, withStage, leastOf, wrapped, unread, steppedTo, steppedOf}
+use Rattle.passday.specs.Pass.{waitingText, flushedOf}
 use Rattle.passday.specs.Run.{endsSheet, finalOf, HasRoom, MayFollow, Front, PrintsSheet}
 
 -- ---- numbers
@@ -119,7 +110,13 @@ module _ (s : Start) (read wrote : List ℕ) (p : Pass) (m : Memory) (h : Holds 
   step-at at e busy big =
       record {
         good = good-step (p .day) (m .lent) (m .bytes) (drop at (m .text)) (h .good);
-        room = record { input = h .room .input; input-most = h .room .input-most; bytes = h .room .bytes; text = omega (arith, h .room .text, size); text-most = omega (arith, h .room .text-most, size) };
+        room = record {
+          input = h .room .input;
+          input-most = h .room .input-most;
+          bytes = h .room .bytes;
+          text = omega (arith, h .room .text, size);
+          text-most = omega (arith, h .room .text-most, size);
+        };
         from = h .from;
         end = h .end;
         filled = omega (arith, size, ends, whole);
@@ -179,7 +176,8 @@ module _ (s : Start) (read wrote : List ℕ) (p : Pass) (m : Memory) (h : Holds 
           (sym (append-assoc (take at (m .text)) (take (st .stepped .written) (st .text))
           (toCome (st .stepped .day) (st .lent) (m .bytes) (p .lines + 1) (unread p (m .input) ++ rest))))
 
-  pub holds-step : restsOf (p .day .doing) ≡ false → 560 ≤ length (m .text) - p .filled → Holds s read wrote (steppedOf p m .pass) (steppedOf p m .memory)
+  pub holds-step : restsOf (p .day .doing) ≡ false → 560 ≤ length (m .text) - p .filled
+      → Holds s read wrote (steppedOf p m .pass) (steppedOf p m .memory)
   unfolding steppedOf
   holds-step busy big = step-at (leastOf (p .filled) (length (m .text))) (least-first (p .filled) (length (m .text)) (h .filled)) busy big
 

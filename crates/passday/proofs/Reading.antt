@@ -5,8 +5,8 @@ use native.Mathlib.Numerals.{add-one}
 use mathlib.Core.Path.{_≡_, refl, sym, _∙_, ap}
 use mathlib.Core.Bool.{Bool, true, false}
 use mathlib.Core.List.{List, [], _∷_, _++_, append-assoc}
-use Prim.Native.Nat.{ℕ, zero, suc, _+_, _-_, _^_, _≤_, _<_}
-use lib.Dec.{eqb, ltb}
+use Prim.Native.Nat.{ℕ, _+_, _-_, _^_, _≤_, _<_}
+use lib.Dec.{ltb}
 use lib.ListN.{length, take, drop, length-append, length-drop, drop-of-length-le, take-append-drop}
 use lib.Seq.{length-take-le, take-take, take-append-le, take-append-add, take-append-seam, drop-drop}
 use borrow.Author.Tests.{ltb-true, ltb-false}
@@ -14,15 +14,15 @@ use Rattle.history.specs.Calls.{Start}
 use Rattle.history.specs.Good.{Good}
 use Rattle.lines.specs.declared.commands.Command.{Command}
 use Rattle.lines.specs.declared.commands.Command.the-variants as command
-use Rattle.lines.specs.Commands.{Reads, commandOf, rxBytes, readOf}
+use Rattle.lines.specs.Commands.{commandOf, rxBytes, readOf}
 use Rattle.script.specs.declared.doing.Doing.{Doing}
 use Rattle.script.specs.declared.doing.Doing.the-variants as doing
 use Rattle.script.specs.declared.input.Found.the-variants as found
 use Rattle.script.specs.Parts.{bytesFrom}
-use Rattle.script.specs.Doing.{restsOf, sessionOf}
+use Rattle.script.specs.Doing.{restsOf}
 use Rattle.script.specs.Input.{findOf, shiftOf}
 use Rattle.script.specs.Day.{beginOf}
-use Rattle.script.specs.Sheet.{firstLine, errorThenLast, linesFrom, sheetOf}
+use Rattle.script.specs.Sheet.{firstLine, errorThenLast, sheetOf}
 use Rattle.script.proofs.Reaching.{begin-server}
 use Rattle.script.proofs.Agreeing.{Agree, drop-take}
 use Rattle.script.proofs.Commands.{begin-session, ReadsLine, reads-line}
@@ -30,10 +30,11 @@ use Rattle.script.proofs.Finding.{LineFound, find-line, find-part}
 use Rattle.script.proofs.SheetLaws.{toCome, readable, not-readable, lines-unreadable, lines-begin-in}
 use Rattle.passday.specs.declared.pass.Pass.{Pass}
 use Rattle.passday.specs.declared.pass.Stage.the-variants as stage
-use Rattle.passday.specs.Pass.{Memory, memory, Passing, passing, passOf, overOf, withStage, leastOf, wrapped, unread, beyond, begunAs, readAt, begunOf}
+use Rattle.passday.specs.Pass.{Memory, memory, passing, overOf, withStage, leastOf, wrapped, unread, beyond, begunAs, begunOf}
 use Rattle.passday.specs.Pass.{waitingText, keptOf, filledTo}
-use Rattle.passday.specs.Run.{HasRoom, MayFollow, PrintsSheet}
-use Rattle.passday.proofs.Holding.{least-first, least-second, wrapped-same, remaining, Holds, Standing, going, over, ends-with, few-lines, error-last, as-lines}
+use Rattle.passday.specs.Run.{MayFollow, PrintsSheet}
+use Rattle.passday.proofs.Holding.{least-first, least-second, wrapped-same, remaining, Holds, Standing, going, over, ends-with, few-lines}
+use Rattle.passday.proofs.Holding.{error-last, as-lines}
 
 clash : false ≡ true → ⊥
 clash e = let z : _≡_ {A = ℕ} 0 1 = cc in omega arith
@@ -175,7 +176,8 @@ module _ (s : Start) (read wrote : List ℕ) (p : Pass) (m : Memory) (h : Holds 
     on c rest f =
         rw (unread-is, lines-is, ← lf rest f .behind)
         (as-lines s read wrote p m h rests rest
-        ∙ lines-begin-in (p .day) (m .lent) (p .lines + 1) n (u ++ rest) (lf rest f .found) line bytes (take-append-le n u rest (here .within)) good-begun c
+        ∙ lines-begin-in (p .day) (m .lent) (p .lines + 1) n (u ++ rest) (lf rest f .found) line bytes (take-append-le n u rest (here .within))
+        good-begun c
         (reads .agree (rests-agree (p .day .doing) (rxBytes line) bytes rests)))
 
     holds-begun : readable (commandOf line) ≡ true
@@ -227,7 +229,8 @@ module _ (s : Start) (read wrote : List ℕ) (p : Pass) (m : Memory) (h : Holds 
 
   -- ---- more input
 
-  module _ (e : findOf u (p .ended) ≡ found.Part) (n : ℕ) (brought : List ℕ) (fits : keptOf p (m .input) + length brought ≡ length (m .input)) (few : n ≤ length brought) where
+  module _ (e : findOf u (p .ended) ≡ found.Part) (n : ℕ) (brought : List ℕ) (fits : keptOf p (m .input) + length brought ≡ length (m .input))
+      (few : n ≤ length brought) where
     kept-is : keptOf p (m .input) ≡ length u
     unfolding shiftOf
     kept-is = least-first (length u) (length (m .input)) (omega (arith, size, h .end))

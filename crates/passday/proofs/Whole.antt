@@ -1,6 +1,6 @@
 -- THE PROGRAM: every run of it, however the input comes in pieces, writes the sheet of the script that was read (specs/Run.antt). Assumes nothing.
 use native.Mathlib.Omega.{arith}
-use mathlib.Core.Path.{_≡_, refl, sym, _∙_, ap}
+use mathlib.Core.Path.{_≡_, refl, sym, _∙_}
 use mathlib.Core.Bool.{Bool, true, false, cond}
 use mathlib.Core.List.{List, [], _++_, append-nil}
 use Prim.Native.Nat.{ℕ, _+_, _-_, _^_, _≤_, _<_}
@@ -19,10 +19,11 @@ use Rattle.passday.specs.declared.pass.Stage.{Stage}
 use Rattle.passday.specs.declared.pass.Stage.the-variants as stage
 use Rattle.passday.specs.declared.pass.Next.{Next}
 use Rattle.passday.specs.declared.pass.Next.the-variants as next
-use Rattle.passday.specs.Pass.{Memory, Passing, passing, newOf, overOf, withStage, unread, flushOrFill, onFound, decideOf, steppedOf, begunOf}
+use Rattle.passday.specs.Pass.{Memory, Passing, passing, newOf, overOf, withStage, unread, onFound, decideOf, steppedOf, begunOf}
 use Rattle.passday.specs.Pass.{waitingText, flushedOf, keptOf, filledTo, Turn, step, line, stop, written, broken, filled}
 use Rattle.passday.specs.Run.{Run, begun, turned, endsSheet, HasRoom, PrintsSheet, EveryRun}
-use Rattle.passday.proofs.Holding.{Holds, Standing, going, over, holds-first, holds-step, holds-written, front-now, prints-broken, prints-done, prints-long}
+use Rattle.passday.proofs.Holding.{Holds, Standing, going, over, holds-first, holds-step, holds-written, front-now, prints-broken, prints-done}
+use Rattle.passday.proofs.Holding.{prints-long}
 use Rattle.passday.proofs.Reading.{stands-line, holds-filled}
 
 clash : true ≡ false → ⊥
@@ -103,7 +104,8 @@ module _ (s : Start) (read wrote : List ℕ) where
 
 -- ---- each of them
 
-module _ (s : Start) (read wrote : List ℕ) (p : Pass) (m : Memory) (h : Holds s read wrote p m) (g : p .stage ≡ stage.Going) (small : length read < 2 ^ 63) where
+module _ (s : Start) (read wrote : List ℕ) (p : Pass) (m : Memory) (h : Holds s read wrote p m) (g : p .stage ≡ stage.Going)
+    (small : length read < 2 ^ 63) where
   flushes : Standing s read (wrote ++ waitingText p (m .text)) (passing (flushedOf true p) m)
   flushes = going kept (holds-written s read wrote p m h)
     where
@@ -113,8 +115,9 @@ module _ (s : Start) (read wrote : List ℕ) (p : Pass) (m : Memory) (h : Holds 
   breaks : Standing s read wrote (passing (flushedOf false p) m)
   breaks = over (broken-over p) (prints-broken s read wrote p m h)
 
-  fills : findOf (unread p (m .input)) (p .ended) ≡ found.Part → (n : ℕ) (brought : List ℕ) → keptOf p (m .input) + length brought ≡ length (m .input)
-      → n ≤ length brought → Standing s (read ++ take n brought) wrote (filledTo p m n brought)
+  fills : findOf (unread p (m .input)) (p .ended) ≡ found.Part → (n : ℕ) (brought : List ℕ)
+      → keptOf p (m .input) + length brought ≡ length (m .input) → n ≤ length brought
+      → Standing s (read ++ take n brought) wrote (filledTo p m n brought)
   fills e n brought fits few = going g (holds-filled s read wrote p m h e n brought fits few)
 
   steps : restsOf (p .day .doing) ≡ false → 560 ≤ length (m .text) - p .filled → Standing s read wrote (steppedOf p m)
@@ -125,7 +128,8 @@ module _ (s : Start) (read wrote : List ℕ) (p : Pass) (m : Memory) (h : Holds 
   unfolding decideOf
   turn-stands more text after t =
       go (restsOf (p .day .doing)) refl (findOf (unread p (m .input)) (p .ended)) refl (ltb 0 (p .filled))
-      (ltb (restOf (p .filled) (length (m .text)) (length (m .text))) 560) refl (rw (by-found (findOf (unread p (m .input)) (p .ended)) (p .filled)) at t)
+      (ltb (restOf (p .filled) (length (m .text)) (length (m .text))) 560) refl
+      (rw (by-found (findOf (unread p (m .input)) (p .ended)) (p .filled)) at t)
     where
       go : (r : Bool) → restsOf (p .day .doing) ≡ r → (f : Found) → findOf (unread p (m .input)) (p .ended) ≡ f → (some full : Bool)
           → ltb (restOf (p .filled) (length (m .text)) (length (m .text))) 560 ≡ full

@@ -1,12 +1,12 @@
 -- What a line of the script says of its command: the session numbers have 32 bits, and a line of 131,072 bytes has at most 65,536 hex pairs. Assumes
 -- nothing.
 use native.Mathlib.Omega.{arith}
-use mathlib.Core.Path.{_≡_, refl, sym, _∙_, ap}
+use mathlib.Core.Path.{_≡_, refl, sym, _∙_}
 use mathlib.Core.Bool.{Bool, true, false, cond}
 use mathlib.Core.List.{List, [], _∷_, _++_}
 use Prim.Native.Nat.{ℕ, zero, suc, _+_, _≤_, _<_}
 use lib.Dec.{eqb, ltb, leb}
-use lib.ListN.{length, take, drop, getD, length-append, length-drop}
+use lib.ListN.{length, drop, getD, length-append, length-drop}
 use lib.Seq.{take-length, take-append-seam}
 use borrow.Author.Tests.{leb-true, le-leb}
 use Rattle.packet.specs.Names.{bytesOf}
@@ -20,7 +20,6 @@ use Rattle.lines.specs.Numerals.{digits, valueFrom, decimalBy, decimalAt, isHex
 use Rattle.lines.specs.Commands.{onto, fieldsOf, same, endsAt, numberIn, commandOfTwo, commandOfThree, commandOfFields, commandOf}
 use Rattle.lines.specs.Commands.{rxBytes, Reads, readBy, readOf}
 use Rattle.lines.proofs.NumeralLaws.{bytes-count}
-use Rattle.script.specs.declared.doing.Doing.the-variants as doing
 use Rattle.script.specs.declared.Day.{Day}
 use Rattle.script.specs.Doing.{sessionOf}
 use Rattle.script.specs.Day.{beginOf}

@@ -15,7 +15,6 @@ use Rattle.lines.specs.declared.commands.Command.the-variants as command
 use Rattle.lines.specs.Lines.{printed, printedIn}
 use Rattle.lines.specs.Commands.{commandOf, rxBytes}
 use Rattle.script.specs.declared.Day.{Day}
-use Rattle.script.specs.declared.input.Found.{Found}
 use Rattle.script.specs.declared.input.Found.the-variants as found
 use Rattle.script.specs.Doing.{restsOf, sessionOf}
 use Rattle.script.specs.Input.{lineLength, foundOf, findOf}
