@@ -251,12 +251,12 @@ line-ends (suc k) day l bytes g p = ends-doing (day .doing) k (day .server) (day
 
 -- ---- more steps change nothing
 
-rested : (m : ℕ) (day : Day) (l : Lent) (bytes : List ℕ) → restsOf (day .doing) ≡ true → lineOf m day l bytes ≡ ran day l []
+pub rested : (m : ℕ) (day : Day) (l : Lent) (bytes : List ℕ) → restsOf (day .doing) ≡ true → lineOf m day l bytes ≡ ran day l []
 unfolding lineOf
 rested zero day l bytes e = refl
 rested (suc m) day l bytes e = rw e
 
-stepped : (m : ℕ) (day : Day) (l : Lent) (bytes : List ℕ) → restsOf (day .doing) ≡ false → lineOf (suc m) day l bytes ≡ further m day l bytes
+pub stepped : (m : ℕ) (day : Day) (l : Lent) (bytes : List ℕ) → restsOf (day .doing) ≡ false → lineOf (suc m) day l bytes ≡ further m day l bytes
 unfolding lineOf
 stepped m day l bytes e = rw e
 

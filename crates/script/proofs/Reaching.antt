@@ -60,7 +60,7 @@ own-next sv l c o w = rw (w .done, w .lent)
 
 -- ---- any moves
 
-begin-server : (d : Day) (c : Command) → beginOf d c .server ≡ d .server
+pub begin-server : (d : Day) (c : Command) → beginOf d c .server ≡ d .server
 unfolding beginOf
 begin-server d command.Unreadable = refl
 begin-server d (command.Time clock) = refl

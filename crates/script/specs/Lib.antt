@@ -6,3 +6,4 @@ pub mod Printing
 pub mod Day
 pub mod Line
 pub mod Reached
+pub mod Sheet

@@ -1,0 +1,279 @@
+-- What holds between two turns of the program (Holding.antt) holds after the next line is begun, and after more input is read. Assumes nothing.
+use native.Mathlib.Omega.{arith}
+use native.Mathlib.Nat.{sub-zero}
+use native.Mathlib.Numerals.{add-one}
+use mathlib.Core.Path.{_≡_, refl, sym, _∙_, ap}
+use mathlib.Core.Bool.{Bool, true, false}
+use mathlib.Core.List.{List, [], _∷_, _++_, append-assoc}
+use Prim.Native.Nat.{ℕ, _+_, _-_, _^_, _≤_, _<_}
+use lib.Dec.{ltb}
+use lib.ListN.{length, take, drop, length-append, length-drop, drop-of-length-le, take-append-drop}
+use lib.Seq.{length-take-le, take-take, take-append-le, take-append-add, take-append-seam, drop-drop}
+use borrow.Author.Tests.{ltb-true, ltb-false}
+use Rattle.history.specs.Calls.{Start}
+use Rattle.history.specs.Good.{Good}
+use Rattle.lines.specs.declared.commands.Command.{Command}
+use Rattle.lines.specs.declared.commands.Command.the-variants as command
+use Rattle.lines.specs.Commands.{commandOf, rxBytes, readOf}
+use Rattle.script.specs.declared.doing.Doing.{Doing}
+use Rattle.script.specs.declared.doing.Doing.the-variants as doing
+use Rattle.script.specs.declared.input.Found.the-variants as found
+use Rattle.script.specs.Parts.{bytesFrom}
+use Rattle.script.specs.Doing.{restsOf}
+use Rattle.script.specs.Input.{findOf, shiftOf}
+use Rattle.script.specs.Day.{beginOf}
+use Rattle.script.specs.Sheet.{firstLine, errorThenLast, sheetOf}
+use Rattle.script.proofs.Reaching.{begin-server}
+use Rattle.script.proofs.Agreeing.{Agree, drop-take}
+use Rattle.script.proofs.Commands.{begin-session, ReadsLine, reads-line}
+use Rattle.script.proofs.Finding.{LineFound, find-line, find-part}
+use Rattle.script.proofs.SheetLaws.{toCome, readable, not-readable, lines-unreadable, lines-begin-in}
+use Rattle.passday.specs.declared.pass.Pass.{Pass}
+use Rattle.passday.specs.declared.pass.Stage.the-variants as stage
+use Rattle.passday.specs.Pass.{Memory, memory, passing, overOf, withStage, leastOf, wrapped, unread, beyond, begunAs, begunOf}
+use Rattle.passday.specs.Pass.{waitingText, keptOf, filledTo}
+use Rattle.passday.specs.Run.{MayFollow, PrintsSheet}
+use Rattle.passday.proofs.Holding.{least-first, least-second, wrapped-same, remaining, Holds, Standing, going, over, ends-with, few-lines}
+use Rattle.passday.proofs.Holding.{error-last, as-lines}
+
+clash : false ≡ true → ⊥
+clash e = let z : _≡_ {A = ℕ} 0 1 = cc in omega arith
+
+-- ---- parts of the input
+
+-- from a later place on
+later-part : (from k end : ℕ) (input : List ℕ) → bytesFrom (from + k) end input ≡ drop k (bytesFrom from end input)
+later-part from k end input =
+    ap (λ (l : List ℕ). take (end - (from + k)) l) (sym (drop-drop k from input))
+    ∙ ap (λ (j : ℕ). take j (drop k (drop from input))) (fewer from k end) ∙ drop-take k (end - from) (drop from input)
+  where
+    fewer : (a b c : ℕ) → c - (a + b) ≡ c - a - b
+    fewer a b c = omega arith
+
+none-from : (k end : ℕ) (input : List ℕ) → end ≡ k → bytesFrom k end input ≡ []
+none-from k end input e = ap (λ (j : ℕ). take j (drop k input)) (zero-of k end e)
+  where
+    zero-of : (a b : ℕ) → b ≡ a → b - a ≡ 0
+    zero-of a b e = omega arith
+
+part-size : (from end : ℕ) (input : List ℕ) → end ≤ length input → length (bytesFrom from end input) ≡ end - from
+part-size from end input p = length-take-le (end - from) (drop from input) (omega (arith, p, length-drop from input))
+
+next-part : (from k end : ℕ) (input : List ℕ) → end ≤ length input → bytesFrom (leastOf (from + k) end) end input ≡ drop k (bytesFrom from end input)
+next-part from k end input p = go (ltb (from + k) end) refl
+  where
+    go : (t : Bool) → ltb (from + k) end ≡ t → bytesFrom (leastOf (from + k) end) end input ≡ drop k (bytesFrom from end input)
+    go true e =
+        ap (λ (j : ℕ). bytesFrom j end input) (least-first (from + k) end (omega (arith, ltb-true (from + k) end e))) ∙ later-part from k end input
+    go false e =
+        let q : end ≤ from + k = ltb-false (from + k) end e in
+        let few : length (bytesFrom from end input) ≤ k = omega (arith, q, part-size from end input p) in
+        none-from (leastOf (from + k) end) end input (sym (least-second (from + k) end q))
+        ∙ sym (drop-of-length-le (bytesFrom from end input) few)
+
+-- a line and its newline are at least one byte
+some-taken : (n : ℕ) (u : List ℕ) → 0 < length u → 1 ≤ length (take (n + 1) u)
+some-taken n [] p = absurd (omega (arith, p))
+some-taken n (b ∷ bs) p = rw (add-one n) (omega arith)
+
+-- ---- the next line
+
+rests-agree : (d : Doing) (a b : List ℕ) → restsOf d ≡ true → Agree d a b
+unfolding restsOf Agree
+rests-agree doing.Rest a b e = tt
+rests-agree (doing.Opening session) a b e = tt
+rests-agree (doing.Dropping session) a b e = tt
+rests-agree (doing.Hearing session at n) a b e = absurd (clash e)
+rests-agree (doing.Pumping session) a b e = tt
+
+begun-on : (p : Pass) (to : ℕ) (c : Command) → readable c ≡ true → begunAs p to c ≡ beyond p to c
+unfolding readable begunAs
+begun-on p to command.Unreadable e = absurd (clash e)
+begun-on p to (command.Time clock) e = refl
+begun-on p to (command.Open session) e = refl
+begun-on p to (command.Drop session) e = refl
+begun-on p to (command.Rx session n) e = refl
+
+begun-over : (p : Pass) (to : ℕ) (c : Command) → c ≡ command.Unreadable → begunAs p to c ≡ withStage p stage.Unreadable
+unfolding begunAs
+begun-over p to c e = rw e
+
+module _ (s : Start) (read wrote : List ℕ) (p : Pass) (m : Memory) (h : Holds s read wrote p m) where
+  abbrev u : List ℕ
+  u = unread p (m .input)
+
+  size : length u ≡ p .end - p .from
+  size = part-size (p .from) (p .end) (m .input) (h .end)
+
+  -- ---- a line is begun
+
+  module _ (rests : restsOf (p .day .doing) ≡ true) (small : length read < 2 ^ 63) (n : ℕ) (e : findOf u (p .ended) ≡ found.Line n) where
+    abbrev line : List ℕ
+    line = take n u
+
+    abbrev bytes : List ℕ
+    bytes = readOf line (m .bytes) .bytes
+
+    lf : (rest : List ℕ) → MayFollow p rest → LineFound u rest n
+    lf rest f = find-line u rest (p .ended) n e f
+
+    here : LineFound u [] n
+    here = lf [] (λ x. refl)
+
+    to-same : wrapped (p .from + n) ≡ p .from + n
+    to-same = wrapped-same (p .from + n) (omega (arith, here .within, size, h .from, h .end, h .room .input-most))
+
+    line-is : bytesFrom (p .from) (wrapped (p .from + n)) (m .input) ≡ line
+    line-is =
+        ap (λ (k : ℕ). bytesFrom (p .from) k (m .input)) to-same ∙ ap (λ (k : ℕ). take k (drop (p .from) (m .input))) (back (p .from) n)
+        ∙ sym (take-take n (p .end - p .from) (drop (p .from) (m .input)) (omega (arith, here .within, size)))
+      where
+        back : (a b : ℕ) → a + b - a ≡ b
+        back a b = omega arith
+
+    reads : ReadsLine (p .day) line (m .bytes) (commandOf line) (readOf line (m .bytes))
+    reads =
+        reads-line (p .day) line (m .bytes) (omega (arith, here .most, length-take-le n u (here .within))) (h .room .bytes)
+
+    begun-is : begunOf p n m
+        ≡ passing (begunAs p (wrapped (p .from + n)) (commandOf line)) (memory (m .lent) (m .input) bytes (m .text))
+    unfolding begunOf
+    begun-is =
+        ap (λ (l : List ℕ). passing (begunAs p (wrapped (p .from + n)) (readOf l (m .bytes) .command))
+        (memory (m .lent) (m .input) (readOf l (m .bytes) .bytes) (m .text))) line-is
+        ∙ ap (λ (c : Command). passing (begunAs p (wrapped (p .from + n)) c) (memory (m .lent) (m .input) bytes (m .text))) (reads .command)
+
+    from-is : leastOf (wrapped (wrapped (p .from + n) + 1)) (p .end) ≡ leastOf (p .from + (n + 1)) (p .end)
+    from-is =
+        ap (λ (k : ℕ). leastOf k (p .end))
+        (ap (λ (k : ℕ). wrapped (k + 1)) to-same
+        ∙ wrapped-same (p .from + n + 1) (omega (arith, here .within, size, h .from, h .end, h .room .input-most))
+        ∙ plus (p .from) n)
+      where
+        plus : (a b : ℕ) → a + b + 1 ≡ a + (b + 1)
+        plus a b = omega arith
+
+    least-most : (a b : ℕ) → leastOf a b ≤ b
+    least-most a b = go (ltb a b) refl
+      where
+        go : (t : Bool) → ltb a b ≡ t → leastOf a b ≤ b
+        go true f = omega (arith, ltb-true a b f, least-first a b (omega (arith, ltb-true a b f)))
+        go false f = omega (arith, least-second a b (ltb-false a b f))
+
+    unread-is : bytesFrom (leastOf (wrapped (wrapped (p .from + n) + 1)) (p .end)) (p .end) (m .input) ≡ drop (n + 1) u
+    unread-is =
+        ap (λ (k : ℕ). bytesFrom k (p .end) (m .input)) from-is ∙ next-part (p .from) (n + 1) (p .end) (m .input) (h .end)
+
+    lines-is : wrapped (p .lines + 1) ≡ p .lines + 1
+    lines-is = wrapped-same (p .lines + 1) (few-lines s read wrote p m h small)
+
+    good-begun : Good (beginOf (p .day) (commandOf line) .server) (m .lent)
+    good-begun = rw (begin-server (p .day) (commandOf line)) (h .good)
+
+    on : readable (commandOf line) ≡ true → (rest : List ℕ) → MayFollow p rest
+        → remaining p m rest
+        ≡ remaining (beyond p (wrapped (p .from + n)) (commandOf line)) (memory (m .lent) (m .input) bytes (m .text)) rest
+    on c rest f =
+        rw (unread-is, lines-is, ← lf rest f .behind)
+        (as-lines s read wrote p m h rests rest
+        ∙ lines-begin-in (p .day) (m .lent) (p .lines + 1) n (u ++ rest) (lf rest f .found) line bytes (take-append-le n u rest (here .within))
+        good-begun c
+        (reads .agree (rests-agree (p .day .doing) (rxBytes line) bytes rests)))
+
+    holds-begun : readable (commandOf line) ≡ true
+        → Holds s read wrote (beyond p (wrapped (p .from + n)) (commandOf line)) (memory (m .lent) (m .input) bytes (m .text))
+    holds-begun c =
+        record {
+          good = good-begun;
+          room = record {
+            input = h .room .input;
+            input-most = h .room .input-most;
+            bytes = omega (arith, h .room .bytes, reads .size);
+            text = h .room .text;
+            text-most = h .room .text-most;
+          };
+          from = least-most (wrapped (wrapped (p .from + n) + 1)) (p .end);
+          end = h .end;
+          filled = h .filled;
+          session = begin-session (p .day) line (h .session);
+          passed = h .passed ++ take (n + 1) u;
+          is = rw unread-is
+              (h .is ∙ ap (λ (x : List ℕ). h .passed ++ x) (sym (take-append-drop (n + 1) u))
+              ∙ sym (append-assoc (h .passed) (take (n + 1) u) (drop (n + 1) u)));
+          lines = rw lines-is (omega (arith, h .lines, length-append (h .passed) (take (n + 1) u), some-taken n u (here .some)));
+          sheet = λ rest f. h .sheet rest f ∙ ap (λ (x : List ℕ). firstLine ++ (wrote ++ (waitingText p (m .text) ++ x))) (on c rest f);
+        }
+
+    prints-unreadable : commandOf line ≡ command.Unreadable
+        → PrintsSheet s read wrote (passing (withStage p stage.Unreadable) (memory (m .lent) (m .input) bytes (m .text)))
+    prints-unreadable c =
+        ends-with s read wrote p m h stage.Unreadable bytes (errorThenLast (p .lines + 1) (m .lent))
+        (λ rest f. as-lines s read wrote p m h rests rest
+        ∙ lines-unreadable (p .day) (m .lent) (p .lines + 1) n (u ++ rest) (lf rest f .found)
+        (ap commandOf (take-append-le n u rest (here .within)) ∙ c))
+        (error-last s read wrote p m h bytes small)
+
+    over-unreadable : overOf stage.Unreadable ≡ true
+    unfolding overOf
+    over-unreadable = refl
+
+    pub stands-line : p .stage ≡ stage.Going → Standing s read wrote (begunOf p n m)
+    stands-line g = rw begun-is (go (readable (commandOf line)) refl)
+      where
+        go : (t : Bool) → readable (commandOf line) ≡ t
+            → Standing s read wrote (passing (begunAs p (wrapped (p .from + n)) (commandOf line)) (memory (m .lent) (m .input) bytes (m .text)))
+        go true c = rw (begun-on p (wrapped (p .from + n)) (commandOf line) c) (going g (holds-begun c))
+        go false c =
+            let z = not-readable (commandOf line) c in
+            rw (begun-over p (wrapped (p .from + n)) (commandOf line) z) (over over-unreadable (prints-unreadable z))
+
+  -- ---- more input
+
+  module _ (e : findOf u (p .ended) ≡ found.Part) (n : ℕ) (brought : List ℕ) (fits : keptOf p (m .input) + length brought ≡ length (m .input))
+      (few : n ≤ length brought) where
+    kept-is : keptOf p (m .input) ≡ length u
+    unfolding shiftOf
+    kept-is = least-first (length u) (length (m .input)) (omega (arith, size, h .end))
+
+    front-is : take (keptOf p (m .input)) (shiftOf (p .from) (p .end) (m .input) .input) ≡ u
+    unfolding shiftOf
+    front-is = rw kept-is (take-append-seam u (drop (length u) (m .input)))
+
+    input-size : length (take (keptOf p (m .input)) (shiftOf (p .from) (p .end) (m .input) .input) ++ brought) ≡ length (m .input)
+    input-size = rw front-is (length-append u brought ∙ ap (λ (k : ℕ). k + length brought) (sym kept-is) ∙ fits)
+
+    unread-more : unread (filledTo p m n brought .pass) (filledTo p m n brought .memory .input) ≡ u ++ take n brought
+    unread-more =
+        rw (front-is, kept-is) (ap (λ (k : ℕ). take k (u ++ brought)) (sub-zero (length u + n)) ∙ take-append-add u brought n)
+
+    not-ended : (rest : List ℕ) → MayFollow p rest
+    not-ended rest f = absurd (clash (sym (find-part u (p .ended) e) ∙ f))
+
+    on-more : (rest : List ℕ)
+        → remaining p m (take n brought ++ rest) ≡ remaining (filledTo p m n brought .pass) (filledTo p m n brought .memory) rest
+    on-more rest =
+        rw unread-more
+        (ap (λ (x : List ℕ). toCome (p .day) (m .lent) (m .bytes) (p .lines + 1) x) (sym (append-assoc u (take n brought) rest)))
+
+    pub holds-filled : Holds s (read ++ take n brought) wrote (filledTo p m n brought .pass) (filledTo p m n brought .memory)
+    holds-filled =
+        record {
+          good = h .good;
+          room = record {
+            input = omega (arith, h .room .input, input-size);
+            input-most = omega (arith, h .room .input-most, input-size);
+            bytes = h .room .bytes;
+            text = h .room .text;
+            text-most = h .room .text-most;
+          };
+          from = omega arith;
+          end = omega (arith, input-size, fits, few);
+          filled = h .filled;
+          session = h .session;
+          passed = h .passed;
+          is = rw unread-more (ap (λ (x : List ℕ). x ++ take n brought) (h .is) ∙ append-assoc (h .passed) u (take n brought));
+          lines = h .lines;
+          sheet = λ rest f. ap (sheetOf s) (append-assoc read (take n brought) rest)
+              ∙ h .sheet (take n brought ++ rest) (not-ended (take n brought ++ rest))
+              ∙ ap (λ (x : List ℕ). firstLine ++ (wrote ++ (waitingText p (m .text) ++ x))) (on-more rest);
+        }
