@@ -6,7 +6,7 @@ use mathlib.Core.Bool.{Bool, true, false, cond}
 use mathlib.Core.List.{List, [], _++_, append-assoc}
 use Prim.Native.Nat.{ℕ, _+_, _-_, _^_, _≤_, _<_}
 use lib.Dec.{ltb}
-use lib.ListN.{length, take, drop, length-append, length-drop}
+use lib.ListN.{length, take, drop, length-append, length-drop, take-append-drop}
 use lib.Seq.{length-take-le, take-append-add}
 use borrow.Author.Tests.{ltb-false, le-ltb}
 use Rattle.history.specs.Calls.{Start, made}
@@ -219,9 +219,24 @@ module _ (s : Start) (read wrote : List ℕ) (p : Pass) (m : Memory) (h : Holds 
   unfolding endsSheet
   broken-clash e = let z : _≡_ {A = ℕ} 0 1 = cc in omega arith
 
-  pub prints-broken : PrintsSheet s read wrote (passing (flushedOf false p) m)
+  -- also where a part of what waits was written
+  front-part : (n : ℕ) (rest : List ℕ) → MayFollow p rest
+      → Front (firstLine ++ (wrote ++ take n (waitingText p (m .text)))) (sheetOf s (read ++ rest))
+  front-part n rest f =
+      let w = waitingText p (m .text) in
+      let more = remaining p m rest in
+      record {
+        back = drop n w ++ more;
+        is = append-assoc firstLine (wrote ++ take n w) (drop n w ++ more)
+            ∙ ap (λ (x : List ℕ). firstLine ++ x)
+            (append-assoc wrote (take n w) (drop n w ++ more)
+            ∙ ap (λ (x : List ℕ). wrote ++ x) (sym (append-assoc (take n w) (drop n w) more) ∙ ap (λ (x : List ℕ). x ++ more) (take-append-drop n w)))
+            ∙ sym (h .sheet rest f);
+      }
+
+  pub prints-broken : (n : ℕ) → PrintsSheet s read (wrote ++ take n (waitingText p (m .text))) (passing (flushedOf false p) m)
   unfolding flushedOf
-  prints-broken = record { front = λ rest f. front-now rest f; whole = λ rest f e. absurd (broken-clash e) }
+  prints-broken n = record { front = λ rest f. front-part n rest f; whole = λ rest f e. absurd (broken-clash e) }
 
   -- where nothing is left but the last lines, these are written last; the bytes lent for a line's own do not matter
   pub ends-with : (st : Stage) (bytes last : List ℕ) → ((rest : List ℕ) → MayFollow p rest → remaining p m rest ≡ last)

@@ -92,9 +92,10 @@ module _ (s : Start) (read wrote : List ℕ) where
 
     by-flush : (more text : List ℕ) (after : Passing) → Turn p m next.Flush more text after
         → Standing s read (wrote ++ waitingText p (m .text)) (passing (flushedOf true p) m)
-        → Standing s read wrote (passing (flushedOf false p) m) → Standing s (read ++ more) (wrote ++ text) after
+        → ((n : ℕ) → Standing s read (wrote ++ take n (waitingText p (m .text))) (passing (flushedOf false p) m))
+        → Standing s (read ++ more) (wrote ++ text) after
     by-flush more text after written st bad = rw (append-nil read) st
-    by-flush more text after broken st bad = quiet (passing (flushedOf false p) m) bad
+    by-flush more text after (broken n) st bad = rw (append-nil read) (bad n)
 
     by-fill : (more text : List ℕ) (after : Passing) → Turn p m next.Fill more text after
         → ((n : ℕ) (brought : List ℕ) → keptOf p (m .input) + length brought ≡ length (m .input) → n ≤ length brought
@@ -112,8 +113,8 @@ module _ (s : Start) (read wrote : List ℕ) (p : Pass) (m : Memory) (h : Holds 
       kept : flushedOf true p .stage ≡ stage.Going
       kept = flushed-stage p ∙ g
 
-  breaks : Standing s read wrote (passing (flushedOf false p) m)
-  breaks = over (broken-over p) (prints-broken s read wrote p m h)
+  breaks : (n : ℕ) → Standing s read (wrote ++ take n (waitingText p (m .text))) (passing (flushedOf false p) m)
+  breaks n = over (broken-over p) (prints-broken s read wrote p m h n)
 
   fills : findOf (unread p (m .input)) (p .ended) ≡ found.Part → (n : ℕ) (brought : List ℕ)
       → keptOf p (m .input) + length brought ≡ length (m .input) → n ≤ length brought
