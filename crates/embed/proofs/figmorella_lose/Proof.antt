@@ -7,10 +7,15 @@ use Rattle.embed.proofs.tell.Reads as tell-reads
 use Rattle.embed.proofs.words.check.Reads as check-reads
 use Rattle.embed.proofs.words.server_at.Reads as server-at-reads
 use Rattle.server.proofs.lose.Reads as lose-reads
-use mathlib.Core.Path.{sym, _∙_}
+use mathlib.Core.Path.{_≡_, ap, sym, _∙_}
+use mathlib.Core.List.{List}
+use Prim.Native.Nat.{ℕ}
 use lib.ListN.{length}
 use Rattle.embed.proofs.Checked.{ready-go}
-use Rattle.embed.specs.Calls.{loseBy, onLose}
+use Rattle.embed.specs.Calls.{Told, gone, loseBy, onLose}
+
+gone-told : (t u : Told) (selected held : List ℕ) → t ≡ u → gone t selected held ≡ gone u selected held
+gone-told t u selected held e = ap (λ (x : Told). gone x selected held) e
 
 check-requires : tie.Need-check-requires
 check-requires c κs = search needs
@@ -51,7 +56,7 @@ same-length-5 c = search needs
 
 returns-2 : tie.Need-returns-2
 unfolding loseBy onLose
-returns-2 c = (rw (← c .before .before .before .before .before .before .before .before .before .before .before .before .before .before .before .before .before .before .before .check .ensures, c .before .before .before .before .before .before .before .before .before .before .before .before .before .before .before .before .before .enum-told .given .1, ← c .before .before .before .before .before .before .before .before .before .before .before .before .before .before .before .server-at .ensures, ← c .before .before .before .before .before .before .before .before .before .before .before .before .lose .ensures, ← c .before .before .before .before .tell .ensures .0), λ _. c .before .before .before .before .tell .ensures .1)
+returns-2 c = (rw (← c .before .before .before .before .before .before .before .before .before .before .before .before .before .before .before .before .before .before .before .check .ensures, c .before .before .before .before .before .before .before .before .before .before .before .before .before .before .before .before .before .enum-told .given .1, ← c .before .before .before .before .before .before .before .before .before .before .before .before .before .before .before .server-at .ensures, ← c .before .before .before .before .before .before .before .before .before .before .before .before .lose .ensures) (gone-told _ _ _ _ (c .before .before .before .before .tell .ensures .0)), λ _. c .before .before .before .before .tell .ensures .1)
 
 pub figmorella-lose-spec : {M : Type 1} → statement M
 figmorella-lose-spec =
