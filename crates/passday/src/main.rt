@@ -4,6 +4,11 @@ mod pass;
 
 use libc::STDOUT_FILENO;
 use pass::Pass;
+ghost use mathlib.Core.Path.{_≡_};
+ghost use mathlib.Core.Bool.{false};
+ghost use Rattle.server.specs.State.{lent};
+ghost use Rattle.passday.specs.Pass.{memory, passing, overOf};
+ghost use Rattle.passday.specs.Run.{Played};
 
 // Turns of the program. Nothing says that the input ends, so they are counted down from a number that no run uses up.
 fn play(
@@ -17,7 +22,15 @@ fn play(
     input: &mut [u8],
     bytes: &mut [u8],
     text: &mut [u8],
-) -> Pass {
+) -> Pass
+    requires { ⌜ overOf (start .stage) ≡ false ⌝ }
+    ensures { λ r. ⌜ Played start (memory
+        (lent (now (disk .entry)) (now (map .entry)) (now (owner .entry)) (now (table .entry)) (now (selected .entry)) (now (held .entry)))
+        (now (input .entry)) (now (bytes .entry)) (now (text .entry)))
+        (passing r (memory
+        (lent (now (disk .exit)) (now (map .exit)) (now (owner .exit)) (now (table .exit)) (now (selected .exit)) (now (held .exit)))
+        (now (input .exit)) (now (bytes .exit)) (now (text .exit)))) ⌝ }
+{
     let mut pass = start;
     let mut turns = u64::MAX;
     while 0 < turns {
