@@ -1,3 +1,4 @@
 pub mod Parts
 pub mod Turning
 pub mod Starting
+pub mod Last

@@ -9,6 +9,7 @@ use script::parts::least;
 use server::Server;
 use std::num::wrapping_add_usize;
 ghost use mathlib.Core.Path.{_≡_};
+ghost use mathlib.Core.Bool.{true};
 ghost use mathlib.Core.List.{List};
 ghost use Prim.Native.Nat.{ℕ, _+_};
 ghost use lib.ListN.{take};
@@ -17,9 +18,10 @@ ghost use Rattle.blocks.specs.Owners.{heldCount};
 ghost use Rattle.server.specs.State.{Lent, lent};
 ghost use Rattle.lines.specs.Lines.{printedIn, errorLine, blocksLine};
 ghost use Rattle.script.specs.Input.{findOf};
+ghost use Rattle.passday.specs.declared.pass.Stage.the-variants as stage;
 ghost use Rattle.passday.specs.Pass.{memory, passing, newOf, overOf, withStage, wrapped, flushOrFill, onFound, unread, decideOf, steppedOf};
 ghost use Rattle.passday.specs.Pass.{begunOf, Turned};
-ghost use Rattle.passday.specs.Narrow.{readableOf, Flushed, Filled};
+ghost use Rattle.passday.specs.Narrow.{readableOf, Flushed, Filled, lastText};
 
 // The script, where the bytes that are not yet read as lines stand in the input, whether the input has ended, the number of lines begun, and how
 // many bytes of the text wait to be written.
@@ -214,13 +216,13 @@ fn begin_line(pass: Pass, n: usize, input: &[u8], bytes: &mut [u8]) -> Pass
     with_stage(pass, Stage::Unreadable)
 }
 
-// Writes the first n bytes of the text, and says whether all were written.
+// Writes the first n bytes of the text (`handed`), and says whether all were written.
 fn write_front(text: &[u8], n: usize) -> bool {
     let size = least(n, text.len());
     io::write_all(STDOUT_FILENO, &text[..size])
 }
 
-// Writes out what waits.
+// Writes out what waits (`waitingText`).
 fn flush(pass: Pass, text: &[u8]) -> Pass
     ensures { λ r. ⌜ Flushed pass r ⌝ }
 {
@@ -308,29 +310,44 @@ fn write_blocks(map: &[u64], owner: &[u16], text: &mut [u8]) -> bool
     write_front(&*text, n)
 }
 
-// What waits, then the last line. Each is written only where all before it was.
-fn end_done(pass: Pass, map: &[u64], owner: &[u16], text: &mut [u8]) {
+// What waits, then the last line, and whether all was written: each part only where all before it was.
+fn end_done(pass: Pass, map: &[u64], owner: &[u16], text: &mut [u8]) -> bool
+    ensures { λ r. ⌜ (r ≡ true → now (text .exit)
+        ≡ lastText stage.Done pass (blocksLine (freeCount (take 64 (now (map .entry)))) (heldCount (now (owner .entry))))
+        (now (text .entry))) ⌝ }
+{
     if write_front(&*text, pass.filled) {
-        write_blocks(map, owner, text);
+        return write_blocks(map, owner, text);
     }
+    false
 }
 
 // The same with the line of the line that can't be read in between.
-fn end_unreadable(pass: Pass, map: &[u64], owner: &[u16], text: &mut [u8]) {
+fn end_unreadable(pass: Pass, map: &[u64], owner: &[u16], text: &mut [u8]) -> bool
+    ensures { λ r. ⌜ (r ≡ true → now (text .exit)
+        ≡ lastText stage.Unreadable pass (blocksLine (freeCount (take 64 (now (map .entry)))) (heldCount (now (owner .entry))))
+        (now (text .entry))) ⌝ }
+{
     if write_front(&*text, pass.filled) {
         if write_error(pass, text) {
-            write_blocks(map, owner, text);
+            return write_blocks(map, owner, text);
         }
+        return false;
     }
+    false
 }
 
-// What is written last. Where writing has failed, nothing.
-pub(crate) fn finish(pass: Pass, map: &[u64], owner: &[u16], text: &mut [u8]) {
+// What is written last, and whether all of it was. Where writing has failed, nothing is.
+pub(crate) fn finish(pass: Pass, map: &[u64], owner: &[u16], text: &mut [u8]) -> bool
+    ensures { λ r. ⌜ (r ≡ true → now (text .exit)
+        ≡ lastText (pass .stage) pass (blocksLine (freeCount (take 64 (now (map .entry)))) (heldCount (now (owner .entry))))
+        (now (text .entry))) ⌝ }
+{
     let stage = pass.stage;
     match stage {
-        Stage::Going => (),
+        Stage::Going => false,
         Stage::Done => end_done(pass, map, owner, text),
         Stage::Unreadable => end_unreadable(pass, map, owner, text),
-        Stage::Broken => (),
+        Stage::Broken => false,
     }
 }
