@@ -4,6 +4,12 @@ mod pass;
 
 use libc::STDOUT_FILENO;
 use pass::Pass;
+ghost use mathlib.Core.Path.{_≡_};
+ghost use mathlib.Core.Bool.{false};
+ghost use Rattle.server.specs.State.{lent};
+ghost use Rattle.passday.specs.Pass.{memory, passing, overOf};
+ghost use Rattle.passday.specs.Run.{Played};
+ghost use Rattle.passday.specs.Whole.{Ready, PlayedAll};
 
 // Turns of the program. Nothing says that the input ends, so they are counted down from a number that no run uses up.
 fn play(
@@ -17,7 +23,15 @@ fn play(
     input: &mut [u8],
     bytes: &mut [u8],
     text: &mut [u8],
-) -> Pass {
+) -> Pass
+    requires { ⌜ overOf (start .stage) ≡ false ⌝ }
+    ensures { λ r. ⌜ Played start (memory
+        (lent (now (disk .entry)) (now (map .entry)) (now (owner .entry)) (now (table .entry)) (now (selected .entry)) (now (held .entry)))
+        (now (input .entry)) (now (bytes .entry)) (now (text .entry)))
+        (passing r (memory
+        (lent (now (disk .exit)) (now (map .exit)) (now (owner .exit)) (now (table .exit)) (now (selected .exit)) (now (held .exit)))
+        (now (input .exit)) (now (bytes .exit)) (now (text .exit)))) ⌝ }
+{
     let mut pass = start;
     let mut turns = u64::MAX;
     while 0 < turns {
@@ -41,32 +55,56 @@ fn play(
     pass
 }
 
-fn main() {
-    io::write_all(STDOUT_FILENO, b"session\tpacket\tinformation\n");
+// Makes the server, and runs the script that is read against it.
+fn run(
+    disk: &mut [u8],
+    map: &mut [u64],
+    owner: &mut [u16],
+    table: &mut [u32],
+    selected: &mut [u32],
+    held: &mut [u8],
+    input: &mut [u8],
+    bytes: &mut [u8],
+    text: &mut [u8],
+) -> Pass
+    requires { ⌜ Ready (memory
+        (lent (now disk) (now map) (now owner) (now table) (now selected) (now held))
+        (now input) (now bytes) (now text)) ⌝ }
+    ensures { λ r. ⌜ PlayedAll (memory
+        (lent (now (disk .entry)) (now (map .entry)) (now (owner .entry)) (now (table .entry)) (now (selected .entry)) (now (held .entry)))
+        (now (input .entry)) (now (bytes .entry)) (now (text .entry)))
+        (passing r (memory
+        (lent (now (disk .exit)) (now (map .exit)) (now (owner .exit)) (now (table .exit)) (now (selected .exit)) (now (held .exit)))
+        (now (input .exit)) (now (bytes .exit)) (now (text .exit)))) ⌝ }
+{
+    let made = server::make(128, 32, 4, 50, &*disk, map, owner, table, selected, held);
+    let server = made.server;
+    play(
+        pass::new_pass(server),
+        disk,
+        map,
+        owner,
+        table,
+        selected,
+        held,
+        input,
+        bytes,
+        text,
+    )
+}
+
+// The program's memory, what is done in it, and what is printed last.
+fn run_in_memory() {
     let mut disk = [0u8; 32768];
     let mut map = [0u64; 2];
     let mut owner = [0u16; 128];
     let mut table = [0u32; 128];
     let mut selected = [0u32; 200];
     let mut held = [0u8; 1032];
-    let made = server::make(
-        128,
-        32,
-        4,
-        50,
-        &disk,
-        &mut map,
-        &mut owner,
-        &mut table,
-        &mut selected,
-        &mut held,
-    );
     let mut input = [0u8; 262144];
     let mut bytes = [0u8; 65536];
     let mut text = [0u8; 65536];
-    let server = made.server;
-    let end = play(
-        pass::new_pass(server),
+    let end = run(
         &mut disk,
         &mut map,
         &mut owner,
@@ -78,4 +116,11 @@ fn main() {
         &mut text,
     );
     pass::finish(end, &map, &owner, &mut text);
+}
+
+// Where the first line can't be written, nothing is.
+fn main() {
+    if io::write_all(STDOUT_FILENO, b"session\tpacket\tinformation\n") {
+        run_in_memory();
+    }
 }

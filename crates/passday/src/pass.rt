@@ -8,6 +8,20 @@ use script::input::Found;
 use script::parts::least;
 use server::Server;
 use std::num::wrapping_add_usize;
+ghost use mathlib.Core.Path.{_≡_};
+ghost use mathlib.Core.Bool.{true};
+ghost use mathlib.Core.List.{List};
+ghost use Prim.Native.Nat.{ℕ, _+_};
+ghost use lib.ListN.{take};
+ghost use Rattle.blocks.specs.FreeMap.{freeCount};
+ghost use Rattle.blocks.specs.Owners.{heldCount};
+ghost use Rattle.server.specs.State.{Lent, lent};
+ghost use Rattle.lines.specs.Lines.{printedIn, errorLine, blocksLine};
+ghost use Rattle.script.specs.Input.{findOf};
+ghost use Rattle.passday.specs.declared.pass.Stage.the-variants as stage;
+ghost use Rattle.passday.specs.Pass.{memory, passing, newOf, overOf, withStage, wrapped, flushOrFill, onFound, unread, decideOf, steppedOf};
+ghost use Rattle.passday.specs.Pass.{begunOf, Turned};
+ghost use Rattle.passday.specs.Narrow.{readableOf, Flushed, Filled, lastText};
 
 // The script, where the bytes that are not yet read as lines stand in the input, whether the input has ended, the number of lines begun, and how
 // many bytes of the text wait to be written.
@@ -38,7 +52,9 @@ enum Next {
     Stop(Stage),
 }
 
-pub(crate) fn new_pass(server: Server) -> Pass {
+pub(crate) fn new_pass(server: Server) -> Pass
+    ensures { λ r. ⌜ r ≡ newOf server ⌝ }
+{
     let day = Day {
         server: server,
         clock: 0,
@@ -55,7 +71,9 @@ pub(crate) fn new_pass(server: Server) -> Pass {
     }
 }
 
-pub(crate) fn is_over(pass: Pass) -> bool {
+pub(crate) fn is_over(pass: Pass) -> bool
+    ensures { λ r. ⌜ r ≡ overOf (pass .stage) ⌝ }
+{
     let stage = pass.stage;
     match stage {
         Stage::Going => false,
@@ -65,7 +83,9 @@ pub(crate) fn is_over(pass: Pass) -> bool {
     }
 }
 
-fn with_stage(pass: Pass, stage: Stage) -> Pass {
+fn with_stage(pass: Pass, stage: Stage) -> Pass
+    ensures { λ r. ⌜ r ≡ withStage pass stage ⌝ }
+{
     let day = pass.day;
     Pass {
         day: day,
@@ -79,7 +99,9 @@ fn with_stage(pass: Pass, stage: Stage) -> Pass {
 }
 
 // With no line whole yet, what is printed is written before more is read.
-fn flush_or_fill(pass: Pass) -> Next {
+fn flush_or_fill(pass: Pass) -> Next
+    ensures { λ r. ⌜ r ≡ flushOrFill (pass .filled) ⌝ }
+{
     if 0 < pass.filled {
         return Next::Flush;
     }
@@ -87,7 +109,9 @@ fn flush_or_fill(pass: Pass) -> Next {
 }
 
 // The next line of the input, or what is to be done for one.
-fn next_line(pass: Pass, input: &[u8]) -> Next {
+fn next_line(pass: Pass, input: &[u8]) -> Next
+    ensures { λ r. ⌜ r ≡ onFound (findOf (unread pass (now (input .entry))) (pass .ended)) (pass .filled) ⌝ }
+{
     match script::input::find_line(input, pass.from, pass.end, pass.ended) {
         Found::Part => flush_or_fill(pass),
         Found::Line(n) => Next::Line(n),
@@ -97,7 +121,9 @@ fn next_line(pass: Pass, input: &[u8]) -> Next {
 }
 
 // A line that is being run is stepped while the text, of `size` bytes, has room for what it prints.
-fn decide(pass: Pass, input: &[u8], size: usize) -> Next {
+fn decide(pass: Pass, input: &[u8], size: usize) -> Next
+    ensures { λ r. ⌜ r ≡ decideOf pass (now (input .entry)) size ⌝ }
+{
     let day = pass.day;
     let doing = day.doing;
     if script::doing::rests(doing) {
@@ -120,7 +146,14 @@ fn step(
     held: &mut [u8],
     bytes: &[u8],
     text: &mut [u8],
-) -> Pass {
+) -> Pass
+    ensures { λ r. ⌜ ((input : List ℕ) → passing r (memory
+        (lent (now (disk .exit)) (now (map .exit)) (now (owner .exit)) (now (table .exit)) (now (selected .exit)) (now (held .exit)))
+        input (now (bytes .entry)) (now (text .exit)))
+        ≡ steppedOf pass (memory
+        (lent (now (disk .entry)) (now (map .entry)) (now (owner .entry)) (now (table .entry)) (now (selected .entry)) (now (held .entry)))
+        input (now (bytes .entry)) (now (text .entry)))) ⌝ }
+{
     let day = pass.day;
     let stage = pass.stage;
     let at = least(pass.filled, text.len());
@@ -147,7 +180,9 @@ fn step(
     }
 }
 
-fn is_readable(command: Command) -> bool {
+fn is_readable(command: Command) -> bool
+    ensures { λ r. ⌜ r ≡ readableOf command ⌝ }
+{
     match command {
         Command::Unreadable => false,
         Command::Time(_) => true,
@@ -158,7 +193,10 @@ fn is_readable(command: Command) -> bool {
 }
 
 // Begins the line of n bytes that stands next in the input, and passes over its newline.
-fn begin_line(pass: Pass, n: usize, input: &[u8], bytes: &mut [u8]) -> Pass {
+fn begin_line(pass: Pass, n: usize, input: &[u8], bytes: &mut [u8]) -> Pass
+    ensures { λ r. ⌜ ((l : Lent) (text : List ℕ) → passing r (memory l (now (input .entry)) (now (bytes .exit)) text)
+        ≡ begunOf pass n (memory l (now (input .entry)) (now (bytes .entry)) text)) ⌝ }
+{
     let day = pass.day;
     let stage = pass.stage;
     let to = wrapping_add_usize(pass.from, n);
@@ -178,12 +216,19 @@ fn begin_line(pass: Pass, n: usize, input: &[u8], bytes: &mut [u8]) -> Pass {
     with_stage(pass, Stage::Unreadable)
 }
 
-// Writes out what is printed.
-fn flush(pass: Pass, text: &[u8]) -> Pass {
+// Writes the first n bytes of the text (`handed`), and says whether all were written.
+fn write_front(text: &[u8], n: usize) -> bool {
+    let size = least(n, text.len());
+    io::write_all(STDOUT_FILENO, &text[..size])
+}
+
+// Writes out what waits (`waitingText`).
+fn flush(pass: Pass, text: &[u8]) -> Pass
+    ensures { λ r. ⌜ Flushed pass r ⌝ }
+{
     let day = pass.day;
     let stage = pass.stage;
-    let n = least(pass.filled, text.len());
-    if io::write_all(STDOUT_FILENO, &text[..n]) {
+    if write_front(text, pass.filled) {
         return Pass {
             day: day,
             from: pass.from,
@@ -198,7 +243,9 @@ fn flush(pass: Pass, text: &[u8]) -> Pass {
 }
 
 // Moves the part of a line to the front of the input and reads more behind it. A read that brings nothing, or fails, ends the input.
-fn fill(pass: Pass, input: &mut [u8]) -> Pass {
+fn fill(pass: Pass, input: &mut [u8]) -> Pass
+    ensures { λ r. ⌜ Filled pass (now (input .entry)) r (now (input .exit)) ⌝ }
+{
     let day = pass.day;
     let stage = pass.stage;
     let left = script::input::shift(input, pass.from, pass.end);
@@ -228,7 +275,14 @@ pub(crate) fn turn(
     input: &mut [u8],
     bytes: &mut [u8],
     text: &mut [u8],
-) -> Pass {
+) -> Pass
+    ensures { λ r. ⌜ Turned pass (memory
+        (lent (now (disk .entry)) (now (map .entry)) (now (owner .entry)) (now (table .entry)) (now (selected .entry)) (now (held .entry)))
+        (now (input .entry)) (now (bytes .entry)) (now (text .entry)))
+        (passing r (memory
+        (lent (now (disk .exit)) (now (map .exit)) (now (owner .exit)) (now (table .exit)) (now (selected .exit)) (now (held .exit)))
+        (now (input .exit)) (now (bytes .exit)) (now (text .exit)))) ⌝ }
+{
     let next = decide(pass, &*input, text.len());
     match next {
         Next::Step => step(pass, disk, map, owner, table, selected, held, &*bytes, text),
@@ -239,33 +293,61 @@ pub(crate) fn turn(
     }
 }
 
-fn write_front(text: &[u8], n: usize) {
-    let size = least(n, text.len());
-    io::write_all(STDOUT_FILENO, &text[..size]);
-}
-
-// The line of an unreadable line, then the last line.
-fn write_error(pass: Pass, text: &mut [u8]) {
+// The line of the line that can't be read.
+fn write_error(pass: Pass, text: &mut [u8]) -> bool
+    ensures { λ _. ⌜ now (text .exit) ≡ printedIn (errorLine (wrapped (pass .lines + 1))) (now (text .entry)) .text ⌝ }
+{
     let n = lines::error_line(wrapping_add_usize(pass.lines, 1), text);
-    write_front(&*text, n);
+    write_front(&*text, n)
 }
 
-fn write_blocks(map: &[u64], owner: &[u16], text: &mut [u8]) {
+// The last line.
+fn write_blocks(map: &[u64], owner: &[u16], text: &mut [u8]) -> bool
+    ensures { λ _. ⌜ now (text .exit)
+        ≡ printedIn (blocksLine (freeCount (take 64 (now (map .entry)))) (heldCount (now (owner .entry)))) (now (text .entry)) .text ⌝ }
+{
     let n = script::blocks(map, owner, text);
-    write_front(&*text, n);
+    write_front(&*text, n)
 }
 
-// What is printed last. Where nothing can be written, the program just ends.
-pub(crate) fn finish(pass: Pass, map: &[u64], owner: &[u16], text: &mut [u8]) {
-    let last = flush(pass, &*text);
-    let stage = last.stage;
-    match stage {
-        Stage::Going => (),
-        Stage::Done => write_blocks(map, owner, text),
-        Stage::Unreadable => {
-            write_error(last, text);
-            write_blocks(map, owner, text)
+// What waits, then the last line, and whether all was written: each part only where all before it was.
+fn end_done(pass: Pass, map: &[u64], owner: &[u16], text: &mut [u8]) -> bool
+    ensures { λ r. ⌜ (r ≡ true → now (text .exit)
+        ≡ lastText stage.Done pass (blocksLine (freeCount (take 64 (now (map .entry)))) (heldCount (now (owner .entry))))
+        (now (text .entry))) ⌝ }
+{
+    if write_front(&*text, pass.filled) {
+        return write_blocks(map, owner, text);
+    }
+    false
+}
+
+// The same with the line of the line that can't be read in between.
+fn end_unreadable(pass: Pass, map: &[u64], owner: &[u16], text: &mut [u8]) -> bool
+    ensures { λ r. ⌜ (r ≡ true → now (text .exit)
+        ≡ lastText stage.Unreadable pass (blocksLine (freeCount (take 64 (now (map .entry)))) (heldCount (now (owner .entry))))
+        (now (text .entry))) ⌝ }
+{
+    if write_front(&*text, pass.filled) {
+        if write_error(pass, text) {
+            return write_blocks(map, owner, text);
         }
-        Stage::Broken => (),
+        return false;
+    }
+    false
+}
+
+// What is written last, and whether all of it was. Where writing has failed, nothing is.
+pub(crate) fn finish(pass: Pass, map: &[u64], owner: &[u16], text: &mut [u8]) -> bool
+    ensures { λ r. ⌜ (r ≡ true → now (text .exit)
+        ≡ lastText (pass .stage) pass (blocksLine (freeCount (take 64 (now (map .entry)))) (heldCount (now (owner .entry))))
+        (now (text .entry))) ⌝ }
+{
+    let stage = pass.stage;
+    match stage {
+        Stage::Going => false,
+        Stage::Done => end_done(pass, map, owner, text),
+        Stage::Unreadable => end_unreadable(pass, map, owner, text),
+        Stage::Broken => false,
     }
 }

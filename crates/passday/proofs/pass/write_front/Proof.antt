@@ -1,5 +1,3 @@
-use mathlib.Core.Path.{sym}
-use lib.Seq.{length-take-le}
 use borrow.Author.Needs.{needs}
 use Rattle.passday.proofs.pass.write_front.Statement.{statement}
 use Rattle.passday.proofs.pass.write_front.Tie as tie
@@ -7,20 +5,22 @@ use Rattle.passday.proofs.pass.write_front.Reads as reads
 use Rattle.passday.proofs.pass.write_front.Lts as lts
 use Rattle.io.proofs.write_all.Reads as write-all-reads
 use Rattle.script.proofs.parts.least.Reads as least-reads
+use mathlib.Core.Path.{sym}
+use lib.Seq.{length-take-le}
 
--- src/pass.rt:253:9
+-- src/pass.rt:214:9
 least-requires : tie.Need-least-requires
 least-requires c κs = search needs
 
--- src/pass.rt:254:34
+-- src/pass.rt:215:34
 slice-aggregate-write-all : tie.Need-slice-aggregate-write-all
 slice-aggregate-write-all c = sym (length-take-le _ _ (c .before .least .ensures .1))
 
--- src/pass.rt:254:5
+-- src/pass.rt:215:5
 write-all-requires : tie.Need-write-all-requires
 write-all-requires c κs = search needs
 
--- src/pass.rt:252:1
+-- src/pass.rt:213:1
 returns : tie.Need-returns
 returns c = search needs
 
