@@ -19,9 +19,10 @@ use Rattle.passday.specs.declared.pass.Stage.{Stage}
 use Rattle.passday.specs.declared.pass.Stage.the-variants as stage
 use Rattle.passday.specs.declared.pass.Next.{Next}
 use Rattle.passday.specs.declared.pass.Next.the-variants as next
-use Rattle.passday.specs.Pass.{Memory, Passing, passing, newOf, overOf, withStage, unread, onFound, decideOf, steppedOf, begunOf}
+use Rattle.passday.specs.Pass.{Memory, memory, Passing, passing, newOf, overOf, withStage, unread, onFound, decideOf, steppedOf, begunOf}
 use Rattle.passday.specs.Pass.{waitingText, flushedOf, keptOf, filledTo, Turn, step, line, stop, written, broken, filled}
 use Rattle.passday.specs.Run.{Run, begun, turned, endsSheet, HasRoom, PrintsSheet, EveryRun}
+use Rattle.passday.specs.Whole.{startOf, ProgramPrints}
 use Rattle.passday.proofs.Holding.{Holds, Standing, going, over, holds-first, holds-step, holds-written, front-now, prints-broken, prints-done}
 use Rattle.passday.proofs.Holding.{prints-long}
 use Rattle.passday.proofs.Reading.{stands-line, holds-filled}
@@ -195,3 +196,19 @@ stands-prints s read wrote after (over o w) = w
 
 pub every-run : EveryRun
 every-run s ok m e r read wrote after run small = stands-prints s read wrote after (run-stands s ok m e r read wrote after run small)
+
+-- THEOREM: so does the program's own run
+pub program-prints : ProgramPrints
+program-prints m ready after p small =
+    every-run (startOf (m .lent)) (ready .legal) (memory (made (startOf (m .lent)) .lent) (m .input) (m .bytes) (m .text)) refl room (p .read) (p .wrote)
+    after (p .run) small
+  where
+    room : HasRoom (memory (made (startOf (m .lent)) .lent) (m .input) (m .bytes) (m .text))
+    room =
+        record {
+          input = ready .room .input;
+          input-most = ready .room .input-most;
+          bytes = ready .room .bytes;
+          text = ready .room .text;
+          text-most = ready .room .text-most;
+        }

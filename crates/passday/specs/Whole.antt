@@ -2,10 +2,12 @@
 -- EveryRun says holds of it. Assumes nothing.
 use mathlib.Core.Path.{_≡_}
 use mathlib.Core.Bool.{true}
+use Prim.Native.Nat.{_<_, _^_}
+use lib.ListN.{length}
 use Rattle.server.specs.State.{Lent}
 use Rattle.history.specs.Calls.{Start, legal, made}
 use Rattle.passday.specs.Pass.{Memory, memory, Passing, newOf}
-use Rattle.passday.specs.Run.{Played, HasRoom}
+use Rattle.passday.specs.Run.{Played, HasRoom, PrintsSheet}
 
 -- "a server of 128 blocks, 32 files, 4 sessions and MAXSEL 50"
 abbrev pub startOf : Lent → Start
@@ -20,3 +22,9 @@ pub record Ready (m : Memory) : Type 0 where
 abbrev pub PlayedAll : Memory → Passing → Type 0
 PlayedAll m after =
     Played (newOf (made (startOf (m .lent)) .server)) (memory (made (startOf (m .lent)) .lent) (m .input) (m .bytes) (m .text)) after
+
+-- THE PROGRAM: what its own run writes is the sheet of the script that it read. `run` (src/main.rt) has the contract `PlayedAll`.
+abbrev pub ProgramPrints : Type 0
+ProgramPrints =
+    (m : Memory) → Ready m → (after : Passing) (p : PlayedAll m after) → length (p .read) < 2 ^ 63
+    → PrintsSheet (startOf (m .lent)) (p .read) (p .wrote) after
