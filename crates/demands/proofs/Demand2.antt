@@ -18,6 +18,7 @@ use Rattle.demands.proofs.Uncut.{uncut-same}
 use Rattle.demands.proofs.Earlier.{lent-earlier}
 use Rattle.demands.proofs.Feeding.{enough-calls, pieces-elsewhere}
 use Rattle.demands.proofs.Replies.{every-reply}
+use Rattle.demands.proofs.Requests.{every-request}
 
 -- THEOREM: what the writer leaves reads back
 pub every-written-reads-back : WrittenReadsBack
@@ -61,6 +62,7 @@ demand-2 =
       written = every-written-reads-back;
       sent = every-sent-reads-back;
       replies = every-reply;
+      requests = every-request;
       closing = every-closing;
       closing-is-losing = closing-is-losing;
       cut = cut-elsewhere;

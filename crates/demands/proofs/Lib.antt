@@ -22,6 +22,7 @@ pub mod Informed
 pub mod RepliesUp
 pub mod RepliesDown
 pub mod Replies
+pub mod Requests
 pub mod Demand2
 pub mod Acts
 pub mod Decided

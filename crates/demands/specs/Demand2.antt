@@ -18,6 +18,7 @@ use Rattle.demands.specs.Cut.{CutElsewhere, LentEarlier}
 use Rattle.demands.specs.Uncut.{UncutSame}
 use Rattle.demands.specs.Feeding.{EnoughCalls, PiecesElsewhere}
 use Rattle.demands.specs.Replies.{EveryReply}
+use Rattle.demands.specs.Downloads.{EveryRequest}
 
 -- the reader finds this type and this information in front of the bytes
 pub record Reads (bytes : List ℕ) (kind : ℕ) (info : List ℕ) : Type 0 where
@@ -46,6 +47,7 @@ pub record Demand2 : Type 0 where
   pub sent : SentReadsBack
   -- "Every packet written or read, header check, selection, refusal and closing is what FTL0 version 0 .. define"
   pub replies : EveryReply
+  pub requests : EveryRequest
   pub closing : EveryClosing
   pub closing-is-losing : ClosingIsLosing
   pub cut : CutElsewhere
