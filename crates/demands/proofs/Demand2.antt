@@ -19,6 +19,7 @@ use Rattle.demands.proofs.Earlier.{lent-earlier}
 use Rattle.demands.proofs.Feeding.{enough-calls, pieces-elsewhere}
 use Rattle.demands.proofs.Replies.{every-reply}
 use Rattle.demands.proofs.Requests.{every-request}
+use Rattle.demands.proofs.Downloads.{download-brings, download-ends}
 
 -- THEOREM: what the writer leaves reads back
 pub every-written-reads-back : WrittenReadsBack
@@ -63,6 +64,8 @@ demand-2 =
       sent = every-sent-reads-back;
       replies = every-reply;
       requests = every-request;
+      download = download-brings;
+      download-ends = download-ends;
       closing = every-closing;
       closing-is-losing = closing-is-losing;
       cut = cut-elsewhere;

@@ -23,6 +23,7 @@ pub mod RepliesUp
 pub mod RepliesDown
 pub mod Replies
 pub mod Requests
+pub mod Downloads
 pub mod Demand2
 pub mod Acts
 pub mod Decided

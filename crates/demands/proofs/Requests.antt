@@ -2,12 +2,12 @@
 use mathlib.Core.Path.{_≡_, refl, sym, ap, ap₂, _∙_}
 use mathlib.Core.Bool.{Bool, true, false, cond}
 use mathlib.Core.List.{List, _++_}
-use Prim.Native.Nat.{ℕ, _+_, _-_, _*_, _%_, _≤_, _<_}
+use Prim.Native.Nat.{ℕ, _+_, _-_, _*_, _≤_, _<_}
 use native.Mathlib.Omega.{arith}
 use native.Mathlib.Nat.{mod-eq-of-lt}
 use borrow.Author.Tests.{le-leb, le-ltb, ltb-true, ltb-false}
 use lib.Dec.{leb, ltb}
-use lib.ListN.{length, take, drop, replicate, length-take, length-drop, length-replicate, take-append-drop}
+use lib.ListN.{length, take, drop, replicate, length-drop, length-replicate, take-append-drop}
 use lib.Seq.{length-take-le, take-all, take-length, take-append-le, drop-append-le}
 use Rattle.packet.specs.Packet.{packetOf}
 use Rattle.blocks.specs.Owners.{blocks}
@@ -26,13 +26,11 @@ use Rattle.session.specs.State.{withDown}
 use Rattle.session.specs.Reply.{Told, sentInfo, tell, answered}
 use Rattle.session.specs.Reply as session
 use Rattle.table.specs.declared.File.{File}
-use Rattle.table.specs.Table.{files, fileAt}
-use Rattle.files.proofs.Soundness.{disk-is, place-most, file-fits, file-room}
-use Rattle.links.proofs.Facts.{LinkFacts, CompleteAt}
+use Rattle.table.specs.Table.{files}
+use Rattle.files.proofs.Soundness.{disk-is, place-most, file-room}
+use Rattle.links.proofs.Facts.{CompleteAt}
 use Rattle.server.specs.declared.Server.{Server}
-use Rattle.server.specs.declared.check.Check.the-variants.{Go}
 use Rattle.server.specs.State.{Lent, linkOf, mapPart, ownerPart, tablePart}
-use Rattle.server.specs.Check.{checkOf}
 use Rattle.server.specs.Sending.{Due, leastOf, bytesFrom, dataOf, sendingOf, dueOf}
 use Rattle.server.specs.Sending as sending
 use Rattle.server.specs.Calls.{dueAs, onRequest, requestOf}

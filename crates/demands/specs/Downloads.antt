@@ -2,11 +2,12 @@
 -- DATA of up to 256 bytes, as full as can be, then DATA_END; with nothing due it yields nothing and changes nothing." The proofs are in
 -- proofs/Downloads.antt. Assumes nothing.
 use mathlib.Core.Path.{_≡_}
-use mathlib.Core.Bool.{cond}
-use mathlib.Core.List.{List}
-use Prim.Native.Nat.{ℕ, _+_}
-use lib.Dec.{ltb}
+use mathlib.Core.Bool.{Bool, true, false, cond}
+use mathlib.Core.List.{List, [], _∷_, _++_}
+use Prim.Native.Nat.{ℕ, _+_, _-_, _/_, _≤_}
+use lib.Dec.{eqb, ltb}
 use lib.ListN.{length, take, drop}
+use Rattle.header.specs.Fields.{fieldsSet}
 use Rattle.session.specs.declared.state.Downlink.{Downlink}
 use Rattle.session.specs.declared.state.Downlink.the-variants as down
 use Rattle.session.specs.declared.reply.Reply.the-variants as reply
@@ -15,9 +16,12 @@ use Rattle.server.specs.declared.Server.{Server}
 use Rattle.server.specs.declared.check.Check.the-variants.{Go}
 use Rattle.server.specs.State.{Lent, linkOf}
 use Rattle.history.specs.Change.{Files}
-use Rattle.history.specs.Calls.{request, callOf}
+use Rattle.history.specs.Calls.{Call, login, receive, request, lose, callOf, Start, legal, History, _▸_}
 use Rattle.history.specs.Stored.{filesOf}
-use Rattle.demands.specs.Parts.{checkIn}
+use Rattle.demands.specs.Parts.{sessionIn, checkIn}
+use Rattle.demands.specs.Events.{typeOf}
+use Rattle.demands.specs.Accepted.{accepted}
+use Rattle.demands.specs.Demand3.{serverAt, filesAt, sentAt}
 
 -- ---- one request
 
@@ -38,3 +42,86 @@ EveryRequest =
     → checkIn sv l (request session out) ≡ Go i
     → told (callOf sv l (request session out) .done .answer) (callOf sv l (request session out) .out)
     ≡ toRequest (linkOf sv i .down) (filesOf sv l) out
+
+-- ---- a whole download, with the calls of others between
+
+unfoldable pub isRequest : Call → Bool
+isRequest (login session clock out) = false
+isRequest (receive session clock input out) = false
+isRequest (request session out) = true
+isRequest (lose session) = false
+
+-- each call for this session is a request; the calls for other sessions are any
+unfoldable pub requestsOnly : ℕ → List Call → Bool
+requestsOnly session [] = true
+requestsOnly session (c ∷ cs) = cond (cond (eqb (sessionIn c) session) (isRequest c) true) (requestsOnly session cs) false
+
+-- the packet that a call sends to this session, no byte where it sends none or is for another session
+unfoldable pub sentTo : Start → History → ℕ → Call → List ℕ
+sentTo s h session c = cond (eqb (sessionIn c) session) (sentAt s h c) []
+
+-- the information of a DATA packet (0): all behind its two bytes; none of other packets
+unfoldable pub dataIn : List ℕ → List ℕ
+dataIn packet = cond (eqb (typeOf packet) 0) (drop 2 packet) []
+
+-- the information of the DATA packets that this session was sent in further calls, joined
+unfoldable pub dataTo : Start → History → ℕ → List Call → List ℕ
+dataTo s h session [] = []
+dataTo s h session (c ∷ cs) = dataIn (sentTo s h session c) ++ dataTo s (h ▸ c) session cs
+
+-- whether it was sent a DATA_END (1) in them
+unfoldable pub endTo : Start → History → ℕ → List Call → Bool
+endTo s h session [] = false
+endTo s h session (c ∷ cs) = cond (eqb (typeOf (sentTo s h session c)) 1) true (endTo s (h ▸ c) session cs)
+
+-- a request whose output has room for any packet: one of fewer than 258 bytes is refused by 32
+unfoldable pub asksIn : Call → ℕ
+asksIn (login session clock out) = 0
+asksIn (receive session clock input out) = 0
+asksIn (request session out) = cond (ltb (length out) 258) 0 1
+asksIn (lose session) = 0
+
+-- how many of them are for this session
+unfoldable pub asks : ℕ → List Call → ℕ
+asks session [] = 0
+asks session (c ∷ cs) = cond (eqb (sessionIn c) session) (asksIn c) 0 + asks session cs
+
+-- a session, numbered from 1, is to be sent the file at a place from an offset on, and has been sent none of it: as an accepted DOWNLOAD_CMD leaves it
+pub record Downloading (s : Start) (h : History) (session place offset : ℕ) : Type 0 where
+  pub from-one : 1 ≤ session
+  pub linked : linkOf (serverAt s h) (session - 1) .linked ≡ true
+  pub begun : linkOf (serverAt s h) (session - 1) .down ≡ down.Sending place offset 0
+
+-- what was sent in further calls is a front of the file's bytes from the offset on, and all of them once DATA_END was sent
+pub record Brings (s : Start) (h : History) (session place offset : ℕ) (cs : List Call) : Type 0 where
+  pub back : List ℕ
+  pub front : dataTo s h session cs ++ back ≡ drop offset (filesAt s h place .bytes)
+  pub whole : endTo s h session cs ≡ true → dataTo s h session cs ≡ drop offset (filesAt s h place .bytes)
+
+-- WHO DOWNLOADS A FILE GETS ITS BYTES, those that it had when the download began, whatever the other sessions do meanwhile
+abbrev pub DownloadBrings : Type 0
+DownloadBrings =
+    (s : Start) → legal s ≡ true → (h : History) (session place offset : ℕ) → Downloading s h session place offset
+    → (cs : List Call)
+    → requestsOnly session cs ≡ true
+    → Brings s h session place offset cs
+
+-- and gets all of them: each request with room brings 256 bytes or what is left, and one more DATA_END
+abbrev pub DownloadEnds : Type 0
+DownloadEnds =
+    (s : Start) → legal s ≡ true → (h : History) (session place offset : ℕ) → Downloading s h session place offset
+    → (cs : List Call)
+    → requestsOnly session cs ≡ true
+    → length (filesAt s h place .bytes) / 256 + 2 ≤ asks session cs
+    → endTo s h session cs ≡ true
+
+-- FROM ONE STATION TO ANOTHER: a whole download brings the bytes that were accepted under the file's number, "in order, with only the four server-set
+-- fields replaced"
+abbrev pub FromPupilToPupil : Type 0
+FromPupilToPupil =
+    (s : Start) → legal s ≡ true → (h : History) (session place : ℕ) → Downloading s h session place 0
+    → (cs : List Call)
+    → requestsOnly session cs ≡ true
+    → endTo s h session cs ≡ true
+    → dataTo s h session cs
+    ≡ fieldsSet (filesAt s h place .file .number) (filesAt s h place .file .time) (accepted s h (filesAt s h place .file .number))
