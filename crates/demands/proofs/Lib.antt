@@ -47,3 +47,4 @@ pub mod Plain
 pub mod Example
 pub mod AtWork
 pub mod SheetAtWork
+pub mod DownloadsAtWork

@@ -1,8 +1,9 @@
 -- Demand 2: "Every packet written or read, header check, selection, refusal and closing is what FTL0 version 0 with its corrections of March 1991 and
--- our marked house rules define." What the server says to each packet of a client is on one sheet, `EveryReply` (Replies.antt), and to each request of
--- the driver `EveryRequest` (Downloads.antt); the parts of it are the contracts of the functions. "A packet written reads back as itself. Cutting elsewhere the bytes that a link takes, with each packet and closing
--- byte at the same clock and in the same place among the other calls, changes no packet sent and no state after it." proofs/AtWork.antt and
--- SheetAtWork.antt show the statements at work. Assumes nothing.
+-- our marked house rules define." What the server says to each packet of a client is on one sheet, `EveryReply` (Replies.antt), and what it sends at
+-- each request of the driver is `EveryRequest` (Downloads.antt); their parts are the contracts of the functions. "A packet written reads back as
+-- itself. Cutting elsewhere the bytes that a link takes, with each packet and closing byte at the same clock and in the same place among the other
+-- calls, changes no packet sent and no state after it." proofs/AtWork.antt, SheetAtWork.antt and DownloadsAtWork.antt show the statements at work.
+-- Assumes nothing.
 use mathlib.Core.Path.{_≡_}
 use mathlib.Core.List.{List}
 use Prim.Native.Nat.{ℕ, _≤_, _+_}
@@ -48,7 +49,7 @@ pub record Demand2 : Type 0 where
   -- "Every packet written or read, header check, selection, refusal and closing is what FTL0 version 0 .. define"
   pub replies : EveryReply
   pub requests : EveryRequest
-  -- "Each further request by the driver yields one DATA of up to 256 bytes, as full as can be, then DATA_END": so a download brings the file's bytes
+  -- "Each further request by the driver yields one DATA of up to 256 bytes, as full as can be, then DATA_END": so a download brings the file
   pub download : DownloadBrings
   pub download-ends : DownloadEnds
   pub closing : EveryClosing

@@ -86,7 +86,7 @@ unfoldable pub asks : ℕ → List Call → ℕ
 asks session [] = 0
 asks session (c ∷ cs) = cond (eqb (sessionIn c) session) (asksIn c) 0 + asks session cs
 
--- a session, numbered from 1, is to be sent the file at a place from an offset on, and has been sent none of it: as an accepted DOWNLOAD_CMD leaves it
+-- an accepted DOWNLOAD_CMD leaves a session, numbered from 1, so: it is to be sent the file at a place from an offset on, and was sent none of it yet
 pub record Downloading (s : Start) (h : History) (session place offset : ℕ) : Type 0 where
   pub from-one : 1 ≤ session
   pub linked : linkOf (serverAt s h) (session - 1) .linked ≡ true
