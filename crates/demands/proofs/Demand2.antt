@@ -20,6 +20,7 @@ use Rattle.demands.proofs.Feeding.{enough-calls, pieces-elsewhere}
 use Rattle.demands.proofs.Replies.{every-reply}
 use Rattle.demands.proofs.Requests.{every-request}
 use Rattle.demands.proofs.Downloads.{download-brings, download-ends}
+use Rattle.demands.proofs.Begins.{begins}
 
 -- THEOREM: what the writer leaves reads back
 pub every-written-reads-back : WrittenReadsBack
@@ -64,6 +65,7 @@ demand-2 =
       sent = every-sent-reads-back;
       replies = every-reply;
       requests = every-request;
+      download-begins = begins;
       download = download-brings;
       download-ends = download-ends;
       closing = every-closing;

@@ -195,6 +195,14 @@ module _ (sv : Server) (l : Lent) (good : Good sv l) (session : ℕ) (one : 1 �
 
 -- ---- after a history
 
+-- a complete file stays as it is
+pub kept : (s : Start) → legal s ≡ true → (h : History) (c : Call) (place : ℕ)
+    → CompleteAt (files (tablePart (serverAt s h) (lentAt s h))) place
+    → filesAt s (h ▸ c) place ≡ filesAt s h place
+kept s ok h c place p =
+    complete-kept (serverAt s h .last) (filesAt s h) (serverAt s (h ▸ c) .last) (filesAt s (h ▸ c)) (change-after s ok h c) place
+    (omega (arith, uploaded-time (filesAt s h place .file) (p .number), p .time))
+
 module _ (s : Start) (ok : legal s ≡ true) (session : ℕ) (one : 1 ≤ session) where
   -- the session is being sent the file of these bytes
   record Has (h : History) (bytes : List ℕ) (place offset sent : ℕ) : Type 0 where
@@ -222,18 +230,11 @@ module _ (s : Start) (ok : legal s ≡ true) (session : ℕ) (one : 1 ≤ sessio
         → Turn h c bytes place offset sent
     ends : sentTo s h session c ≡ packetOf 1 [] → asked c ≡ 1 → length bytes ≤ offset + sent → Over (h ▸ c) → Turn h c bytes place offset sent
 
-  -- a complete file stays as it is
-  kept : (h : History) (c : Call) (place : ℕ) → CompleteAt (files (tablePart (serverAt s h) (lentAt s h))) place
-      → filesAt s (h ▸ c) place ≡ filesAt s h place
-  kept h c place p =
-      complete-kept (serverAt s h .last) (filesAt s h) (serverAt s (h ▸ c) .last) (filesAt s (h ▸ c)) (change-after s ok h c) place
-      (omega (arith, uploaded-time (filesAt s h place .file) (p .number), p .time))
-
   file-kept : (h : History) (c : Call) (bytes : List ℕ) (place offset sent : ℕ) → Has h bytes place offset sent
       → filesAt s (h ▸ c) place .bytes ≡ bytes
   file-kept h c bytes place offset sent a =
       ap (λ (v : View). v .bytes)
-      (kept h c place (complete (serverAt s h) (lentAt s h) (good-after s ok h) session one (a .linked) place offset sent (a .down)))
+      (kept s ok h c place (complete (serverAt s h) (lentAt s h) (good-after s ok h) session one (a .linked) place offset sent (a .down)))
       ∙ a .same
 
   -- ---- calls for other sessions

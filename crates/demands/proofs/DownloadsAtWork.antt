@@ -8,18 +8,22 @@ use native.Mathlib.Omega.{arith}
 use lib.ListN.{drop}
 use Rattle.header.proofs.Examples.{smallest}
 use Rattle.header.specs.Fields.{fieldsSet}
+use Rattle.packet.specs.Numbers.{number}
+use Rattle.session.specs.declared.state.Downlink.the-variants as down
 use Rattle.session.specs.declared.reply.Answer.the-variants as answer
 use Rattle.session.specs.Reply.{Told, told}
 use Rattle.table.specs.declared.File.{File}
+use Rattle.server.specs.State.{linkOf}
 use Rattle.history.specs.Calls.{Call, request, callOf, Start, legal, History, _▸_}
 use Rattle.demands.specs.Accepted.{accepted}
-use Rattle.demands.specs.Downloads.{dataTo, endTo, Downloading}
+use Rattle.demands.specs.Downloads.{Begins, dataTo, endTo, Downloading}
 use Rattle.demands.specs.Demand3.{serverAt, lentAt, filesAt}
 use Rattle.demands.proofs.Demand2.{demand-2}
 use Rattle.demands.proofs.Whole.{demand-3}
 use Rattle.demands.proofs.Demands.{demands}
-use Rattle.demands.proofs.Example.{small, small-legal, pair, pair-legal, output, rx, nak, lostOnce, sending, sending40, sentAll, complete80, two}
-use Rattle.demands.proofs.Example.{handed, meanwhile, packetTold, Requested, Begun, requested, downloaded}
+use Rattle.demands.proofs.Example.{small, small-legal, pair, pair-legal, output, rx, nak, download, nextFile, lostOnce, picked, sending}
+use Rattle.demands.proofs.Example.{sending40, sentAll, complete80, two, handed, meanwhile, packetTold, Requested, Begun, Commanded}
+use Rattle.demands.proofs.Example.{requested, downloaded}
 
 -- ---- one request
 
@@ -59,6 +63,30 @@ then-nothing = by-request _ _ (requested .ended)
 -- after a DL_NAK_CMD that brought DATA_END: DL_ABORTED_RESP
 pub aborted : Brings (sending ▸ rx 13 nak) (0 ∷ 10 ∷ [])
 aborted = by-request _ _ (requested .aborted)
+
+-- ---- DOWNLOAD_CMD
+
+begun-by : (h : History) (clock : ℕ) (bytes : List ℕ) (number : ℕ) → Commanded h clock bytes number
+    → Begins small h 1 clock bytes output (drop 2 bytes)
+begun-by h clock bytes number c = demand-2 .download-begins small small-legal h 1 clock 11 bytes output (drop 2 bytes) (c .ends) (c .quiet)
+
+-- file 1 from byte 40 on
+pub by-number : Begins small lostOnce 1 12 (download 40 0) output (drop 2 (download 40 0))
+by-number = begun-by _ _ _ _ (downloaded .by-number)
+
+pub its-number : filesAt small lostOnce (by-number .place) .file .number ≡ 1
+its-number = by-number .number ∙ downloaded .by-number .asked
+
+pub its-offset : linkOf (serverAt small (lostOnce ▸ rx 12 (download 40 0))) 0 .down ≡ down.Sending (by-number .place) 40 0
+unfolding number
+its-offset = by-number .downloading .begun
+
+-- the next selected file
+pub next-selected : Begins small picked 1 13 nextFile output (drop 2 nextFile)
+next-selected = begun-by _ _ _ _ (downloaded .next-selected)
+
+pub next-number : filesAt small picked (next-selected .place) .file .number ≡ 1
+next-number = next-selected .number ∙ downloaded .next-selected .asked
 
 -- ---- a whole download
 

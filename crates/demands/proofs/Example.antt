@@ -37,7 +37,7 @@ use Rattle.demands.specs.Events.{given, added, finished, dropped}
 use Rattle.demands.specs.Accepted.{uploadOf, accepted, reserved, numbersGiven, total, completion, completions}
 use Rattle.demands.specs.Demand1.{Says, Fits, IsSound, forgotten, cleared}
 use Rattle.demands.specs.Replies.{replyTo}
-use Rattle.demands.specs.Downloads.{toRequest, requestsOnly, asks, dataTo, endTo}
+use Rattle.demands.specs.Downloads.{toRequest, numberAsked, requestsOnly, asks, dataTo, endTo}
 use Rattle.demands.specs.Demand3.{serverAt, lentAt, filesAt, sentAt, infoAt, Outside}
 use Rattle.packet.specs.Frame as packet-frame
 use Rattle.packet.specs.Machine as packet-machine
@@ -256,8 +256,8 @@ both = uploads ▸ of 1 7 dataEnd ▸ of 2 7 dataEnd
 unfoldable pub handed : History
 handed = both ▸ of 2 9 (download 0 0)
 
--- Two requests of the second session that have room, and one that has not. Between them the first link sends UPLOAD_CMD, its driver asks too, and it is
--- lost and made again.
+-- Two requests of the second session that have room, and one that has not. Between them the first link sends UPLOAD_CMD, its driver asks too, and it
+-- is lost and made again.
 abbrev pub meanwhile : List Call
 meanwhile =
     of 1 10 (upload 0) ∷ request 2 output ∷ request 1 output ∷ lose 1 ∷ request 2 (replicate 257 0) ∷ login 1 11 output ∷ request 2 output ∷ []
@@ -496,7 +496,16 @@ pub record Begun (s : Start) (h : History) (session offset time : ℕ) (cs : Lis
   pub only : requestsOnly session cs ≡ true
   pub asked : asks session cs ≡ requests
 
+-- the small server's session sends a DOWNLOAD_CMD that asks for the file of a number, and gets no packet
+pub record Commanded (h : History) (clock : ℕ) (bytes : List ℕ) (number : ℕ) : Type 0 where
+  pub ends : endsIn small h 1 bytes ≡ some (packet 8 (drop 2 bytes))
+  pub quiet : callOf (serverAt small h) (lentAt small h) (rx clock bytes) .done .answer ≡ answer.Quiet 11
+  pub asked : numberAsked (serverAt small h) (lentAt small h) 0 (drop 2 bytes) ≡ number
+
 pub record Downloads : Type 0 where
+  -- file 1 by its number, and as the next selected file
+  pub by-number : Commanded lostOnce 12 (download 40 0) 1
+  pub next-selected : Commanded picked 13 nextFile 1
   pub whole : Begun small sending 1 0 4 two 2
   pub behind-40 : Begun small sending40 1 40 4 two 2
   pub one : Begun small sending 1 0 4 (request 1 output ∷ []) 1
@@ -566,9 +575,9 @@ unfolding
     equation-answer.isYes equation-relation.compare equation-relation.numberMeets equation-relation.meets equation-holds.holds
     equation-holds.bytesOf equation-tree.truth files-completion.destinationsAt carry-download.beginTurn blocks-answers.readOut links-sound.namedAt
     server-sending.leastOf server-sending.dataOf server-sending.sendingOf server-sending.dueOf server-calls.dueAs server-calls.onRequest
-    server-calls.requestOf sending40 complete80 handed decide-downlink.onNak demands-downloads.toRequest demands-downloads.isRequest
-    demands-downloads.requestsOnly demands-downloads.sentTo demands-downloads.dataIn demands-downloads.dataTo demands-downloads.endTo
-    demands-downloads.asksIn demands-downloads.asks
+    server-calls.requestOf sending40 complete80 handed decide-downlink.onNak demands-downloads.toRequest demands-downloads.numberAsked
+    demands-downloads.isRequest demands-downloads.requestsOnly demands-downloads.sentTo demands-downloads.dataIn demands-downloads.dataTo
+    demands-downloads.endTo demands-downloads.asksIn demands-downloads.asks
 computing = 0
 
 pub computed : Computed
@@ -675,6 +684,8 @@ pub downloaded : Downloads
 unfolding computing
 downloaded =
     record {
+      by-number = record { ends = refl; quiet = refl; asked = refl };
+      next-selected = record { ends = refl; quiet = refl; asked = refl };
       whole = record { linked = refl; begun = refl; file = refl; size = refl; accepted = refl; only = refl; asked = refl };
       behind-40 = record { linked = refl; begun = refl; file = refl; size = refl; accepted = refl; only = refl; asked = refl };
       one = record { linked = refl; begun = refl; file = refl; size = refl; accepted = refl; only = refl; asked = refl };

@@ -24,6 +24,7 @@ pub mod RepliesDown
 pub mod Replies
 pub mod Requests
 pub mod Downloads
+pub mod Begins
 pub mod Demand2
 pub mod Acts
 pub mod Decided

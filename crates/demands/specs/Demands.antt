@@ -19,7 +19,7 @@ pub record Demands : Type 1 where
   -- 2. "Every packet written or read, header check, selection, refusal and closing is what FTL0 version 0 .. and our marked house rules define": the
   -- contract of each call is an equation with a definition written from the papers, so no other answer meets it
   pub determined : CallsDetermined
-  -- and what the server says to each packet is the answer sheet (Replies.antt), and what it sends at requests is the file (Downloads.antt). "A packet
+  -- and what the server says to each packet is the answer sheet (Replies.antt), and what a download brings is the file (Downloads.antt). "A packet
   -- written reads back as itself. Cutting elsewhere the bytes that a link takes .. changes no packet sent and no state after it."
   pub real-answers : Demand2
   -- 3. "From an empty store, after any calls, links lost at any byte and clocks running backwards included: each storage block is free or belongs to

@@ -4,24 +4,29 @@
 use mathlib.Core.Path.{_≡_}
 use mathlib.Core.Bool.{Bool, true, false, cond}
 use mathlib.Core.List.{List, [], _∷_, _++_}
-use Prim.Native.Nat.{ℕ, _+_, _-_, _/_, _≤_}
+use mathlib.Core.Option.{some}
+use Prim.Native.Nat.{ℕ, _+_, _-_, _*_, _/_, _≤_}
 use lib.Dec.{eqb, ltb}
-use lib.ListN.{length, take, drop}
+use lib.ListN.{length, getD, take, drop}
+use Rattle.packet.specs.Frame.{packet}
 use Rattle.header.specs.Fields.{fieldsSet}
 use Rattle.session.specs.declared.state.Downlink.{Downlink}
 use Rattle.session.specs.declared.state.Downlink.the-variants as down
 use Rattle.session.specs.declared.reply.Reply.the-variants as reply
+use Rattle.session.specs.declared.reply.Answer.the-variants as answer
 use Rattle.session.specs.Reply.{Told, told, sentInfo, tell}
 use Rattle.server.specs.declared.Server.{Server}
 use Rattle.server.specs.declared.check.Check.the-variants.{Go}
-use Rattle.server.specs.State.{Lent, linkOf}
+use Rattle.decide.specs.Words.{wordAt}
+use Rattle.server.specs.State.{Lent, linkOf, part}
 use Rattle.history.specs.Change.{Files}
 use Rattle.history.specs.Calls.{Call, login, receive, request, lose, callOf, Start, legal, History, _▸_}
 use Rattle.history.specs.Stored.{filesOf}
 use Rattle.demands.specs.Parts.{sessionIn, checkIn}
+use Rattle.demands.specs.Cut.{endsIn}
 use Rattle.demands.specs.Events.{typeOf}
 use Rattle.demands.specs.Accepted.{accepted}
-use Rattle.demands.specs.Demand3.{serverAt, filesAt, sentAt}
+use Rattle.demands.specs.Demand3.{serverAt, lentAt, filesAt, sentAt}
 
 -- ---- one request
 
@@ -43,6 +48,34 @@ EveryRequest =
     → told (callOf sv l (request session out) .done .answer) (callOf sv l (request session out) .out)
     ≡ toRequest (linkOf sv i .down) (filesOf sv l) out
 
+-- ---- the beginning of a download
+
+-- an accepted DOWNLOAD_CMD leaves a session, numbered from 1, so: it is to be sent the file at a place from an offset on, and was sent none of it yet
+pub record Downloading (s : Start) (h : History) (session place offset : ℕ) : Type 0 where
+  pub from-one : 1 ≤ session
+  pub linked : linkOf (serverAt s h) (session - 1) .linked ≡ true
+  pub begun : linkOf (serverAt s h) (session - 1) .down ≡ down.Sending place offset 0
+
+-- the number of the file that a DOWNLOAD_CMD asks for: "Number 0 means the next selected file". Session i, counted from 0.
+unfoldable pub numberAsked : Server → Lent → ℕ → List ℕ → ℕ
+numberAsked sv l i info =
+    cond (eqb (wordAt info 0) 0) (getD (part (i * sv .most) (sv .most) (l .selected)) (linkOf sv i .next) 0) (wordAt info 0)
+
+-- the file of that number is to be sent from the offset on, and is as it was
+pub record Begins (s : Start) (h : History) (session clock : ℕ) (input out info : List ℕ) : Type 0 where
+  pub place : ℕ
+  pub number : filesAt s h place .file .number ≡ numberAsked (serverAt s h) (lentAt s h) (session - 1) info
+  pub file : filesAt s (h ▸ receive session clock input out) place ≡ filesAt s h place
+  pub downloading : Downloading s (h ▸ receive session clock input out) session place (wordAt info 4)
+
+-- A DOWNLOAD_CMD (8) THAT IS NOT REFUSED BEGINS A DOWNLOAD: the call sends no packet, and neither closes the link nor is refused locally
+abbrev pub DownloadBegins : Type 0
+DownloadBegins =
+    (s : Start) → legal s ≡ true → (h : History) (session clock taken : ℕ) (input out info : List ℕ)
+    → endsIn s h session input ≡ some (packet 8 info)
+    → callOf (serverAt s h) (lentAt s h) (receive session clock input out) .done .answer ≡ answer.Quiet taken
+    → Begins s h session clock input out info
+
 -- ---- a whole download, with the calls of others between
 
 unfoldable pub isRequest : Call → Bool
@@ -62,7 +95,7 @@ sentTo s h session c = cond (eqb (sessionIn c) session) (sentAt s h c) []
 
 -- the information of a DATA packet (0): all behind its two bytes; none of other packets
 unfoldable pub dataIn : List ℕ → List ℕ
-dataIn packet = cond (eqb (typeOf packet) 0) (drop 2 packet) []
+dataIn sent = cond (eqb (typeOf sent) 0) (drop 2 sent) []
 
 -- the information of the DATA packets that this session was sent in further calls, joined
 unfoldable pub dataTo : Start → History → ℕ → List Call → List ℕ
@@ -85,12 +118,6 @@ asksIn (lose session) = 0
 unfoldable pub asks : ℕ → List Call → ℕ
 asks session [] = 0
 asks session (c ∷ cs) = cond (eqb (sessionIn c) session) (asksIn c) 0 + asks session cs
-
--- an accepted DOWNLOAD_CMD leaves a session, numbered from 1, so: it is to be sent the file at a place from an offset on, and was sent none of it yet
-pub record Downloading (s : Start) (h : History) (session place offset : ℕ) : Type 0 where
-  pub from-one : 1 ≤ session
-  pub linked : linkOf (serverAt s h) (session - 1) .linked ≡ true
-  pub begun : linkOf (serverAt s h) (session - 1) .down ≡ down.Sending place offset 0
 
 -- what was sent in further calls is a front of the file's bytes from the offset on, and all of them once DATA_END was sent
 pub record Brings (s : Start) (h : History) (session place offset : ℕ) (cs : List Call) : Type 0 where
