@@ -18,7 +18,7 @@ use Rattle.demands.proofs.Uncut.{uncut-same}
 use Rattle.demands.proofs.Earlier.{lent-earlier}
 use Rattle.demands.proofs.Feeding.{enough-calls, pieces-elsewhere}
 use Rattle.demands.proofs.Replies.{every-reply}
-use Rattle.demands.proofs.Requests.{every-request}
+use Rattle.demands.proofs.Requests.{every-request, nothing-due}
 use Rattle.demands.proofs.Downloads.{download-brings, download-ends}
 use Rattle.demands.proofs.Begins.{begins}
 
@@ -65,6 +65,7 @@ demand-2 =
       sent = every-sent-reads-back;
       replies = every-reply;
       requests = every-request;
+      nothing-due = nothing-due;
       download-begins = begins;
       download = download-brings;
       download-ends = download-ends;

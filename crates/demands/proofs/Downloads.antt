@@ -36,7 +36,7 @@ use Rattle.paging.proofs.Growth.{complete-kept}
 use Rattle.demands.specs.Parts.{sessionIn}
 use Rattle.demands.specs.Events.{sentBy, typeOf}
 use Rattle.demands.specs.Demand3.{serverAt, lentAt, filesAt, sentAt}
-use Rattle.demands.specs.Downloads.{toRequest, isRequest, requestsOnly, sentTo, dataIn, dataTo, endTo, asksIn, asks, Downloading}
+use Rattle.demands.specs.Downloads.{toRequest, isRequest, requestOrOther, requestsOnly, sentTo, dataIn, dataTo, endTo, asksIn, asks, Downloading}
 use Rattle.demands.specs.Downloads.{DownloadBrings, DownloadEnds, FromPupilToPupil}
 use Rattle.demands.proofs.Checks.{StateFacts, state-facts, linked-below, check-sound, session-through}
 use Rattle.demands.proofs.Others.{others-link}
@@ -52,6 +52,17 @@ clash e = let z : _≡_ {A = ℕ} 0 1 = cc in omega arith
 first-is : (b t : Bool) → cond b t false ≡ true → (b ≡ true) × (t ≡ true)
 first-is true t e = (refl, e)
 first-is false t e = absurd (clash e)
+
+-- a call of the session itself is a request
+record Allowed (session : ℕ) (c : Call) (cs : List Call) : Type 0 where
+  own : sessionIn c ≡ session → isRequest c ≡ true
+  others : requestsOnly session cs ≡ true
+
+allowed : (session : ℕ) (c : Call) (cs : List Call) → requestsOnly session (c ∷ cs) ≡ true → Allowed session c cs
+unfolding requestsOnly requestOrOther
+allowed session c cs e =
+    let p = first-is (requestOrOther session c) (requestsOnly session cs) e in
+    record { own = λ q. rw (eq-eqb (sessionIn c) session q) at (p .0); others = p .1 }
 
 -- ---- packets
 
@@ -403,28 +414,29 @@ module _ (s : Start) (ok : legal s ≡ true) (session : ℕ) (one : 1 ≤ sessio
   other-sent h c q = rw q
 
   turn : (h : History) (c : Call) (bytes : List ℕ) (place offset sent : ℕ) → Has h bytes place offset sent
-      → cond (eqb (sessionIn c) session) (isRequest c) true ≡ true
+      → (sessionIn c ≡ session → isRequest c ≡ true)
       → Turn h c bytes place offset sent
-  turn h c bytes place offset sent a e = go (eqb (sessionIn c) session) refl e
+  turn h c bytes place offset sent a f = go (eqb (sessionIn c) session) refl
     where
-      go : (b : Bool) → eqb (sessionIn c) session ≡ b → cond b (isRequest c) true ≡ true → Turn h c bytes place offset sent
-      go true q e =
+      go : (b : Bool) → eqb (sessionIn c) session ≡ b → Turn h c bytes place offset sent
+      go true q =
+          let e = eqb-true (sessionIn c) session q in
           by-request (λ (c : Call). Turn h c bytes place offset sent)
           (λ out. subst (λ (x : List ℕ). Turn h (request session out) x place offset sent) (a .same)
           (own-turn h out place offset sent (a .linked) (a .down)))
-          c (eqb-true (sessionIn c) session q) e
-      go false q e =
+          c e (f e)
+      go false q =
           silent (other-sent h c q) (ap (λ (b : Bool). cond b (asksIn c) 0) q)
           (others-has h c bytes place offset sent (eqb-false (sessionIn c) session q) a)
 
-  rest : (h : History) (c : Call) → Over h → cond (eqb (sessionIn c) session) (isRequest c) true ≡ true
-      → (sentTo s h session c ≡ []) × Over (h ▸ c)
-  rest h c a e = go (eqb (sessionIn c) session) refl e
+  rest : (h : History) (c : Call) → Over h → (sessionIn c ≡ session → isRequest c ≡ true) → (sentTo s h session c ≡ []) × Over (h ▸ c)
+  rest h c a f = go (eqb (sessionIn c) session) refl
     where
-      go : (b : Bool) → eqb (sessionIn c) session ≡ b → cond b (isRequest c) true ≡ true → (sentTo s h session c ≡ []) × Over (h ▸ c)
-      go true q e =
-          by-request (λ (c : Call). (sentTo s h session c ≡ []) × Over (h ▸ c)) (λ out. own-rest h out a) c (eqb-true (sessionIn c) session q) e
-      go false q e = (other-sent h c q, others-over h c (eqb-false (sessionIn c) session q) a)
+      go : (b : Bool) → eqb (sessionIn c) session ≡ b → (sentTo s h session c ≡ []) × Over (h ▸ c)
+      go true q =
+          let e = eqb-true (sessionIn c) session q in
+          by-request (λ (c : Call). (sentTo s h session c ≡ []) × Over (h ▸ c)) (λ out. own-rest h out a) c e (f e)
+      go false q = (other-sent h c q, others-over h c (eqb-false (sessionIn c) session q) a)
 
   -- ---- all further calls
 
@@ -434,12 +446,12 @@ module _ (s : Start) (ok : legal s ≡ true) (session : ℕ) (one : 1 ≤ sessio
     no-end : endTo s h session cs ≡ false
 
   quiet : (cs : List Call) (h : History) → Over h → requestsOnly session cs ≡ true → Nothing h cs
-  unfolding dataTo endTo requestsOnly dataIn
+  unfolding dataTo endTo dataIn
   quiet [] h a e = record { none = refl; no-end = refl }
   quiet (c ∷ cs) h a e =
-      let p = first-is (cond (eqb (sessionIn c) session) (isRequest c) true) (requestsOnly session cs) e in
-      let r = rest h c a (p .0) in
-      on r (quiet cs (h ▸ c) (r .1) (p .1))
+      let p = allowed session c cs e in
+      let r = rest h c a (p .own) in
+      on r (quiet cs (h ▸ c) (r .1) (p .others))
     where
       on : (sentTo s h session c ≡ []) × Over (h ▸ c) → Nothing (h ▸ c) cs → Nothing h (c ∷ cs)
       on r q = record { none = rw (r .0) (q .none); no-end = rw (r .0) (q .no-end) }
@@ -453,11 +465,11 @@ module _ (s : Start) (ok : legal s ≡ true) (session : ℕ) (one : 1 ≤ sessio
   sent-all : (cs : List Call) (h : History) (bytes : List ℕ) (place offset sent : ℕ) → Has h bytes place offset sent
       → requestsOnly session cs ≡ true
       → Sent h cs (drop (offset + sent) bytes)
-  unfolding dataTo endTo requestsOnly
+  unfolding dataTo endTo
   sent-all [] h bytes place offset sent a e = record { back = drop (offset + sent) bytes; front = refl; whole = λ q. absurd (clash q) }
   sent-all (c ∷ cs) h bytes place offset sent a e =
-      let p = first-is (cond (eqb (sessionIn c) session) (isRequest c) true) (requestsOnly session cs) e in
-      on (turn h c bytes place offset sent a (p .0)) (λ n b. sent-all cs (h ▸ c) bytes place offset n b (p .1)) (p .1)
+      let p = allowed session c cs e in
+      on (turn h c bytes place offset sent a (p .own)) (λ n b. sent-all cs (h ▸ c) bytes place offset n b (p .others)) (p .others)
     where
       info : List ℕ
       info = take 256 (drop (offset + sent) bytes)
@@ -489,11 +501,11 @@ module _ (s : Start) (ok : legal s ≡ true) (session : ℕ) (one : 1 ≤ sessio
       → requestsOnly session cs ≡ true
       → (length bytes - (offset + sent) + 255) / 256 + 1 ≤ asks session cs
       → endTo s h session cs ≡ true
-  unfolding endTo requestsOnly asks
+  unfolding endTo asks
   ended [] h bytes place offset sent a e k = absurd (omega arith)
   ended (c ∷ cs) h bytes place offset sent a e k =
-      let p = first-is (cond (eqb (sessionIn c) session) (isRequest c) true) (requestsOnly session cs) e in
-      on (turn h c bytes place offset sent a (p .0)) (λ n b m. ended cs (h ▸ c) bytes place offset n b (p .1) m) k
+      let p = allowed session c cs e in
+      on (turn h c bytes place offset sent a (p .own)) (λ n b m. ended cs (h ▸ c) bytes place offset n b (p .others) m) k
     where
       info : List ℕ
       info = take 256 (drop (offset + sent) bytes)

@@ -13,7 +13,7 @@ use Rattle.session.specs.declared.state.Downlink.the-variants as down
 use Rattle.session.specs.declared.reply.Answer.the-variants as answer
 use Rattle.session.specs.Reply.{Told, told}
 use Rattle.table.specs.declared.File.{File}
-use Rattle.server.specs.State.{linkOf}
+use Rattle.server.specs.State.{outcome, doneWith, linkOf}
 use Rattle.history.specs.Calls.{Call, request, callOf, Start, legal, History, _▸_}
 use Rattle.demands.specs.Accepted.{accepted}
 use Rattle.demands.specs.Downloads.{Begins, dataTo, endTo, Downloading}
@@ -45,6 +45,11 @@ by-request h t c = demand-2 .requests (serverAt small h) (lentAt small h) 1 outp
 -- where no file is being sent: nothing
 pub nothing-due : BringsNothing lostOnce
 nothing-due = by-request _ _ (requested .idle)
+
+-- and all is as it was
+pub nothing-changed : callOf (serverAt small sentAll) (lentAt small sentAll) (request 1 output)
+    ≡ outcome (doneWith (serverAt small sentAll) (answer.Quiet 0)) (lentAt small sentAll) output
+nothing-changed = demand-2 .nothing-due (serverAt small sentAll) (lentAt small sentAll) 1 output 0 (requested .ended .goes) (requested .not-due)
 
 -- the file from 0 on: one DATA with all 80 bytes; from 40 on: one with the last 40
 pub all-80 : Brings sending (80 ∷ 0 ∷ complete80)

@@ -37,7 +37,7 @@ use Rattle.demands.specs.Events.{given, added, finished, dropped}
 use Rattle.demands.specs.Accepted.{uploadOf, accepted, reserved, numbersGiven, total, completion, completions}
 use Rattle.demands.specs.Demand1.{Says, Fits, IsSound, forgotten, cleared}
 use Rattle.demands.specs.Replies.{replyTo}
-use Rattle.demands.specs.Downloads.{toRequest, numberAsked, requestsOnly, asks, dataTo, endTo}
+use Rattle.demands.specs.Downloads.{toRequest, isDue, numberAsked, requestsOnly, asks, dataTo, endTo}
 use Rattle.demands.specs.Demand3.{serverAt, lentAt, filesAt, sentAt, infoAt, Outside}
 use Rattle.packet.specs.Frame as packet-frame
 use Rattle.packet.specs.Machine as packet-machine
@@ -483,6 +483,7 @@ pub record Requests : Type 0 where
   pub last-40 : Requested sending40 (packetTold (40 ∷ 0 ∷ drop 40 complete80))
   pub end : Requested (sending ▸ request 1 output) (packetTold (0 ∷ 1 ∷ []))
   pub ended : Requested sentAll (told (answer.Quiet 0) output)
+  pub not-due : isDue (linkOf (serverAt small sentAll) 0 .down) ≡ false
   -- DL_ABORTED_RESP, after a DL_NAK_CMD that brought DATA_END
   pub aborted : Requested (sending ▸ rx 13 nak) (packetTold (0 ∷ 10 ∷ []))
 
@@ -575,9 +576,10 @@ unfolding
     equation-answer.isYes equation-relation.compare equation-relation.numberMeets equation-relation.meets equation-holds.holds
     equation-holds.bytesOf equation-tree.truth files-completion.destinationsAt carry-download.beginTurn blocks-answers.readOut links-sound.namedAt
     server-sending.leastOf server-sending.dataOf server-sending.sendingOf server-sending.dueOf server-calls.dueAs server-calls.onRequest
-    server-calls.requestOf sending40 complete80 handed decide-downlink.onNak demands-downloads.toRequest demands-downloads.numberAsked
-    demands-downloads.isRequest demands-downloads.requestsOnly demands-downloads.sentTo demands-downloads.dataIn demands-downloads.dataTo
-    demands-downloads.endTo demands-downloads.asksIn demands-downloads.asks
+    server-calls.requestOf sending40 complete80 handed decide-downlink.onNak demands-downloads.toRequest demands-downloads.isDue
+    demands-downloads.numberAsked demands-downloads.isRequest demands-downloads.requestOrOther demands-downloads.requestsOnly
+    demands-downloads.sentTo demands-downloads.dataIn demands-downloads.dataTo demands-downloads.endTo demands-downloads.asksIn
+    demands-downloads.asks
 computing = 0
 
 pub computed : Computed
@@ -677,6 +679,7 @@ requested =
       last-40 = record { goes = refl; reply = refl };
       end = record { goes = refl; reply = refl };
       ended = record { goes = refl; reply = refl };
+      not-due = refl;
       aborted = record { goes = refl; reply = refl };
     }
 

@@ -8,7 +8,7 @@ use native.Mathlib.Nat.{mod-eq-of-lt}
 use borrow.Author.Tests.{le-leb, le-ltb, ltb-true, ltb-false}
 use lib.Dec.{leb, ltb}
 use lib.ListN.{length, take, drop, replicate, length-drop, length-replicate, take-append-drop}
-use lib.Seq.{length-take-le, take-all, take-length, take-append-le, drop-append-le}
+use lib.Seq.{set-getD, length-take-le, take-all, take-length, take-append-le, drop-append-le}
 use Rattle.packet.specs.Packet.{packetOf}
 use Rattle.blocks.specs.Owners.{blocks}
 use Rattle.blocks.specs.Contents.{held}
@@ -22,7 +22,7 @@ use Rattle.session.specs.declared.state.Downlink.the-variants as down
 use Rattle.session.specs.declared.reply.Answer.the-variants as answer
 use Rattle.session.specs.declared.reply.Reply.{Reply}
 use Rattle.session.specs.declared.reply.Reply.the-variants as reply
-use Rattle.session.specs.State.{withDown}
+use Rattle.session.specs.State.{closedSession, withDown}
 use Rattle.session.specs.Reply.{Told, sentInfo, tell, answered}
 use Rattle.session.specs.Reply as session
 use Rattle.table.specs.declared.File.{File}
@@ -35,7 +35,7 @@ use Rattle.server.specs.Sending.{Due, leastOf, bytesFrom, dataOf, sendingOf, du
 use Rattle.server.specs.Sending as sending
 use Rattle.server.specs.Calls.{dueAs, onRequest, requestOf}
 use Rattle.history.specs.Stored.{filesOf}
-use Rattle.demands.specs.Downloads.{toRequest, EveryRequest}
+use Rattle.demands.specs.Downloads.{toRequest, EveryRequest, isDue, NothingDue}
 use Rattle.demands.proofs.Checks.{Through, StateFacts, check-through, state-facts}
 use Rattle.demands.proofs.Informed as informed
 
@@ -193,3 +193,19 @@ every-request sv l session out i e =
 
     facts : StateFacts sv l
     facts = state-facts sv l (t .fit) (t .is-sound)
+
+-- ---- nothing due
+
+not-due : (d : Downlink) (s : Session) (disk owner : List ℕ) (fs : List File) (out : List ℕ) → isDue d ≡ false
+    → dueOf d s disk owner fs out ≡ sending.asked (sending.askedOf s (answer.Quiet 0)) out
+unfolding isDue dueOf
+not-due down.Idle s disk owner fs out e = refl
+not-due (down.Sending place offset sent) s disk owner fs out e = let z : _≡_ {A = ℕ} 0 1 = cc in absurd (omega arith)
+not-due (down.Ended place) s disk owner fs out e = refl
+not-due (down.Aborting place) s disk owner fs out e = let z : _≡_ {A = ℕ} 0 1 = cc in absurd (omega arith)
+
+-- THEOREM: with nothing due a request changes nothing
+pub nothing-due : NothingDue
+unfolding requestOf onRequest dueAs
+nothing-due sv l session out i e q =
+    rw (e, not-due (linkOf sv i .down) (linkOf sv i) (l .disk) (ownerPart sv l) (files (tablePart sv l)) out q, set-getD (sv .links) i closedSession)

@@ -19,7 +19,7 @@ use Rattle.demands.specs.Cut.{CutElsewhere, LentEarlier}
 use Rattle.demands.specs.Uncut.{UncutSame}
 use Rattle.demands.specs.Feeding.{EnoughCalls, PiecesElsewhere}
 use Rattle.demands.specs.Replies.{EveryReply}
-use Rattle.demands.specs.Downloads.{EveryRequest, DownloadBegins, DownloadBrings, DownloadEnds}
+use Rattle.demands.specs.Downloads.{EveryRequest, NothingDue, DownloadBegins, DownloadBrings, DownloadEnds}
 
 -- the reader finds this type and this information in front of the bytes
 pub record Reads (bytes : List ℕ) (kind : ℕ) (info : List ℕ) : Type 0 where
@@ -49,6 +49,7 @@ pub record Demand2 : Type 0 where
   -- "Every packet written or read, header check, selection, refusal and closing is what FTL0 version 0 .. define"
   pub replies : EveryReply
   pub requests : EveryRequest
+  pub nothing-due : NothingDue
   -- "Each further request by the driver yields one DATA of up to 256 bytes, as full as can be, then DATA_END": so a download brings the file
   pub download-begins : DownloadBegins
   pub download : DownloadBrings

@@ -1,6 +1,6 @@
 -- What a request of the driver brings, and what a whole download brings: document 01's "Downlink", "Each further request by the driver yields one
 -- DATA of up to 256 bytes, as full as can be, then DATA_END; with nothing due it yields nothing and changes nothing." The proofs are in
--- proofs/Downloads.antt. Assumes nothing.
+-- proofs/Requests.antt, Begins.antt and Downloads.antt. Assumes nothing.
 use mathlib.Core.Path.{_≡_}
 use mathlib.Core.Bool.{Bool, true, false, cond}
 use mathlib.Core.List.{List, [], _∷_, _++_}
@@ -15,10 +15,10 @@ use Rattle.session.specs.declared.state.Downlink.the-variants as down
 use Rattle.session.specs.declared.reply.Reply.the-variants as reply
 use Rattle.session.specs.declared.reply.Answer.the-variants as answer
 use Rattle.session.specs.Reply.{Told, told, sentInfo, tell}
+use Rattle.decide.specs.Words.{wordAt}
 use Rattle.server.specs.declared.Server.{Server}
 use Rattle.server.specs.declared.check.Check.the-variants.{Go}
-use Rattle.decide.specs.Words.{wordAt}
-use Rattle.server.specs.State.{Lent, linkOf, part}
+use Rattle.server.specs.State.{Lent, outcome, doneWith, linkOf, part}
 use Rattle.history.specs.Change.{Files}
 use Rattle.history.specs.Calls.{Call, login, receive, request, lose, callOf, Start, legal, History, _▸_}
 use Rattle.history.specs.Stored.{filesOf}
@@ -47,6 +47,21 @@ EveryRequest =
     → checkIn sv l (request session out) ≡ Go i
     → told (callOf sv l (request session out) .done .answer) (callOf sv l (request session out) .out)
     ≡ toRequest (linkOf sv i .down) (filesOf sv l) out
+
+-- whether a packet is due
+unfoldable pub isDue : Downlink → Bool
+isDue down.Idle = false
+isDue (down.Sending place offset sent) = true
+isDue (down.Ended place) = false
+isDue (down.Aborting place) = true
+
+-- "with nothing due it yields nothing and changes nothing": the server, what is lent and the output are as they were
+abbrev pub NothingDue : Type 0
+NothingDue =
+    (sv : Server) (l : Lent) (session : ℕ) (out : List ℕ) (i : ℕ)
+    → checkIn sv l (request session out) ≡ Go i
+    → isDue (linkOf sv i .down) ≡ false
+    → callOf sv l (request session out) ≡ outcome (doneWith sv (answer.Quiet 0)) l out
 
 -- ---- the beginning of a download
 
@@ -78,16 +93,21 @@ DownloadBegins =
 
 -- ---- a whole download, with the calls of others between
 
+-- the driver asks for a packet
 unfoldable pub isRequest : Call → Bool
 isRequest (login session clock out) = false
 isRequest (receive session clock input out) = false
 isRequest (request session out) = true
 isRequest (lose session) = false
 
--- each call for this session is a request; the calls for other sessions are any
+-- a request of this session, or any call for another one
+unfoldable pub requestOrOther : ℕ → Call → Bool
+requestOrOther session c = cond (eqb (sessionIn c) session) (isRequest c) true
+
+-- each call for this session is a request
 unfoldable pub requestsOnly : ℕ → List Call → Bool
 requestsOnly session [] = true
-requestsOnly session (c ∷ cs) = cond (cond (eqb (sessionIn c) session) (isRequest c) true) (requestsOnly session cs) false
+requestsOnly session (c ∷ cs) = cond (requestOrOther session c) (requestsOnly session cs) false
 
 -- the packet that a call sends to this session, no byte where it sends none or is for another session
 unfoldable pub sentTo : Start → History → ℕ → Call → List ℕ
