@@ -7,7 +7,7 @@ use Prim.Native.Nat.{ℕ, _-_, _*_, _≤_, _<_}
 use native.Mathlib.Omega.{arith}
 use borrow.Author.Tests.{eqb-true, eqb-false}
 use lib.Dec.{eqb, ltb}
-use lib.ListN.{length}
+use lib.ListN.{length, drop}
 use lib.Seq.{getD-set-same}
 use Rattle.packet.specs.Machine.{Call}
 use Rattle.packet.specs.Frame.{Held, Event, packet, none-held, padded, answerBy}
@@ -29,6 +29,7 @@ use Rattle.carry.specs.declared.turn.Turn.{Turn}
 use Rattle.carry.specs.Turn.{turnOf, mem}
 use Rattle.carry.specs.Download as download
 use Rattle.carry.specs.Carry.{onChooses, carryOut}
+use Rattle.files.specs.View.{View}
 use Rattle.files.specs.Completion.{destinationsAt}
 use Rattle.decide.specs.Words.{wordAt}
 use Rattle.decide.specs.Downlink.{onFound, onNumbered, onDownload, onDownlink}
@@ -41,19 +42,20 @@ use Rattle.server.specs.State.{Lent, Outcome, linkOf, ownerPart, tablePart, par
 use Rattle.server.specs.Check.{checkOf}
 use Rattle.server.specs.Turns.{sizeIn, putBack, actOf}
 use Rattle.server.specs.Calls.{onCheck, receiveOf}
-use Rattle.history.specs.Calls.{receive, after}
+use Rattle.history.specs.Calls.{receive, History, _▸_, after}
 use Rattle.history.specs.Stored.{filesOf}
 use Rattle.history.proofs.Histories.{good-after}
 use Rattle.demands.specs.Closing.{eventAt}
-use Rattle.demands.specs.Demand3.{serverAt, lentAt}
-use Rattle.demands.specs.Downloads.{numberAsked, Begins, DownloadBegins}
+use Rattle.demands.specs.Demand3.{serverAt, lentAt, filesAt}
+use Rattle.demands.specs.Downloads.{numberAsked, Begins, DownloadBegins, AskedAndSent}
 use Rattle.demands.proofs.Checks.{Through, check-through}
 use Rattle.demands.proofs.Hearing.{Ended, Hears, unended, ended}
 use Rattle.demands.proofs.Receiving as steps
 use Rattle.demands.proofs.Answered.{refused-call}
 use Rattle.demands.proofs.Informed as informed
 use Rattle.demands.proofs.Replies as replies
-use Rattle.demands.proofs.Downloads.{kept}
+use Rattle.demands.proofs.Theorems.{contents}
+use Rattle.demands.proofs.Downloads.{kept, complete, download-brings}
 
 -- no other reply is silent
 pub quiet-nothing : (r : Reply) (taken n : ℕ) (out : List ℕ) → tell r taken out .answer ≡ answer.Quiet n → r ≡ reply.Nothing
@@ -262,3 +264,27 @@ begins s ok h session clock taken input out info came silent = by (checkOf sv l 
         = e ∙ ap (λ (k : ℕ). Go k) (check-through sv l session true (length out) i e .index) in
         let t = check-through sv l session true (length out) (session - 1) same in
         on t same (steps.heard-by sv l session clock input out (session - 1) t)
+
+-- THEOREM: and from offset 0 brings the bytes accepted under the number asked for
+pub asked-and-sent : AskedAndSent
+asked-and-sent s ok h session clock taken input out info came first silent cs only e =
+    record {
+      place = b .place;
+      number = b .number;
+      sent = download-brings s ok left session (b .place) (wordAt info 4) (b .downloading) cs only .whole e
+          ∙ ap (λ (n : ℕ). drop n (filesAt s left (b .place) .bytes)) first
+          ∙ ap (λ (v : View). v .bytes) (b .file)
+          ∙ contents s ok h (b .place) (λ z. file .number (ap (λ (v : View). v .file .number) (b .file) ∙ z)) .complete
+          (λ z. file .time (ap (λ (v : View). v .file .time) (b .file) ∙ z));
+    }
+  where
+    left : History
+    left = h ▸ receive session clock input out
+
+    b : Begins s h session clock input out info
+    b = begins s ok h session clock taken input out info came silent
+
+    file : CompleteAt (files (tablePart (serverAt s left) (lentAt s left))) (b .place)
+    file =
+        let d = b .downloading in
+        complete (serverAt s left) (lentAt s left) (good-after s ok left) session (d .from-one) (d .linked) (b .place) (wordAt info 4) 0 (d .begun)

@@ -7,6 +7,7 @@ use Rattle.demands.proofs.Unique.{calls-determined}
 use Rattle.demands.proofs.Demand2.{demand-2}
 use Rattle.demands.proofs.Whole.{demand-3}
 use Rattle.demands.proofs.Downloads.{from-pupil-to-pupil}
+use Rattle.demands.proofs.Begins.{asked-and-sent}
 
 pub demands : Demands
 demands =
@@ -16,6 +17,7 @@ demands =
       real-answers = demand-2;
       sound-store = demand-3;
       pupil-to-pupil = from-pupil-to-pupil;
+      asked-and-sent = asked-and-sent;
       page-answer = page-answered;
       paging = paging;
       paging-whole = paging-whole;

@@ -160,7 +160,7 @@ module _ (sv : Server) (l : Lent) (good : Good sv l) (session : ℕ) (one : 1 �
       (getD-set-same (sv .links) (session - 1) _ closedSession (omega (arith, below, good .links, facts .sizes .sessions)))
 
   -- a file that is downloaded is complete
-  complete : (place offset sent : ℕ) → linkOf sv (session - 1) .down ≡ down.Sending place offset sent → CompleteAt (files (tablePart sv l)) place
+  pub complete : (place offset sent : ℕ) → linkOf sv (session - 1) .down ≡ down.Sending place offset sent → CompleteAt (files (tablePart sv l)) place
   complete place offset sent e = facts .sessions .each (session - 1) below linked .sending place offset sent e .complete
 
   -- what the session's download is after a request

@@ -1,6 +1,6 @@
 -- Requests and downloads at work: the theorems on them are applied to small cases of Example.antt, and what is sent is stated byte by byte. Assumes
 -- nothing.
-use mathlib.Core.Path.{_≡_, sym, ap, _∙_}
+use mathlib.Core.Path.{_≡_, refl, sym, ap, _∙_}
 use mathlib.Core.Bool.{true}
 use mathlib.Core.List.{List, [], _∷_, _++_}
 use Prim.Native.Nat.{ℕ, _≤_}
@@ -16,13 +16,13 @@ use Rattle.table.specs.declared.File.{File}
 use Rattle.server.specs.State.{outcome, doneWith, linkOf}
 use Rattle.history.specs.Calls.{Call, request, callOf, Start, legal, History, _▸_}
 use Rattle.demands.specs.Accepted.{accepted}
-use Rattle.demands.specs.Downloads.{Begins, dataTo, endTo, Downloading}
+use Rattle.demands.specs.Downloads.{Begins, Handed, dataTo, endTo, Downloading}
 use Rattle.demands.specs.Demand3.{serverAt, lentAt, filesAt}
 use Rattle.demands.proofs.Demand2.{demand-2}
 use Rattle.demands.proofs.Whole.{demand-3}
 use Rattle.demands.proofs.Demands.{demands}
 use Rattle.demands.proofs.Example.{small, small-legal, pair, pair-legal, output, rx, nak, download, nextFile, lostOnce, picked, sending}
-use Rattle.demands.proofs.Example.{sending40, sentAll, complete80, two, handed, meanwhile, packetTold, Requested, Begun, Commanded}
+use Rattle.demands.proofs.Example.{sending40, sentAll, complete80, two, both, handed, meanwhile, packetTold, Requested, Begun, Commanded}
 use Rattle.demands.proofs.Example.{requested, downloaded}
 
 -- ---- one request
@@ -157,3 +157,14 @@ handed-over =
     (ends pair pair-legal handed 2 0 7 (omega arith) meanwhile 2 b (omega arith))
     ∙ ap (λ (f : File). fieldsSet (f .number) (f .time) (accepted pair handed (f .number))) (b .file)
     ∙ ap (fieldsSet 1 7) (b .accepted)
+
+-- the same from DOWNLOAD_CMD on
+pub asked-for : Handed pair both 2 9 (download 0 0) output (drop 2 (download 0 0)) meanwhile
+unfolding handed number
+asked-for =
+    let b = downloaded .other in
+    demands .asked-and-sent pair pair-legal both 2 9 11 (download 0 0) output (drop 2 (download 0 0)) (downloaded .asked) refl (downloaded .accepted)
+    meanwhile (b .only) (ends pair pair-legal handed 2 0 7 (omega arith) meanwhile 2 b (omega arith))
+
+pub asked-number : filesAt pair both (asked-for .place) .file .number ≡ 1
+asked-number = asked-for .number ∙ downloaded .number

@@ -511,6 +511,10 @@ pub record Downloads : Type 0 where
   pub behind-40 : Begun small sending40 1 40 4 two 2
   pub one : Begun small sending 1 0 4 (request 1 output ∷ []) 1
   pub other : Begun pair handed 2 0 7 meanwhile 2
+  -- DOWNLOAD_CMD of the second link for the file that the first one uploaded, and then the requests among other calls
+  pub asked : endsIn pair both 2 (download 0 0) ≡ some (packet 8 (drop 2 (download 0 0)))
+  pub accepted : callOf (serverAt pair both) (lentAt pair both) (of 2 9 (download 0 0)) .done .answer ≡ answer.Quiet 11
+  pub number : numberAsked (serverAt pair both) (lentAt pair both) 1 (drop 2 (download 0 0)) ≡ 1
   -- what the definitions give
   pub fields : header-fields.fieldsSet 1 4 smallest ≡ complete80
   pub data-80 : dataTo small sending 1 two ≡ complete80
@@ -693,6 +697,9 @@ downloaded =
       behind-40 = record { linked = refl; begun = refl; file = refl; size = refl; accepted = refl; only = refl; asked = refl };
       one = record { linked = refl; begun = refl; file = refl; size = refl; accepted = refl; only = refl; asked = refl };
       other = record { linked = refl; begun = refl; file = refl; size = refl; accepted = refl; only = refl; asked = refl };
+      asked = refl;
+      accepted = refl;
+      number = refl;
       fields = refl;
       data-80 = refl;
       not-yet = refl;

@@ -10,7 +10,7 @@ use Rattle.demands.specs.Demand1.{Demand1}
 use Rattle.demands.specs.Unique.{CallsDetermined}
 use Rattle.demands.specs.Demand2.{Demand2}
 use Rattle.demands.specs.Demand3.{Demand3}
-use Rattle.demands.specs.Downloads.{FromPupilToPupil}
+use Rattle.demands.specs.Downloads.{FromPupilToPupil, AskedAndSent}
 
 pub record Demands : Type 1 where
   -- 1. "Every byte sequence, clock reading and lent buffer gets an answer. The program always ends, asks nothing of its caller beforehand, and refuses
@@ -28,6 +28,8 @@ pub record Demands : Type 1 where
   pub sound-store : (s : Start) → legal s ≡ true → (h : History) → Demand3 s h
   -- with demand 2: who downloads a complete file is sent the bytes accepted under its number, the four fields set, whatever others do meanwhile
   pub pupil-to-pupil : FromPupilToPupil
+  -- the same from DOWNLOAD_CMD to DATA_END
+  pub asked-and-sent : AskedAndSent
   -- "So whoever selects from upload time 0, then again above each page's newest time, with an equation that has room for that condition, until a page
   -- is shorter than MAXSEL, has been given every matching file complete by then once, oldest first." (crates/paging/specs/Paging.antt)
   pub page-answer : PageAnswer

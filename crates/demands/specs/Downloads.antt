@@ -162,13 +162,34 @@ DownloadEnds =
     → length (filesAt s h place .bytes) / 256 + 2 ≤ asks session cs
     → endTo s h session cs ≡ true
 
--- FROM ONE STATION TO ANOTHER: a whole download brings the bytes that were accepted under the file's number, "in order, with only the four server-set
--- fields replaced"
+-- the bytes accepted under the number of the file at a place, "in order, with only the four server-set fields replaced"
+abbrev pub acceptedSet : Start → History → ℕ → List ℕ
+acceptedSet s h place =
+    fieldsSet (filesAt s h place .file .number) (filesAt s h place .file .time) (accepted s h (filesAt s h place .file .number))
+
+-- FROM ONE STATION TO ANOTHER: these are what a whole download brings
 abbrev pub FromPupilToPupil : Type 0
 FromPupilToPupil =
     (s : Start) → legal s ≡ true → (h : History) (session place : ℕ) → Downloading s h session place 0
     → (cs : List Call)
     → requestsOnly session cs ≡ true
     → endTo s h session cs ≡ true
-    → dataTo s h session cs
-    ≡ fieldsSet (filesAt s h place .file .number) (filesAt s h place .file .time) (accepted s h (filesAt s h place .file .number))
+    → dataTo s h session cs ≡ acceptedSet s h place
+
+-- the file of the number that a DOWNLOAD_CMD asks for was sent, as it was accepted
+pub record Handed (s : Start) (h : History) (session clock : ℕ) (input out info : List ℕ) (cs : List Call) : Type 0 where
+  pub place : ℕ
+  pub number : filesAt s h place .file .number ≡ numberAsked (serverAt s h) (lentAt s h) (session - 1) info
+  pub sent : dataTo s (h ▸ receive session clock input out) session cs ≡ acceptedSet s h place
+
+-- THE SAME IN WORDS OF PACKETS: a DOWNLOAD_CMD from offset 0 that is not refused, then requests until DATA_END
+abbrev pub AskedAndSent : Type 0
+AskedAndSent =
+    (s : Start) → legal s ≡ true → (h : History) (session clock taken : ℕ) (input out info : List ℕ)
+    → endsIn s h session input ≡ some (packet 8 info)
+    → wordAt info 4 ≡ 0
+    → callOf (serverAt s h) (lentAt s h) (receive session clock input out) .done .answer ≡ answer.Quiet taken
+    → (cs : List Call)
+    → requestsOnly session cs ≡ true
+    → endTo s (h ▸ receive session clock input out) session cs ≡ true
+    → Handed s h session clock input out info cs
