@@ -6,6 +6,8 @@ use Rattle.demands.proofs.Demand1.{demand-1}
 use Rattle.demands.proofs.Unique.{calls-determined}
 use Rattle.demands.proofs.Demand2.{demand-2}
 use Rattle.demands.proofs.Whole.{demand-3}
+use Rattle.demands.proofs.Downloads.{from-pupil-to-pupil}
+use Rattle.demands.proofs.Begins.{asked-and-sent}
 
 pub demands : Demands
 demands =
@@ -14,6 +16,8 @@ demands =
       determined = calls-determined;
       real-answers = demand-2;
       sound-store = demand-3;
+      pupil-to-pupil = from-pupil-to-pupil;
+      asked-and-sent = asked-and-sent;
       page-answer = page-answered;
       paging = paging;
       paging-whole = paging-whole;

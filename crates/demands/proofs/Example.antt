@@ -1,12 +1,12 @@
--- Small passes and calls, and what the server answers to them: by computation, from the definitions that the contracts cite. AtWork.antt and
--- SheetAtWork.antt apply the theorems of the three demands to them, so that each is seen to speak of states, files and packets that are there. The
--- file is document 01's smallest one of 80 bytes. Assumes nothing.
+-- Small passes and calls, and what the server answers to them: by computation, from the definitions that the contracts cite. AtWork.antt,
+-- SheetAtWork.antt and DownloadsAtWork.antt apply the theorems of the three demands to them, so that each is seen to speak of states, files and
+-- packets that are there. The file is document 01's smallest one of 80 bytes. Assumes nothing.
 use mathlib.Core.Path.{_≡_, refl}
 use mathlib.Core.Bool.{true, false}
 use mathlib.Core.Logic.{inl, inr}
 use mathlib.Core.List.{List, [], _∷_, _++_}
 use mathlib.Core.Option.{none, some}
-use Prim.Native.Nat.{ℕ}
+use Prim.Native.Nat.{ℕ, _-_}
 use native.Mathlib.Omega.{arith}
 use lib.Count.{ones, trailingZeros}
 use lib.ListN.{length, getD, replicate, take, drop}
@@ -15,9 +15,11 @@ use Rattle.packet.specs.Frame.{Held, packet, byte}
 use Rattle.header.proofs.Examples.{smallest}
 use Rattle.header.specs.Header.{placeOf}
 use Rattle.session.specs.declared.state.Uplink.the-variants as up
+use Rattle.session.specs.declared.state.Downlink.the-variants as down
 use Rattle.session.specs.declared.reply.Answer.the-variants as answer
 use Rattle.session.specs.declared.reply.Reply.{Reply}
 use Rattle.session.specs.declared.reply.Reply.the-variants as reply
+use Rattle.session.specs.Reply.{Told, told}
 use Rattle.server.specs.declared.check.Check.the-variants.{Go}
 use Rattle.blocks.specs.FreeMap.{bitAt}
 use Rattle.server.specs.State.{Lent, lent, linkOf, part, mapPart, ownerPart}
@@ -35,6 +37,7 @@ use Rattle.demands.specs.Events.{given, added, finished, dropped}
 use Rattle.demands.specs.Accepted.{uploadOf, accepted, reserved, numbersGiven, total, completion, completions}
 use Rattle.demands.specs.Demand1.{Says, Fits, IsSound, forgotten, cleared}
 use Rattle.demands.specs.Replies.{replyTo}
+use Rattle.demands.specs.Downloads.{toRequest, isDue, numberAsked, requestsOnly, asks, dataTo, endTo}
 use Rattle.demands.specs.Demand3.{serverAt, lentAt, filesAt, sentAt, infoAt, Outside}
 use Rattle.packet.specs.Frame as packet-frame
 use Rattle.packet.specs.Machine as packet-machine
@@ -82,6 +85,7 @@ use Rattle.demands.specs.Feeding as demands-feeding
 use Rattle.demands.specs.Events as demands-events
 use Rattle.demands.specs.Accepted as demands-accepted
 use Rattle.demands.specs.Replies as demands-replies
+use Rattle.demands.specs.Downloads as demands-downloads
 
 -- ---- the small store and what its one link brings
 
@@ -199,6 +203,21 @@ sending = lostOnce ▸ rx 12 (download 0 0)
 unfoldable pub sentAll : History
 sentAll = sending ▸ request 1 output ▸ request 1 output
 
+-- it is downloaded from byte 40 on
+unfoldable pub sending40 : History
+sending40 = lostOnce ▸ rx 12 (download 40 0)
+
+-- two requests: for the DATA of at most 80 bytes, and for DATA_END
+abbrev pub two : List Call
+two = request 1 output ∷ request 1 output ∷ []
+
+-- the file as it is when it is complete: number 1, times 4, and the sum 0223 for 021a
+unfoldable pub complete80 : List ℕ
+complete80 =
+    170 ∷ 85 ∷ 1 ∷ 0 ∷ 4 ∷ 1 ∷ 0 ∷ 0 ∷ 0 ∷ 2 ∷ 0 ∷ 8 ∷ 0 ∷ 0 ∷ 0 ∷ 0 ∷ 0 ∷ 0 ∷ 0 ∷ 0 ∷ 3 ∷ 0 ∷ 3 ∷ 0 ∷ 0 ∷ 0 ∷ 4 ∷ 0 ∷
+    4 ∷ 80 ∷ 0 ∷ 0 ∷ 0 ∷ 5 ∷ 0 ∷ 4 ∷ 0 ∷ 0 ∷ 0 ∷ 0 ∷ 6 ∷ 0 ∷ 4 ∷ 4 ∷ 0 ∷ 0 ∷ 0 ∷ 7 ∷ 0 ∷ 1 ∷ 0 ∷ 8 ∷ 0 ∷ 1 ∷ 0 ∷ 9 ∷
+    0 ∷ 2 ∷ 0 ∷ 0 ∷ 10 ∷ 0 ∷ 2 ∷ 35 ∷ 2 ∷ 11 ∷ 0 ∷ 2 ∷ 80 ∷ 0 ∷ 18 ∷ 0 ∷ 4 ∷ 4 ∷ 0 ∷ 0 ∷ 0 ∷ 0 ∷ 0 ∷ 0 ∷ []
+
 -- DATA_END comes too early, so the file is discarded; the next one gets the next number, and the same block
 unfoldable pub tooEarly : History
 tooEarly = halfway ▸ rx 8 dataEnd ▸ rx 9 (upload 0)
@@ -232,6 +251,16 @@ uploads =
 -- both files are completed in the same second, 7
 unfoldable pub both : History
 both = uploads ▸ of 1 7 dataEnd ▸ of 2 7 dataEnd
+
+-- the second link downloads the file that the first one uploaded
+unfoldable pub handed : History
+handed = both ▸ of 2 9 (download 0 0)
+
+-- Two requests of the second session that have room, and one that has not. Between them the first link sends UPLOAD_CMD, its driver asks too, and it
+-- is lost and made again.
+abbrev pub meanwhile : List Call
+meanwhile =
+    of 1 10 (upload 0) ∷ request 2 output ∷ request 1 output ∷ lose 1 ∷ request 2 (replicate 257 0) ∷ login 1 11 output ∷ request 2 output ∷ []
 
 -- UPLOAD_CMD of the first link in three pieces, with a byte behind its end, which is not taken. Between them UPLOAD_CMD of the second link, a
 -- request, a call for a session 3 that there is not, which is refused, and the first of two bytes of the second link that end nothing.
@@ -437,6 +466,60 @@ pub record Sheet : Type 0 where
   pub type-14 : Sheeted opened 6 directory (reply.DownloadError 1)
   pub type-18 : Sheeted opened 6 type18 reply.Closing
 
+-- a request of the small server's session goes through, and this is told by the answer sheet
+pub record Requested (h : History) (t : Told) : Type 0 where
+  pub goes : checkIn (serverAt small h) (lentAt small h) (request 1 output) ≡ Go 0
+  pub reply : toRequest (linkOf (serverAt small h) 0 .down) (filesAt small h) output ≡ t
+
+-- a packet in front of the output
+abbrev pub packetTold : List ℕ → Told
+packetTold p = told (answer.Sent 0 (length p)) (p ++ drop (length p) output)
+
+pub record Requests : Type 0 where
+  -- before a download nothing is due
+  pub idle : Requested lostOnce (told (answer.Quiet 0) output)
+  -- the whole file of 80 bytes, or the last 40, in one DATA; then DATA_END, then nothing
+  pub first : Requested sending (packetTold (80 ∷ 0 ∷ complete80))
+  pub last-40 : Requested sending40 (packetTold (40 ∷ 0 ∷ drop 40 complete80))
+  pub end : Requested (sending ▸ request 1 output) (packetTold (0 ∷ 1 ∷ []))
+  pub ended : Requested sentAll (told (answer.Quiet 0) output)
+  pub not-due : isDue (linkOf (serverAt small sentAll) 0 .down) ≡ false
+  -- DL_ABORTED_RESP, after a DL_NAK_CMD that brought DATA_END
+  pub aborted : Requested (sending ▸ rx 13 nak) (packetTold (0 ∷ 10 ∷ []))
+
+-- a session of a server is to be sent file 1, at place 0, of 80 bytes, and these calls follow
+pub record Begun (s : Start) (h : History) (session offset time : ℕ) (cs : List Call) (requests : ℕ) : Type 0 where
+  pub linked : linkOf (serverAt s h) (session - 1) .linked ≡ true
+  pub begun : linkOf (serverAt s h) (session - 1) .down ≡ down.Sending 0 offset 0
+  pub file : filesAt s h 0 .file ≡ record { number = 1; size = 80; received = 80; time = time }
+  pub size : length (filesAt s h 0 .bytes) ≡ 80
+  pub accepted : accepted s h 1 ≡ smallest
+  pub only : requestsOnly session cs ≡ true
+  pub asked : asks session cs ≡ requests
+
+-- the small server's session sends a DOWNLOAD_CMD that asks for the file of a number, and gets no packet
+pub record Commanded (h : History) (clock : ℕ) (bytes : List ℕ) (number : ℕ) : Type 0 where
+  pub ends : endsIn small h 1 bytes ≡ some (packet 8 (drop 2 bytes))
+  pub quiet : callOf (serverAt small h) (lentAt small h) (rx clock bytes) .done .answer ≡ answer.Quiet 11
+  pub asked : numberAsked (serverAt small h) (lentAt small h) 0 (drop 2 bytes) ≡ number
+
+pub record Downloads : Type 0 where
+  -- file 1 by its number, and as the next selected file
+  pub by-number : Commanded lostOnce 12 (download 40 0) 1
+  pub next-selected : Commanded picked 13 nextFile 1
+  pub whole : Begun small sending 1 0 4 two 2
+  pub behind-40 : Begun small sending40 1 40 4 two 2
+  pub one : Begun small sending 1 0 4 (request 1 output ∷ []) 1
+  pub other : Begun pair handed 2 0 7 meanwhile 2
+  -- DOWNLOAD_CMD of the second link for the file that the first one uploaded, and then the requests among other calls
+  pub asked : endsIn pair both 2 (download 0 0) ≡ some (packet 8 (drop 2 (download 0 0)))
+  pub accepted : callOf (serverAt pair both) (lentAt pair both) (of 2 9 (download 0 0)) .done .answer ≡ answer.Quiet 11
+  pub number : numberAsked (serverAt pair both) (lentAt pair both) 1 (drop 2 (download 0 0)) ≡ 1
+  -- what the definitions give
+  pub fields : header-fields.fieldsSet 1 4 smallest ≡ complete80
+  pub data-80 : dataTo small sending 1 two ≡ complete80
+  pub not-yet : endTo small sending 1 (request 1 output ∷ []) ≡ false
+
 pub record Computed : Type 0 where
   pub refusals : Refusals
   pub sheet : Sheet
@@ -451,47 +534,60 @@ pub record Computed : Type 0 where
 clash : false ≡ true → ⊥
 clash e = let z : _≡_ {A = ℕ} 0 1 = cc in omega arith
 
-pub computed : Computed
+-- whoever unfolds this unfolds all that the examples compute with
+computing : ℕ
 unfolding
-    small opened halfway beforeUpload continued lostOnce tooEarly pair uploads both smallest ones trailingZeros links-sound.downlinkSound demands-events.sentBy demands-accepted.namedBy
-    demands-accepted.noneBy demands-accepted.uploadOf packet-frame.judged packet-frame.byte packet-frame.withoutPacket packet-frame.answerBy
-    packet-frame.answerOf packet-frame.receiveOf packet-machine.called packet-machine.call packet-numbers.number packet-packet.packetOf
-    session-expected.expectedUp session-expected.expected session-reply.tell session-reply.answered table-table.files table-table.putTable
-    table-table.firstFrom table-fit.fileFits table-fit.recordFits table-fit.recordsFitFrom table-fit.among table-fit.apart
-    table-fit.distinctOf blocks-freemap.freeCount blocks-freemap.lowest blocks-freemap.reservedMap blocks-owners.blocks blocks-owners.countsFrom
-    blocks-owners.nth blocks-owners.reservedOwner blocks-owners.releasedOwner blocks-owners.releasedMap blocks-owners.wordOf blocks-owners.mapOf
-    blocks-contents.held blocks-contents.stored blocks-check.within blocks-check.mapIs blocks-check.agreesTest blocks-answers.makeOwner
-    blocks-answers.makeMap blocks-answers.reserveMap blocks-answers.reserveOwner blocks-answers.releaseMap blocks-answers.releaseOwner
-    blocks-answers.writeDisk stored-answers.checkAt stored-answers.setNumber stored-answers.setDisk header-items.headOf header-items.after
-    header-items.walk header-items.marked header-items.fieldsOf header-header.listed header-header.every header-header.countIf
-    header-header.bytesOf header-header.lengthIn header-header.lengthFits header-header.ordered header-header.proper header-header.complete
-    header-header.sumOf header-header.checkItems header-header.checkValues header-header.verdict header-header.placeFrom
-    header-fields.withFields header-fields.withSum header-fields.fieldsSet files-uploads.beginAt files-uploads.beginIn files-uploads.beginWith
-    files-uploads.placeNumber files-uploads.roomNumber files-uploads.appendNumber files-uploads.appendOf files-uploads.discardNumber
-    files-uploads.discardOf files-completion.checkOf files-completion.completeNumber files-completion.completeOf files-sound.soundTest
-    decide-uplink.onContinued decide-uplink.onUpload decide-uplink.onData decide-uplink.onEnd decide-uplink.onUplink decide-decide.onPacket
-    decide-decide.onFrame decide-decide.decideOf carry-upload.begunTurn carry-upload.begunAs carry-upload.beginWith carry-upload.storedAs
-    carry-upload.appendedAs carry-upload.storeTurn carry-upload.discardTurn carry-upload.timed carry-upload.judgedAt carry-upload.acceptedAs
-    carry-upload.acceptTurn carry-upload.withDisk carry-upload.withBlocks carry-upload.finishAs carry-carry.onFrees carry-carry.onWrites
-    carry-carry.onMoves carry-carry.carryOut links-sound.uplinkSound links-sound.namesSound links-sound.selectionSound links-sound.packetSound
-    links-sound.linkSound links-sound.linkIn links-sound.apartFrom links-sound.allApart links-sound.linksSound server-check.sizesFit
-    server-check.roomFits server-check.soundParts server-check.inState server-check.sessionCheck server-check.checkParts server-calls.answeredBy
-    server-calls.heardBy server-calls.stepOf server-calls.onCheck server-calls.receiveOf server-calls.onLogin server-calls.loginOf
-    server-calls.onLose server-calls.loseOf server-turns.hearOf server-turns.sizeIn server-turns.putBack server-turns.actOf
-    server-making.emptyOf server-making.makeOf history-calls.made history-calls.after demands-cut.seenIn demands-cut.seen demands-feeding.onward demands-feeding.feed demands-feeding.feedPieces demands-events.onQuiet demands-events.onGo
-    demands-events.onSent demands-events.onAnswer demands-accepted.addedBy demands-accepted.accepted demands-accepted.reservedBy
-    demands-accepted.reserved demands-accepted.total demands-accepted.givenBy demands-accepted.numbersGiven demands-accepted.fromOne
-    demands-accepted.lastFrom demands-accepted.completedBy demands-accepted.completions
-    chopped unchopped demands-uncut.onBytes demands-uncut.unlessRefused demands-uncut.uncutOf
-    session-expected.expectedDown decide-downlink.onFound decide-downlink.onNumbered decide-downlink.onDownload decide-downlink.onDownlink carry-download.closeTurn carry-download.selectedAs carry-download.selectTurn carry-carry.onChooses files-selection.selectNumber files-selection.selectOf equation-symbols.starsIn equation-symbols.goodText equation-symbols.goodNumber equation-symbols.good equation-symbols.connectiveOf equation-symbols.relationAt equation-symbols.tokenOf equation-symbols.follow equation-symbols.symbolsPast equation-tree.pushed equation-tree.joined equation-tree.result equation-tree.bind equation-tree.run equation-tree.parse equation-answer.refusal equation-answer.validityOf equation-relation.width
-    demands-replies.roomFor demands-replies.toNew demands-replies.toContinued demands-replies.toUpload demands-replies.toData demands-replies.toEnd
-    demands-replies.destinationsIn demands-replies.toFile demands-replies.toNumbered demands-replies.toDownload demands-replies.toSelect
-    demands-replies.toAck demands-replies.toNak demands-replies.replyTo
-    picked sending sentAll table-order.leastAbove table-order.nextAbove table-order.placesAbove stored-answers.truthAt stored-answers.headerAt
-    header-header.headerOf files-selection.isYes files-selection.passing equation-answer.said equation-answer.answer equation-answer.isYes
-    equation-relation.compare equation-relation.numberMeets equation-relation.meets equation-holds.holds equation-holds.bytesOf equation-tree.truth
-    files-completion.destinationsAt carry-download.beginTurn blocks-answers.readOut links-sound.namedAt server-sending.leastOf server-sending.dataOf
-    server-sending.sendingOf server-sending.dueOf server-calls.dueAs server-calls.onRequest server-calls.requestOf
+    small opened halfway beforeUpload continued lostOnce tooEarly pair uploads both smallest ones trailingZeros links-sound.downlinkSound
+    demands-events.sentBy demands-accepted.namedBy demands-accepted.noneBy demands-accepted.uploadOf packet-frame.judged packet-frame.byte
+    packet-frame.withoutPacket packet-frame.answerBy packet-frame.answerOf packet-frame.receiveOf packet-machine.called packet-machine.call
+    packet-numbers.number packet-packet.packetOf session-expected.expectedUp session-expected.expected session-reply.tell session-reply.answered
+    table-table.files table-table.putTable table-table.firstFrom table-fit.fileFits table-fit.recordFits table-fit.recordsFitFrom table-fit.among
+    table-fit.apart table-fit.distinctOf blocks-freemap.freeCount blocks-freemap.lowest blocks-freemap.reservedMap blocks-owners.blocks
+    blocks-owners.countsFrom blocks-owners.nth blocks-owners.reservedOwner blocks-owners.releasedOwner blocks-owners.releasedMap
+    blocks-owners.wordOf blocks-owners.mapOf blocks-contents.held blocks-contents.stored blocks-check.within blocks-check.mapIs
+    blocks-check.agreesTest blocks-answers.makeOwner blocks-answers.makeMap blocks-answers.reserveMap blocks-answers.reserveOwner
+    blocks-answers.releaseMap blocks-answers.releaseOwner blocks-answers.writeDisk stored-answers.checkAt stored-answers.setNumber
+    stored-answers.setDisk header-items.headOf header-items.after header-items.walk header-items.marked header-items.fieldsOf header-header.listed
+    header-header.every header-header.countIf header-header.bytesOf header-header.lengthIn header-header.lengthFits header-header.ordered
+    header-header.proper header-header.complete header-header.sumOf header-header.checkItems header-header.checkValues header-header.verdict
+    header-header.placeFrom header-fields.withFields header-fields.withSum header-fields.fieldsSet files-uploads.beginAt files-uploads.beginIn
+    files-uploads.beginWith files-uploads.placeNumber files-uploads.roomNumber files-uploads.appendNumber files-uploads.appendOf
+    files-uploads.discardNumber files-uploads.discardOf files-completion.checkOf files-completion.completeNumber files-completion.completeOf
+    files-sound.soundTest decide-uplink.onContinued decide-uplink.onUpload decide-uplink.onData decide-uplink.onEnd decide-uplink.onUplink
+    decide-decide.onPacket decide-decide.onFrame decide-decide.decideOf carry-upload.begunTurn carry-upload.begunAs carry-upload.beginWith
+    carry-upload.storedAs carry-upload.appendedAs carry-upload.storeTurn carry-upload.discardTurn carry-upload.timed carry-upload.judgedAt
+    carry-upload.acceptedAs carry-upload.acceptTurn carry-upload.withDisk carry-upload.withBlocks carry-upload.finishAs carry-carry.onFrees
+    carry-carry.onWrites carry-carry.onMoves carry-carry.carryOut links-sound.uplinkSound links-sound.namesSound links-sound.selectionSound
+    links-sound.packetSound links-sound.linkSound links-sound.linkIn links-sound.apartFrom links-sound.allApart links-sound.linksSound
+    server-check.sizesFit server-check.roomFits server-check.soundParts server-check.inState server-check.sessionCheck server-check.checkParts
+    server-calls.answeredBy server-calls.heardBy server-calls.stepOf server-calls.onCheck server-calls.receiveOf server-calls.onLogin
+    server-calls.loginOf server-calls.onLose server-calls.loseOf server-turns.hearOf server-turns.sizeIn server-turns.putBack server-turns.actOf
+    server-making.emptyOf server-making.makeOf history-calls.made history-calls.after demands-cut.seenIn demands-cut.seen demands-feeding.onward
+    demands-feeding.feed demands-feeding.feedPieces demands-events.onQuiet demands-events.onGo demands-events.onSent demands-events.onAnswer
+    demands-accepted.addedBy demands-accepted.accepted demands-accepted.reservedBy demands-accepted.reserved demands-accepted.total
+    demands-accepted.givenBy demands-accepted.numbersGiven demands-accepted.fromOne demands-accepted.lastFrom demands-accepted.completedBy
+    demands-accepted.completions chopped unchopped demands-uncut.onBytes demands-uncut.unlessRefused demands-uncut.uncutOf
+    session-expected.expectedDown decide-downlink.onFound decide-downlink.onNumbered decide-downlink.onDownload decide-downlink.onDownlink
+    carry-download.closeTurn carry-download.selectedAs carry-download.selectTurn carry-carry.onChooses files-selection.selectNumber
+    files-selection.selectOf equation-symbols.starsIn equation-symbols.goodText equation-symbols.goodNumber equation-symbols.good
+    equation-symbols.connectiveOf equation-symbols.relationAt equation-symbols.tokenOf equation-symbols.follow equation-symbols.symbolsPast
+    equation-tree.pushed equation-tree.joined equation-tree.result equation-tree.bind equation-tree.run equation-tree.parse equation-answer.refusal
+    equation-answer.validityOf equation-relation.width demands-replies.roomFor demands-replies.toNew demands-replies.toContinued
+    demands-replies.toUpload demands-replies.toData demands-replies.toEnd demands-replies.destinationsIn demands-replies.toFile
+    demands-replies.toNumbered demands-replies.toDownload demands-replies.toSelect demands-replies.toAck demands-replies.toNak
+    demands-replies.replyTo picked sending sentAll table-order.leastAbove table-order.nextAbove table-order.placesAbove stored-answers.truthAt
+    stored-answers.headerAt header-header.headerOf files-selection.isYes files-selection.passing equation-answer.said equation-answer.answer
+    equation-answer.isYes equation-relation.compare equation-relation.numberMeets equation-relation.meets equation-holds.holds
+    equation-holds.bytesOf equation-tree.truth files-completion.destinationsAt carry-download.beginTurn blocks-answers.readOut links-sound.namedAt
+    server-sending.leastOf server-sending.dataOf server-sending.sendingOf server-sending.dueOf server-calls.dueAs server-calls.onRequest
+    server-calls.requestOf sending40 complete80 handed decide-downlink.onNak demands-downloads.toRequest demands-downloads.isDue
+    demands-downloads.numberAsked demands-downloads.isRequest demands-downloads.requestOrOther demands-downloads.requestsOnly
+    demands-downloads.sentTo demands-downloads.dataIn demands-downloads.dataTo demands-downloads.endTo demands-downloads.asksIn
+    demands-downloads.asks
+computing = 0
+
+pub computed : Computed
+unfolding computing
 computed =
     record {
       refusals = record {
@@ -576,4 +672,35 @@ computed =
       too-early = record { numbers = refl; first = refl; second = refl; freed = refl; blocks = refl; complete = refl; gone = refl; file = refl };
       both = record { linked = refl; second = refl; beside = refl; numbers = refl; complete = refl; file = refl; other = refl };
       chopped = record { sessions = refl; calls = refl; first = refl; second = refl; calls′ = refl; first′ = refl; second′ = refl };
+    }
+
+pub requested : Requests
+unfolding computing
+requested =
+    record {
+      idle = record { goes = refl; reply = refl };
+      first = record { goes = refl; reply = refl };
+      last-40 = record { goes = refl; reply = refl };
+      end = record { goes = refl; reply = refl };
+      ended = record { goes = refl; reply = refl };
+      not-due = refl;
+      aborted = record { goes = refl; reply = refl };
+    }
+
+pub downloaded : Downloads
+unfolding computing
+downloaded =
+    record {
+      by-number = record { ends = refl; quiet = refl; asked = refl };
+      next-selected = record { ends = refl; quiet = refl; asked = refl };
+      whole = record { linked = refl; begun = refl; file = refl; size = refl; accepted = refl; only = refl; asked = refl };
+      behind-40 = record { linked = refl; begun = refl; file = refl; size = refl; accepted = refl; only = refl; asked = refl };
+      one = record { linked = refl; begun = refl; file = refl; size = refl; accepted = refl; only = refl; asked = refl };
+      other = record { linked = refl; begun = refl; file = refl; size = refl; accepted = refl; only = refl; asked = refl };
+      asked = refl;
+      accepted = refl;
+      number = refl;
+      fields = refl;
+      data-80 = refl;
+      not-yet = refl;
     }

@@ -22,6 +22,9 @@ pub mod Informed
 pub mod RepliesUp
 pub mod RepliesDown
 pub mod Replies
+pub mod Requests
+pub mod Downloads
+pub mod Begins
 pub mod Demand2
 pub mod Acts
 pub mod Decided
@@ -45,3 +48,4 @@ pub mod Plain
 pub mod Example
 pub mod AtWork
 pub mod SheetAtWork
+pub mod DownloadsAtWork

@@ -5,7 +5,7 @@ use mathlib.Core.List.{List, _++_}
 use Prim.Native.Nat.{ℕ, zero, suc, _+_, _-_, _*_, _≤_, _<_}
 use native.Mathlib.Omega.{arith}
 use lib.Dec.{ltb}
-use lib.ListN.{length, getD, set, take, drop, replicate, List·getD-eq-default}
+use lib.ListN.{length, getD, set, take, drop, replicate}
 use lib.Seq.{getD-set-same, getD-set-other}
 use borrow.Author.Tests.{le-ltb, eq-eqb, ne-eqb}
 use Rattle.packet.specs.Numbers.{number}
@@ -44,6 +44,7 @@ use Rattle.history.proofs.Parts.{front-back}
 use Rattle.demands.specs.Events.{uploading, numberIn, heardOf, sessionOf, receiveEvent, onAnswer}
 use Rattle.demands.specs.Accepted.{eventAt, namedBy, noneBy, uploadBy, uploadOf}
 use Rattle.demands.specs.Demand3.{serverAt, lentAt, Live, UnderNumber}
+use Rattle.demands.proofs.Checks.{linked-below}
 use Rattle.demands.proofs.Acts.{Names}
 use Rattle.demands.proofs.Orderly.{good-orderly}
 use Rattle.demands.proofs.Calls.{by-check, turnAt, step-turns, step-after, eventOf, call-after}
@@ -213,16 +214,8 @@ module _ (sv : Server) (l : Lent) (g : Good sv l) (bound : sv .last .number ≤ 
       by-check sv l g session true 258 (λ (c : Check). linkOf (onLose c sv (l .selected) (l .held) .done .server) i ≡ linkOf sv i)
       (λ r. refl) (λ inside linked h. link-else (session - 1) i _ n)
 
-  -- an linked-here session is one of the four, and of the sessions there are
   linked-inside : (i : ℕ) → linkOf sv i .linked ≡ true → i < sv .sessions
-  linked-inside i e =
-      by-lt i (sv .sessions) (λ h. h)
-      (λ h. absurd (by-lt i 4
-      (λ k. clash (sym e ∙ facts .sessions .beyond i h k))
-      (λ k. clash (sym e ∙ ap (λ (x : Session). x .linked) (List·getD-eq-default (sv .links) closedSession {n = i} (omega (arith, g .links)))))))
-    where
-      clash : true ≡ false → ⊥
-      clash e = let z : _≡_ {A = ℕ} 0 1 = cc in omega arith
+  linked-inside i e = linked-below sv l (facts .sessions) (g .links) i e
 
   -- two linked-here sessions do not upload the same file
   two-files : (i k place : ℕ) → (i ≡ k → ⊥) → Uploads (linkOf sv i) place → linkOf sv k .linked ≡ true → Live (filesOf sv l place)

@@ -59,13 +59,13 @@ behind a b c w x y r q d e g h = rw (d, e, g) h
 module _ (sv : Server) (l : Lent) (session clock : ℕ) (input out : List ℕ) (i : ℕ) (t : Through sv l session true (length out) i) (kind : ℕ)
     (info : List ℕ)
     (short : length info ≤ 256) where
-  abbrev own : Session
+  abbrev pub own : Session
   own = withHeld (linkOf sv i) 0
 
-  abbrev stored : List File
+  abbrev pub stored : List File
   stored = files (tablePart sv l)
 
-  abbrev selected : List ℕ
+  abbrev pub selected : List ℕ
   selected = part (i * sv .most) (sv .most) (l .selected)
 
   abbrev replied : Act → Reply
@@ -151,7 +151,7 @@ module _ (sv : Server) (l : Lent) (session clock : ℕ) (input out : List ℕ) (
 
   -- ---- the turn of the call
 
-  decided : decideOf own (sv .links) (Whole kind (length info)) (padded info) stored selected
+  pub decided : decideOf own (sv .links) (Whole kind (length info)) (padded info) stored selected
       ≡ onPacket own (sv .links) kind (length info) (padded info) stored selected
   unfolding decideOf onFrame
   decided = rw (eq-eqb (length (padded info)) 256 (padded-length info short))

@@ -1,8 +1,9 @@
 -- Demand 2: "Every packet written or read, header check, selection, refusal and closing is what FTL0 version 0 with its corrections of March 1991 and
--- our marked house rules define." What the server says to each packet of a client is on one sheet, `EveryReply` (Replies.antt); the parts of it are
--- the contracts of the functions. "A packet written reads back as itself. Cutting elsewhere the bytes that a link takes, with each packet and closing
--- byte at the same clock and in the same place among the other calls, changes no packet sent and no state after it." proofs/AtWork.antt and
--- SheetAtWork.antt show the statements at work. Assumes nothing.
+-- our marked house rules define." What the server says to each packet of a client is on one sheet, `EveryReply` (Replies.antt), and what it sends at
+-- each request of the driver is `EveryRequest` (Downloads.antt); their parts are the contracts of the functions. "A packet written reads back as
+-- itself. Cutting elsewhere the bytes that a link takes, with each packet and closing byte at the same clock and in the same place among the other
+-- calls, changes no packet sent and no state after it." proofs/AtWork.antt, SheetAtWork.antt and DownloadsAtWork.antt show the statements at work.
+-- Assumes nothing.
 use mathlib.Core.Path.{_≡_}
 use mathlib.Core.List.{List}
 use Prim.Native.Nat.{ℕ, _≤_, _+_}
@@ -18,6 +19,7 @@ use Rattle.demands.specs.Cut.{CutElsewhere, LentEarlier}
 use Rattle.demands.specs.Uncut.{UncutSame}
 use Rattle.demands.specs.Feeding.{EnoughCalls, PiecesElsewhere}
 use Rattle.demands.specs.Replies.{EveryReply}
+use Rattle.demands.specs.Downloads.{EveryRequest, NothingDue, DownloadBegins, DownloadBrings, DownloadEnds}
 
 -- the reader finds this type and this information in front of the bytes
 pub record Reads (bytes : List ℕ) (kind : ℕ) (info : List ℕ) : Type 0 where
@@ -46,6 +48,12 @@ pub record Demand2 : Type 0 where
   pub sent : SentReadsBack
   -- "Every packet written or read, header check, selection, refusal and closing is what FTL0 version 0 .. define"
   pub replies : EveryReply
+  pub requests : EveryRequest
+  pub nothing-due : NothingDue
+  -- "Each further request by the driver yields one DATA of up to 256 bytes, as full as can be, then DATA_END": so a download brings the file
+  pub download-begins : DownloadBegins
+  pub download : DownloadBrings
+  pub download-ends : DownloadEnds
   pub closing : EveryClosing
   pub closing-is-losing : ClosingIsLosing
   pub cut : CutElsewhere

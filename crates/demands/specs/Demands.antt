@@ -10,6 +10,7 @@ use Rattle.demands.specs.Demand1.{Demand1}
 use Rattle.demands.specs.Unique.{CallsDetermined}
 use Rattle.demands.specs.Demand2.{Demand2}
 use Rattle.demands.specs.Demand3.{Demand3}
+use Rattle.demands.specs.Downloads.{FromPupilToPupil, AskedAndSent}
 
 pub record Demands : Type 1 where
   -- 1. "Every byte sequence, clock reading and lent buffer gets an answer. The program always ends, asks nothing of its caller beforehand, and refuses
@@ -18,13 +19,17 @@ pub record Demands : Type 1 where
   -- 2. "Every packet written or read, header check, selection, refusal and closing is what FTL0 version 0 .. and our marked house rules define": the
   -- contract of each call is an equation with a definition written from the papers, so no other answer meets it
   pub determined : CallsDetermined
-  -- and what the server says to each packet is the answer sheet (Replies.antt). "A packet written reads back as itself. Cutting elsewhere the bytes that
-  -- a link takes .. changes no packet sent and no state after it."
+  -- and what the server says to each packet is the answer sheet (Replies.antt), and what a download brings is the file (Downloads.antt). "A packet
+  -- written reads back as itself. Cutting elsewhere the bytes that a link takes .. changes no packet sent and no state after it."
   pub real-answers : Demand2
   -- 3. "From an empty store, after any calls, links lost at any byte and clocks running backwards included: each storage block is free or belongs to
   -- one file; no file number is given twice; a complete file is the bytes accepted under its number, in order, with only the four server-set fields
   -- replaced; a call changes no file but its own. Upload times rise strictly in order of completion."
   pub sound-store : (s : Start) → legal s ≡ true → (h : History) → Demand3 s h
+  -- with demand 2: who downloads a complete file is sent the bytes accepted under its number, the four fields set, whatever others do meanwhile
+  pub pupil-to-pupil : FromPupilToPupil
+  -- the same from DOWNLOAD_CMD to DATA_END
+  pub asked-and-sent : AskedAndSent
   -- "So whoever selects from upload time 0, then again above each page's newest time, with an equation that has room for that condition, until a page
   -- is shorter than MAXSEL, has been given every matching file complete by then once, oldest first." (crates/paging/specs/Paging.antt)
   pub page-answer : PageAnswer

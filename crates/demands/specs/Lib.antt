@@ -6,6 +6,7 @@ pub mod Cut
 pub mod Uncut
 pub mod Feeding
 pub mod Replies
+pub mod Downloads
 pub mod Demand2
 pub mod Events
 pub mod Effect
