@@ -31,7 +31,7 @@ module _ (p : Pass) (m : Memory) (n : Next) (due : n ≡ decideOf p (m .input) (
     where
       by : (b : Bool) → r ≡ flushedOf b p → Turned p m (passing r m)
       by true i = due-turn next.Flush [] _ (passing r m) (passing (flushedOf true p) m) e (rw i) written
-      by false i = due-turn next.Flush [] [] (passing r m) (passing (flushedOf false p) m) e (rw i) broken
+      by false i = due-turn next.Flush [] [] (passing r m) (passing (flushedOf false p) m) e (rw i) (broken 0)
 
   pub turned-fill : (r : Pass) (input : List ℕ) → n ≡ next.Fill → Filled p (m .input) r input
       → Turned p m (passing r (memory (m .lent) input (m .bytes) (m .text)))

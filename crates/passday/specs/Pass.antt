@@ -155,7 +155,8 @@ pub data Turn (p : Pass) (m : Memory) : Next → List ℕ → List ℕ → Passi
   line : (n : ℕ) → Turn p m (next.Line n) [] [] (begunOf p n m)
   stop : (s : Stage) → Turn p m (next.Stop s) [] [] (passing (withStage p s) m)
   written : Turn p m next.Flush [] (waitingText p (m .text)) (passing (flushedOf true p) m)
-  broken : Turn p m next.Flush [] [] (passing (flushedOf false p) m)
+  -- a write that failed may have written a part of it
+  broken : (n : ℕ) → Turn p m next.Flush [] (take n (waitingText p (m .text))) (passing (flushedOf false p) m)
   filled : (n : ℕ) (brought : List ℕ) → keptOf p (m .input) + length brought ≡ length (m .input) → n ≤ length brought
       → Turn p m next.Fill (take n brought) [] (filledTo p m n brought)
 
