@@ -6,11 +6,11 @@ use borrow.Author.Tests.{lt-ltb, le-ltb}
 
 -- src/pass.rt:103:9
 returns : tie.Need-returns
-returns c = rw (lt-ltb _ _ (c .if1 .taken))
+returns c = rw (lt-ltb 0 (c .before .before .args .pass .filled) (c .if1 .taken))
 
 -- src/pass.rt:99:1
 returns-2 : tie.Need-returns-2
-returns-2 c = rw (le-ltb _ _ (c .if1 .left))
+returns-2 c = rw (le-ltb 0 (c .before .before .args .pass .filled) (c .if1 .left))
 
 pub flush-or-fill-spec : {M : Type 1} → statement M
 flush-or-fill-spec = tie.close (tie.spec returns returns-2)
