@@ -46,7 +46,8 @@ finalOf stage.Broken p m = []
 
 -- ---- the statement
 
--- room for any line: 131,072 bytes and a newline, the bytes of an `rx` line, and any line that is printed; no slice is longer than a machine has bytes
+-- room for any line: 131,072 bytes and a newline, the bytes of an `rx` line, and any line that is printed; no slice is longer than a machine has
+-- bytes
 pub record HasRoom (m : Memory) : Type 0 where
   pub input : 131073 ≤ length (m .input)
   pub input-most : length (m .input) < 2 ^ 63
