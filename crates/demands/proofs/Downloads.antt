@@ -36,8 +36,8 @@ use Rattle.paging.proofs.Growth.{complete-kept}
 use Rattle.demands.specs.Parts.{sessionIn}
 use Rattle.demands.specs.Events.{sentBy, typeOf}
 use Rattle.demands.specs.Demand3.{serverAt, lentAt, filesAt, sentAt}
-use Rattle.demands.specs.Downloads.{toRequest, isRequest, requestOrOther, requestsOnly, sentTo, dataIn, dataTo, endTo, asksIn, asks, Downloading}
-use Rattle.demands.specs.Downloads.{DownloadBrings, DownloadEnds, FromPupilToPupil}
+use Rattle.demands.specs.Downloads.{toRequest, isRequest, requestOrOther, requestsOnly, sentTo, dataIn, dataTo, endTo, asksIn, asks}
+use Rattle.demands.specs.Downloads.{Downloading, DownloadBrings, DownloadEnds, FromPupilToPupil}
 use Rattle.demands.proofs.Checks.{StateFacts, state-facts, linked-below, check-sound, session-through}
 use Rattle.demands.proofs.Others.{others-link}
 use Rattle.demands.proofs.Own.{request-free}
