@@ -13,8 +13,8 @@ use Rattle.demands.specs.Demand3.{Demand3}
 use Rattle.demands.specs.Downloads.{FromPupilToPupil, AskedAndSent}
 
 pub record Demands : Type 1 where
-  -- 1. "Every byte sequence, clock reading and lent buffer gets an answer. The program always ends, asks nothing of its caller beforehand, and refuses
-  -- by a number from the table or closes the link. A refusal leaves the files, the session and the output buffer as that table says."
+  -- 1. "Every byte sequence, clock reading and lent buffer gets an answer. The program always ends, asks nothing of its caller beforehand, and
+  -- refuses by a number from the table or closes the link. A refusal leaves the files, the session and the output buffer as that table says."
   pub every-answer : Demand1
   -- 2. "Every packet written or read, header check, selection, refusal and closing is what FTL0 version 0 .. and our marked house rules define": the
   -- contract of each call is an equation with a definition written from the papers, so no other answer meets it
