@@ -6,3 +6,4 @@ pub mod Reading
 pub mod Refusals
 pub mod Progress
 pub mod Lengths
+pub mod Telling

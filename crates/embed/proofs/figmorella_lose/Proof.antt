@@ -7,15 +7,11 @@ use Rattle.embed.proofs.tell.Reads as tell-reads
 use Rattle.embed.proofs.words.check.Reads as check-reads
 use Rattle.embed.proofs.words.server_at.Reads as server-at-reads
 use Rattle.server.proofs.lose.Reads as lose-reads
-use mathlib.Core.Path.{_≡_, ap, sym, _∙_}
-use mathlib.Core.List.{List}
-use Prim.Native.Nat.{ℕ}
+use mathlib.Core.Path.{sym, _∙_}
 use lib.ListN.{length}
 use Rattle.embed.proofs.Checked.{ready-go}
-use Rattle.embed.specs.Calls.{Told, gone, loseBy, onLose}
-
-gone-told : (t u : Told) (selected held : List ℕ) → t ≡ u → gone t selected held ≡ gone u selected held
-gone-told t u selected held e = ap (λ (x : Told). gone x selected held) e
+use Rattle.embed.specs.Calls.{loseBy, onLose}
+use Rattle.embed.proofs.Telling.{gone-told}
 
 check-requires : tie.Need-check-requires
 check-requires c κs = search needs
