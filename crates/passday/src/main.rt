@@ -1,5 +1,6 @@
 // The script program: reads a script's lines from standard input, runs them against a server of 128 blocks, 32 files, 4 sessions and MAXSEL 50, and
-// prints what it answers. All but reading and writing is done by the crate script.
+// prints what it answers. All but reading and writing is done by the crate script. In whatever pieces the input comes, what the program writes is the
+// sheet of the script that it read (specs/Run.antt, Whole.antt).
 mod pass;
 
 use libc::STDOUT_FILENO;
