@@ -11,6 +11,7 @@ SHAPE = [
     r"`rw`: no occurrence of the path's left endpoint",
     r"`simp`: no equation of the list has an instance in the goal",
     r"has no `[^`]*` that can be named from here",
+    r"projects from a `×` type or a record, but this has type",
 ]
 
 # A fact that the proof stands on does not hold, or can't be shown any more.
@@ -18,7 +19,9 @@ FACT = [
     r"^it is not proved that",
     r"`omega`: the goal does not follow from what it read",
     r"`search`: no proof of",
-    r"the two types (?:first |only )?differ",
+    r"the two (?:types|sides) (?:first |only )?differ",
+    r": expected type `",
+    r"the two types are `",
     r"give a proof of that as the last argument, `(?:rw|simp) L t`",
 ]
 
