@@ -17,7 +17,8 @@ SHAPE = [
 # A fact that the proof stands on does not hold, or can't be shown any more.
 FACT = [
     r"^it is not proved that",
-    r"`omega`: the goal does not follow from what it read",
+    r"`omega`: the (?:goal|part `[^`]*` of the goal) does not follow from what it read",
+    r"`omega` found no proof",
     r"`search`: no proof of",
     r"the two (?:types|sides) (?:first |only )?differ",
     r": expected type `",
