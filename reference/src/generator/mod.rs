@@ -14,7 +14,7 @@ use crate::random::Random;
 use crate::script::{Driver, Line, Unwatched, LINE_MOST};
 use crate::server::{Downlink, Server, Uplink, OUTPUT};
 
-pub use equations::equation;
+pub use equations::{equation, relation};
 pub use pieces::{destination, offset, stray};
 pub use plans::{plan, sound, Plan, Wishes};
 
@@ -357,8 +357,8 @@ impl Author {
     /// Keeps what is meant under the numbers that the sessions were given.
     fn note_plans(&mut self) {
         for (index, session) in self.driver.server.sessions.iter().enumerate() {
-            let Some(session) = session else { continue };
-            if let Uplink::Receiving { place, .. } = session.uplink {
+            let uplink = session.as_ref().map(|session| session.uplink);
+            if let Some(Uplink::Receiving { place, .. }) = uplink {
                 let file = self.driver.server.store.file(place);
                 if let Some(plan) = &self.meant[index] {
                     if plan.announced == file.length {
@@ -741,7 +741,7 @@ impl Author {
     fn select(&mut self, server: &Server) -> Vec<u8> {
         let mut files = Vec::new();
         for (place, file) in server.store.places.iter().enumerate() {
-            if file.as_ref().is_some_and(|file| file.is_complete()) {
+            if matches!(file, Some(file) if file.is_complete()) {
                 files.push(server.store.contents(place));
             }
         }
