@@ -235,7 +235,7 @@ fn keep(folder: &Path, script: &[u8], expected: &[u8], outcome: &Outcome) -> io:
     fs::create_dir_all(folder)?;
     fs::write(folder.join("difference.script"), script)?;
     fs::write(folder.join("difference.expected"), expected)?;
-    let printed = match outcome {
+    let printed: &[u8] = match outcome {
         Outcome::Printed(printed) => printed,
         Outcome::Killed(printed) => {
             println!("the program was ended by a signal");
@@ -243,7 +243,7 @@ fn keep(folder: &Path, script: &[u8], expected: &[u8], outcome: &Outcome) -> io:
         }
         Outcome::Endless => {
             println!("the program did not end");
-            &Vec::new()
+            &[]
         }
     };
     fs::write(folder.join("difference.printed"), printed)?;

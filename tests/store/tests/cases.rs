@@ -316,11 +316,14 @@ fn selections_refused_change_nothing() {
     );
 }
 
+/// What is changed, and the change.
+type Change = (&'static str, fn(&mut Store));
+
 /// Each fact of refusal 35 on the store is broken by one changed word.
 #[test]
 fn one_changed_word_is_not_sound() {
     let good = three_files();
-    let changes: [(&str, fn(&mut Store)); 16] = [
+    let changes: [Change; 16] = [
         ("a held block is marked free", |s| s.map[0] |= 1),
         ("a free block is marked held", |s| s.map[0] &= !(1 << 63)),
         ("a free block of the last word is marked held", |s| {
@@ -367,7 +370,7 @@ fn one_changed_word_is_not_sound() {
 #[test]
 fn other_lengths_are_not_sound() {
     let good = three_files();
-    let changes: [(&str, fn(&mut Store)); 5] = [
+    let changes: [Change; 5] = [
         ("a word of the map more", |s| s.map.push(0)),
         ("a word of the map fewer", |s| {
             s.map.pop();

@@ -74,10 +74,11 @@ impl Servers {
     /// The runs of the servers take turns, so that the machine's load is the same for all.
     pub fn times(&mut self, act: &Act) -> [f64; 3] {
         let mut servers = self.all();
-        let plans = servers
-            .each_mut()
-            .map(|server| Plan::new(act.before.is_none(), |acts| run(*server, act, acts)));
-        let mut times = [const { Vec::new() }; 3];
+        let plans: Vec<Plan> = servers
+            .iter_mut()
+            .map(|server| Plan::new(act.before.is_none(), |acts| run(*server, act, acts)))
+            .collect();
+        let mut times: [Vec<f64>; 3] = Default::default();
         let most = plans.iter().map(|plan| plan.runs).max().unwrap_or(0);
         for turn in 0..most {
             for ((server, plan), times) in servers.iter_mut().zip(&plans).zip(&mut times) {
