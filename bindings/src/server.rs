@@ -10,7 +10,7 @@ pub struct Sizes {
     pub most: usize,
 }
 
-/// What a call answers.
+/// What a call answers, and what a modem is to do: docs/EMBEDDING.md.
 #[derive(Clone, Debug, PartialEq, Eq)]
 pub enum Answer {
     /// So many bytes were taken and nothing is sent.
@@ -19,7 +19,7 @@ pub enum Answer {
     Sent(usize, Vec<u8>),
     /// The link was closed after so many bytes.
     Closed(usize),
-    /// A local refusal.
+    /// The number of a local refusal, 32 to 35. Nothing has changed.
     Refused(u8),
 }
 
@@ -104,7 +104,39 @@ impl Server {
         )[])
     }
 
-    // The calls' numbers, with what they leave in the output and the counts.
+    /// A link is there: the session, numbered from 1, begins, and LOGIN_RESP is sent.
+    pub fn open(&mut self, session: usize, clock: u32) -> Answer {
+        let number = self.open_number(session, clock);
+        self.answer(number)
+    }
+
+    /// Bytes from the link: they are taken up to the end of one packet, or all. Those that are not taken are to be handed in again.
+    pub fn receive(&mut self, session: usize, clock: u32, bytes: &[u8]) -> Answer {
+        let number = self.receive_number(session, clock, bytes);
+        self.answer(number)
+    }
+
+    /// What is due on the downlink: one packet, or nothing.
+    pub fn request(&mut self, session: usize) -> Answer {
+        let number = self.request_number(session);
+        self.answer(number)
+    }
+
+    /// The link is lost or was disconnected by the other side: the session is closed.
+    pub fn lose(&mut self, session: usize) -> Answer {
+        let number = self.lose_number(session);
+        self.answer(number)
+    }
+
+    /// The numbers of free blocks and of all blocks.
+    pub fn free(&mut self) -> Result<(usize, usize), u8> {
+        match call!(figmorella_free[](self: state, map, counts)[]) {
+            0 => Ok((self.counts[0], self.counts[1])),
+            refused => Err(refused),
+        }
+    }
+
+    // The same calls with the number that they answer by; the packet stays in `out`, and nothing is allocated.
 
     pub fn open_number(&mut self, session: usize, clock: u32) -> u8 {
         call!(figmorella_open[](
@@ -128,36 +160,6 @@ impl Server {
         call!(figmorella_lose[](
             self: state, disk, map, owner, table, selected, held, counts
         )[session])
-    }
-
-    // The same as answers.
-
-    pub fn open(&mut self, session: usize, clock: u32) -> Answer {
-        let number = self.open_number(session, clock);
-        self.answer(number)
-    }
-
-    pub fn receive(&mut self, session: usize, clock: u32, bytes: &[u8]) -> Answer {
-        let number = self.receive_number(session, clock, bytes);
-        self.answer(number)
-    }
-
-    pub fn request(&mut self, session: usize) -> Answer {
-        let number = self.request_number(session);
-        self.answer(number)
-    }
-
-    pub fn lose(&mut self, session: usize) -> Answer {
-        let number = self.lose_number(session);
-        self.answer(number)
-    }
-
-    /// The numbers of free blocks and of all blocks.
-    pub fn free(&mut self) -> Result<(usize, usize), u8> {
-        match call!(figmorella_free[](self: state, map, counts)[]) {
-            0 => Ok((self.counts[0], self.counts[1])),
-            refused => Err(refused),
-        }
     }
 
     /// The answer that a call's number and the counts say.
