@@ -225,8 +225,9 @@ impl Coverage {
     }
 
     fn receive(&mut self, answer: &Answer, lent: usize) {
-        let Some(heard) = self.heard.take() else {
-            return;
+        let heard = match self.heard.take() {
+            Some(heard) => heard,
+            None => return,
         };
         if heard.framed != Framed::Open {
             self.count_received(&heard, answer, lent);
@@ -257,8 +258,9 @@ impl Coverage {
     }
 
     fn count_quiet(&mut self, heard: &Heard) {
-        let Framed::Whole { kind, information } = &heard.framed else {
-            return;
+        let (kind, information) = match &heard.framed {
+            Framed::Whole { kind, information } => (kind, information),
+            _ => return,
         };
         match Type::of(*kind) {
             Some(Type::Data) if heard.uplink == Uplink::Ignoring => {
@@ -284,8 +286,9 @@ impl Coverage {
     }
 
     fn count_response(&mut self, heard: &Heard, packet: &Packet) {
-        let Framed::Whole { kind, information } = &heard.framed else {
-            return;
+        let (kind, information) = match &heard.framed {
+            Framed::Whole { kind, information } => (kind, information),
+            _ => return,
         };
         let asked = Type::of(*kind);
         let ground = &heard.ground;
@@ -316,11 +319,13 @@ impl Coverage {
 
 /// The rule by which the link was closed.
 fn closing(heard: &Heard) -> String {
-    let Framed::Whole { kind, information } = &heard.framed else {
-        return "closed, length above 256".to_string();
+    let (kind, information) = match &heard.framed {
+        Framed::Whole { kind, information } => (kind, information),
+        _ => return "closed, length above 256".to_string(),
     };
-    let Some(kind) = Type::of(*kind) else {
-        return "closed, type 18 to 31".to_string();
+    let kind = match Type::of(*kind) {
+        Some(kind) => kind,
+        None => return "closed, type 18 to 31".to_string(),
     };
     let name = kind.name();
     let (uplink, downlink) = (uplink_name(heard.uplink), downlink_name(heard.downlink));
@@ -339,8 +344,9 @@ fn closing(heard: &Heard) -> String {
 
 /// What tells apart the cases of one answer, as far as the packet has some.
 fn ground(server: &Server, session: &Session, framed: &Framed) -> String {
-    let Framed::Whole { kind, information } = framed else {
-        return String::new();
+    let (kind, information) = match framed {
+        Framed::Whole { kind, information } => (kind, information),
+        _ => return String::new(),
     };
     match (Type::of(*kind), session.uplink) {
         (Some(Type::UploadCmd), _) => upload_ground(server, information),
@@ -398,8 +404,9 @@ fn download_ground(server: &Server, session: &Session, information: &[u8]) -> St
         0 => selection.numbers.get(selection.position).copied(),
         given => Some(given),
     };
-    let Some(place) = file_number.and_then(|given| server.store.find(given)) else {
-        return String::new();
+    let place = match file_number.and_then(|given| server.store.find(given)) {
+        Some(place) => place,
+        None => return String::new(),
     };
     let length = server.store.file(place).length;
     match number(&information[4..8]) {
@@ -450,7 +457,7 @@ impl Watch for Coverage {
             }
             Call::Lose(number) => {
                 let downlink = session_of(server, number).map(|session| session.downlink);
-                if downlink.is_some_and(|downlink| downlink != Downlink::Idle) {
+                if downlink.unwrap_or(Downlink::Idle) != Downlink::Idle {
                     self.count("download, lost with its link");
                 }
             }

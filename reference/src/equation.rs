@@ -229,8 +229,9 @@ fn relation(code: u8, bytes: &[u8]) -> Result<(Relation, &[u8]), Fault> {
     let comparison = *Comparison::ALL
         .get(usize::from(code >> 4 & 7))
         .ok_or(Fault::UnknownComparison)?;
-    let [low, high, length, rest @ ..] = bytes else {
-        return Err(Fault::BytesRunOut);
+    let (low, high, length, rest) = match bytes {
+        [low, high, length, rest @ ..] => (low, high, length, rest),
+        _ => return Err(Fault::BytesRunOut),
     };
     let id = u16::from_le_bytes([*low, *high]);
     let length = usize::from(*length);

@@ -68,8 +68,9 @@ enum Step {
 }
 
 fn step(file: &[u8], at: usize) -> Step {
-    let Some(head) = file.get(at..at + ITEM_HEAD) else {
-        return Step::RunsOut;
+    let head = match file.get(at..at + ITEM_HEAD) {
+        Some(head) => head,
+        None => return Step::RunsOut,
     };
     let item = Item {
         id: number(&head[..2]) as u16,
@@ -214,8 +215,9 @@ fn admit(before: &[Item], item: &Item) -> Result<(), Fault> {
     if item.id == 0 {
         return Err(Fault::ZeroIdWithLength);
     }
-    let Some(&(_, length)) = LISTED.iter().find(|(id, _)| *id == item.id) else {
-        return Ok(());
+    let length = match LISTED.iter().find(|(id, _)| *id == item.id) {
+        Some(&(_, length)) => length,
+        None => return Ok(()),
     };
     if item.length != length {
         return Err(Fault::WrongLength);
@@ -247,8 +249,9 @@ fn header_sum(file: &[u8], header: &Header) -> u16 {
 /// The checks at DATA_END, in their order, of the bytes received for a file
 /// of that announced length.
 pub fn check(received: &[u8], announced: u32) -> Result<Header, Fault> {
-    let Some(file) = received.get(..announced as usize) else {
-        return Err(Fault::TooFewBytes);
+    let file = match received.get(..announced as usize) {
+        Some(file) => file,
+        None => return Err(Fault::TooFewBytes),
     };
     if !file.starts_with(&MARK) {
         return Err(Fault::NoMark);

@@ -159,8 +159,9 @@ pub fn write(kind: u8, information: &[u8], output: &mut [u8]) -> Result<usize, u
 /// The plain reader: the packet at the front of the bytes and how many bytes
 /// it is. Bytes after it are not looked at.
 pub fn read(bytes: &[u8]) -> Result<(Packet, usize), u8> {
-    let [first, second, rest @ ..] = bytes else {
-        return Err(OUT_OF_TABLE);
+    let (first, second, rest) = match bytes {
+        [first, second, rest @ ..] => (first, second, rest),
+        _ => return Err(OUT_OF_TABLE),
     };
     let Announced { kind, length } = announced(*first, *second);
     let kind = Type::of(kind).ok_or(OUT_OF_TABLE)?;
@@ -218,8 +219,9 @@ impl Frame {
 
     /// What the bytes held so far amount to.
     fn end(&self) -> Framed {
-        let [first, second, information @ ..] = self.held.as_slice() else {
-            return Framed::Open;
+        let (first, second, information) = match self.held.as_slice() {
+            [first, second, information @ ..] => (first, second, information),
+            _ => return Framed::Open,
         };
         let Announced { kind, length } = announced(*first, *second);
         if length > SERVER_MOST {

@@ -52,14 +52,13 @@ impl Program {
 
 /// A program that ends early does not read all; that is no error.
 fn write_in_pieces(mut input: ChildStdin, script: &[u8], pieces: Option<u64>) {
-    let Some(seed) = pieces else {
-        let _ = input.write_all(script);
-        return;
-    };
-    let mut random = Random::new(seed);
+    let mut random = pieces.map(Random::new);
     let mut rest = script;
     while !rest.is_empty() {
-        let length = random.between(1, rest.len().min(3000));
+        let length = match &mut random {
+            Some(random) => random.between(1, rest.len().min(3000)),
+            None => rest.len(),
+        };
         if input.write_all(&rest[..length]).is_err() {
             return;
         }

@@ -65,7 +65,7 @@ fn decimal(field: &[u8]) -> Option<u32> {
 
 /// Bytes from pairs of lower-case hex digits.
 fn from_hex(field: &[u8]) -> Option<Vec<u8>> {
-    if !field.len().is_multiple_of(2) {
+    if field.len() % 2 != 0 {
         return None;
     }
     field
@@ -251,8 +251,9 @@ impl<W: Watch> Script<W> {
     pub fn feed(&mut self, bytes: &[u8], output: &mut impl Write) -> io::Result<()> {
         let mut rest = bytes;
         while !self.ended {
-            let Some(end) = rest.iter().position(|&byte| byte == b'\n') else {
-                return self.keep(rest, output);
+            let end = match rest.iter().position(|&byte| byte == b'\n') {
+                Some(end) => end,
+                None => return self.keep(rest, output),
             };
             self.keep(&rest[..end], output)?;
             self.line_ends(output)?;

@@ -261,8 +261,9 @@ impl Server {
 
     /// Acts on a whole packet.
     fn hear(&mut self, index: usize, clock: u32, kind: u8, information: &[u8]) -> Reply {
-        let Some(kind) = Type::of(kind) else {
-            return Reply::Close;
+        let kind = match Type::of(kind) {
+            Some(kind) => kind,
+            None => return Reply::Close,
         };
         match kind {
             Type::UploadCmd => self.hear_upload(index, information),
@@ -369,8 +370,9 @@ impl Server {
             return Reply::Close;
         }
         self.session_mut(index).uplink = Uplink::Idle;
-        let Uplink::Receiving { place, .. } = uplink else {
-            return Reply::Quiet;
+        let place = match uplink {
+            Uplink::Receiving { place, .. } => place,
+            _ => return Reply::Quiet,
         };
         match self.store.complete(place, clock) {
             Ok(()) => send(Type::UlAckResp, &[]),
@@ -463,8 +465,9 @@ impl Server {
     }
 
     fn hear_ack(&mut self, index: usize, information: &[u8]) -> Reply {
-        let Downlink::Ended { place } = self.session(index).downlink else {
-            return Reply::Close;
+        let place = match self.session(index).downlink {
+            Downlink::Ended { place } => place,
+            _ => return Reply::Close,
         };
         let end = match information {
             [destination] if usize::from(*destination) <= self.destinations(place) => {

@@ -8,7 +8,7 @@ use crate::script::Line;
 /// lose any single part more.
 fn cut<T: Clone>(parts: Vec<T>, mut holds: impl FnMut(&[T]) -> bool) -> Vec<T> {
     let mut parts = parts;
-    let mut length = parts.len().div_ceil(2);
+    let mut length = (parts.len() + 1) / 2;
     while length > 0 {
         let before = parts.len();
         let mut at = 0;
@@ -88,7 +88,7 @@ fn join_with_next(
     holds: &mut impl FnMut(&[u8]) -> bool,
 ) -> Option<Vec<Vec<u8>>> {
     let (session, mut bytes, _) = rx(&lines[at])?;
-    let of_session = |line: &Vec<u8>| rx(line).is_some_and(|(other, _, _)| other == session);
+    let of_session = |line: &Vec<u8>| matches!(rx(line), Some((other, _, _)) if other == session);
     let next = at + 1 + lines[at + 1..].iter().position(of_session)?;
     let (_, more, ending) = rx(&lines[next])?;
     bytes.extend(more);
@@ -106,8 +106,9 @@ fn join_with_next(
 
 /// Takes packets, then information, then any bytes out of one `rx` line.
 fn shorten_line(lines: &mut Vec<Vec<u8>>, at: usize, holds: &mut impl FnMut(&[u8]) -> bool) {
-    let Some((session, bytes, ending)) = rx(&lines[at]) else {
-        return;
+    let (session, bytes, ending) = match rx(&lines[at]) {
+        Some(parts) => parts,
+        None => return,
     };
     let mut with = |bytes: &[u8]| {
         let mut shorter = lines.clone();
@@ -116,8 +117,9 @@ fn shorten_line(lines: &mut Vec<Vec<u8>>, at: usize, holds: &mut impl FnMut(&[u8
     };
     let mut packets = cut(packets(&bytes), |rest| with(&rest.concat()).is_some());
     for place in 0..packets.len() {
-        let Some(information) = packets[place].get(HEAD..) else {
-            continue;
+        let information = match packets[place].get(HEAD..) {
+            Some(information) => information,
+            None => continue,
         };
         let shortened = |rest: &[u8]| {
             let mut shorter = packets.clone();

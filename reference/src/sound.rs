@@ -64,13 +64,13 @@ impl Server {
     }
 
     fn uplink_sound(&self, session: &Session) -> Sound {
-        let Uplink::Receiving {
-            place,
-            offset,
-            received,
-        } = session.uplink
-        else {
-            return Ok(());
+        let (place, offset, received) = match session.uplink {
+            Uplink::Receiving {
+                place,
+                offset,
+                received,
+            } => (place, offset, received),
+            _ => return Ok(()),
         };
         let file = self.named(place).ok_or("an upload names a file")?;
         fact("an upload's file is partial", !file.is_complete())?;
@@ -120,8 +120,9 @@ impl Server {
 /// An unfinished packet is short of its end.
 fn packet_sound(session: &Session) -> Sound {
     let held = session.frame.held();
-    let [first, second, ..] = held else {
-        return Ok(());
+    let (first, second) = match held {
+        [first, second, ..] => (first, second),
+        _ => return Ok(()),
     };
     let length = announced(*first, *second).length;
     fact(

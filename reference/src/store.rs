@@ -43,7 +43,7 @@ pub struct Store {
 
 /// The blocks that a file of that length takes.
 pub fn blocks_needed(length: u32) -> usize {
-    (length as usize).div_ceil(BLOCK)
+    (length as usize + BLOCK - 1) / BLOCK
 }
 
 /// The next upload time: the clock, or the last one plus 1 if that is larger.
@@ -75,7 +75,7 @@ impl Store {
     pub fn find(&self, number: u32) -> Option<usize> {
         self.places
             .iter()
-            .position(|place| place.as_ref().is_some_and(|file| file.number == number))
+            .position(|place| matches!(place, Some(file) if file.number == number))
     }
 
     /// The file at a place that is known to hold one.
@@ -187,12 +187,15 @@ impl Store {
     pub fn select(&self, equation: &Equation, most: usize) -> Vec<u32> {
         let mut matching: Vec<(u32, u32)> = Vec::new();
         for (place, file) in self.places.iter().enumerate() {
-            let Some(file) = file else { continue };
-            let Some(time) = file.upload_time else {
-                continue;
-            };
-            if equation.holds(&self.contents(place)) {
-                matching.push((time, file.number));
+            if let Some(File {
+                number,
+                upload_time: Some(time),
+                ..
+            }) = file
+            {
+                if equation.holds(&self.contents(place)) {
+                    matching.push((*time, *number));
+                }
             }
         }
         matching.sort_unstable();

@@ -84,8 +84,9 @@ fn continuation(server: &Server, session: u32, plans: &BTreeMap<u32, Plan>) -> V
         }
         _ => (store.last_number, 0, false),
     };
-    let Some(plan) = plans.get(&number) else {
-        return Vec::new();
+    let plan = match plans.get(&number) {
+        Some(plan) => plan,
+        None => return Vec::new(),
     };
     let information = [number.to_le_bytes(), plan.announced.to_le_bytes()].concat();
     let command = Packet::new(Type::UploadCmd, &information).bytes();
@@ -176,12 +177,13 @@ impl Cutting {
         let mut lines = Vec::new();
         let mut may_join = false;
         for form in &self.forms {
-            let Form::Cuttable(next) = form else {
-                if let Form::Fixed(line) = form {
+            let next = match form {
+                Form::Cuttable(next) => next,
+                Form::Fixed(line) => {
                     lines.push(line.clone());
+                    may_join = false;
+                    continue;
                 }
-                may_join = false;
-                continue;
             };
             match lines.last_mut() {
                 Some(Line::Rx(session, bytes))

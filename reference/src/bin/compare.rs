@@ -102,7 +102,7 @@ impl Comparison {
     /// Whether the program prints what is expected. A program must not mind
     /// how its input arrives, so some runs get it in pieces.
     fn agrees(&mut self, script: &[u8], expected: &[u8]) -> io::Result<bool> {
-        let pieces = self.runs.is_multiple_of(4).then_some(self.runs);
+        let pieces = (self.runs % 4 == 0).then_some(self.runs);
         self.runs += 1;
         Ok(is_printed(&self.program.run(script, pieces)?, expected))
     }
@@ -114,9 +114,10 @@ impl Comparison {
     }
 
     fn time_is_up(&self) -> bool {
-        self.options
-            .seconds
-            .is_some_and(|seconds| self.started.elapsed() >= Duration::from_secs(seconds))
+        match self.options.seconds {
+            Some(seconds) => self.started.elapsed() >= Duration::from_secs(seconds),
+            None => false,
+        }
     }
 
     /// Goes through the scripts up to the first difference.
@@ -234,7 +235,7 @@ fn keep(folder: &Path, script: &[u8], expected: &[u8], outcome: &Outcome) -> io:
     fs::create_dir_all(folder)?;
     fs::write(folder.join("difference.script"), script)?;
     fs::write(folder.join("difference.expected"), expected)?;
-    let printed = match outcome {
+    let printed: &[u8] = match outcome {
         Outcome::Printed(printed) => printed,
         Outcome::Killed(printed) => {
             println!("the program was ended by a signal");
@@ -242,7 +243,7 @@ fn keep(folder: &Path, script: &[u8], expected: &[u8], outcome: &Outcome) -> io:
         }
         Outcome::Endless => {
             println!("the program did not end");
-            &Vec::new()
+            &[]
         }
     };
     fs::write(folder.join("difference.printed"), printed)?;
@@ -293,9 +294,12 @@ fn compare(options: Options) -> io::Result<bool> {
 
 fn main() -> ExitCode {
     let arguments: Vec<String> = std::env::args().skip(1).collect();
-    let Some(options) = Options::read(&arguments) else {
-        eprintln!("{USAGE}");
-        return ExitCode::from(2);
+    let options = match Options::read(&arguments) {
+        Some(options) => options,
+        None => {
+            eprintln!("{USAGE}");
+            return ExitCode::from(2);
+        }
     };
     match compare(options) {
         Ok(true) => ExitCode::SUCCESS,

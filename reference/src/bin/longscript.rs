@@ -98,21 +98,30 @@ fn print(bytes: usize, lines: Lines) -> io::Result<()> {
         let file = Draft::new().with_body(&[65; 2000]).bytes();
         output.write_all(text_of(&upload(&file)).as_bytes())?;
     }
-    for _ in 0..bytes.div_ceil(text.len()) {
+    let mut printed = 0;
+    while printed < bytes {
         output.write_all(text.as_bytes())?;
+        printed += text.len();
     }
     output.flush()
 }
 
+/// The bytes to print and the lines that they stand in.
+fn asked(arguments: &[String]) -> Option<(usize, Lines)> {
+    match arguments {
+        [bytes, word] => Some((bytes.parse().ok()?, Lines::of(word)?)),
+        _ => None,
+    }
+}
+
 fn main() -> ExitCode {
     let arguments: Vec<String> = std::env::args().skip(1).collect();
-    let [bytes, word] = arguments.as_slice() else {
-        eprintln!("{USAGE}");
-        return ExitCode::from(2);
-    };
-    let (Ok(bytes), Some(lines)) = (bytes.parse(), Lines::of(word)) else {
-        eprintln!("{USAGE}");
-        return ExitCode::from(2);
+    let (bytes, lines) = match asked(&arguments) {
+        Some(asked) => asked,
+        None => {
+            eprintln!("{USAGE}");
+            return ExitCode::from(2);
+        }
     };
     match print(bytes, lines) {
         Ok(()) => ExitCode::SUCCESS,

@@ -24,17 +24,24 @@ fn write_scripts(seed: u64, count: u64, folder: &Path) -> io::Result<()> {
     output.flush()
 }
 
+/// The seed, how many scripts, and the folder for them.
+fn asked(arguments: &[String]) -> Option<(u64, u64, &Path)> {
+    match arguments {
+        [seed, count, folder] => Some((seed.parse().ok()?, count.parse().ok()?, Path::new(folder))),
+        _ => None,
+    }
+}
+
 fn main() -> ExitCode {
     let arguments: Vec<String> = std::env::args().skip(1).collect();
-    let [seed, count, folder] = arguments.as_slice() else {
-        eprintln!("{USAGE}");
-        return ExitCode::from(2);
+    let (seed, count, folder) = match asked(&arguments) {
+        Some(asked) => asked,
+        None => {
+            eprintln!("{USAGE}");
+            return ExitCode::from(2);
+        }
     };
-    let (Ok(seed), Ok(count)) = (seed.parse(), count.parse()) else {
-        eprintln!("{USAGE}");
-        return ExitCode::from(2);
-    };
-    match write_scripts(seed, count, Path::new(folder)) {
+    match write_scripts(seed, count, folder) {
         Ok(()) => ExitCode::SUCCESS,
         Err(error) if error.kind() == io::ErrorKind::BrokenPipe => ExitCode::SUCCESS,
         Err(error) => {

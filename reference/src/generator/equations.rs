@@ -19,7 +19,8 @@ pub fn equation(random: &mut Random, files: &[Vec<u8>]) -> Vec<u8> {
     }
 }
 
-fn relation(code: u8, id: u16, constant: &[u8]) -> Vec<u8> {
+/// The bytes of a relation.
+pub fn relation(code: u8, id: u16, constant: &[u8]) -> Vec<u8> {
     let mut bytes = vec![code];
     bytes.extend(id.to_le_bytes());
     bytes.push(constant.len() as u8);

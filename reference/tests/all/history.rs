@@ -159,14 +159,15 @@ impl Driver {
     }
 
     fn uplink_packet(&mut self, index: usize) -> Vec<u8> {
-        let uplink = self.desk.server.sessions[index].as_ref().unwrap().uplink;
-        let Uplink::Receiving { place, .. } = uplink else {
-            return match uplink {
-                Uplink::Ignoring if self.random.chance(1, 2) => packet(Type::Data, &[1]),
-                Uplink::Ignoring => data_end(),
-                _ => self.upload_packet(),
-            };
-        };
+        match self.desk.server.sessions[index].as_ref().unwrap().uplink {
+            Uplink::Receiving { place, .. } => self.next_data(place),
+            Uplink::Ignoring if self.random.chance(1, 2) => packet(Type::Data, &[1]),
+            Uplink::Ignoring => data_end(),
+            Uplink::Idle => self.upload_packet(),
+        }
+    }
+
+    fn next_data(&mut self, place: usize) -> Vec<u8> {
         let file = self.desk.server.store.file(place).clone();
         let plan = self.plans.get(&file.number).cloned().unwrap_or_default();
         let from = (file.received as usize).min(plan.len());

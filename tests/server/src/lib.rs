@@ -1,11 +1,7 @@
-//! The proved server run from Rust (`proved`) beside the second program of reference/ (`pair`): each call is made on both, and their answers,
+//! The proved server of `bindings` (`proved`) beside the second program of reference/ (`pair`): each call is made on both, and their answers,
 //! packets and states are compared. `author` makes calls at random that mostly mean something, `history` runs and shortens them, `pages` is
 //! a client that asks for new files page by page. For refusal 35, `oracle` says which facts a memory breaks, `sweep` changes every word of a
 //! memory (`states` has those that are tried), and `broken` names changes of several words.
-#[macro_use]
-#[path = "../../lend.rs"]
-mod lend;
-
 pub mod author;
 pub mod broken;
 pub mod call;

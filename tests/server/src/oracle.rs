@@ -222,8 +222,9 @@ pub fn judge(lent: &Proved) -> Judged {
     }
     words(&lent.state, &mut broken);
     let is_state = broken.count == 0;
-    let Some(sizes) = Sizes::of(lent) else {
-        return answer(Some(if is_state { 33 } else { 35 }), broken);
+    let sizes = match Sizes::of(lent) {
+        Some(sizes) => sizes,
+        None => return answer(Some(if is_state { 33 } else { 35 }), broken),
     };
     blocks(lent, sizes, &mut broken);
     let files = Files::of(lent, sizes);
@@ -299,7 +300,7 @@ impl Sizes {
         let (blocks, files) = (size(0, 4096)?, size(1, 256)?);
         let (sessions, maxsel) = (size(2, 4)?, size(3, 50)?);
         let room = 256 * blocks <= lent.disk.len()
-            && blocks.div_ceil(64) <= lent.map.len()
+            && (blocks + 63) / 64 <= lent.map.len()
             && blocks <= lent.owner.len()
             && 4 * files <= lent.table.len()
             && sessions * maxsel <= lent.selected.len()
@@ -323,7 +324,7 @@ fn blocks(lent: &Proved, sizes: Sizes, broken: &mut Broken) {
         broken.unless(owner <= sizes.files, Fact::Owner, 0);
         broken.unless(bit(block) == (owner == 0), Fact::MapBit, 0);
     }
-    for past in sizes.blocks..sizes.blocks.next_multiple_of(64) {
+    for past in sizes.blocks..(sizes.blocks + 63) / 64 * 64 {
         broken.unless(!bit(past), Fact::PastTheEnd, 0);
     }
 }
@@ -397,7 +398,7 @@ impl Files {
                 broken.unless(file.blocks == 0, Fact::FreePlace, 0);
                 continue;
             }
-            let needed = (file.length as usize).div_ceil(256);
+            let needed = (file.length as usize + 255) / 256;
             broken.unless(file.blocks == needed, Fact::Blocks, 0);
             broken.unless(u64::from(file.number) <= last_number, Fact::NumberGiven, 0);
             broken.unless(file.received <= file.length, Fact::Received, 0);
@@ -447,8 +448,9 @@ fn uplink(words: &[u64], files: &Files, index: usize, broken: &mut Broken) {
     if words[0] != 1 {
         return;
     }
-    let Some(file) = files.named(words[1]) else {
-        return broken.unless(false, Fact::UploadFile, index);
+    let file = match files.named(words[1]) {
+        Some(file) => file,
+        None => return broken.unless(false, Fact::UploadFile, index),
     };
     let bytes = low(words[2]) + low(words[3]);
     broken.unless(file.time == 0, Fact::UploadPartial, index);

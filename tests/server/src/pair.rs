@@ -3,7 +3,7 @@ use crate::call::{Act, Call};
 use crate::coverage::Coverage;
 use crate::image::{same_bytes, same_words};
 use crate::oracle::judge;
-use crate::proved::{memory, Answer, Proved};
+use crate::proved::{empty, memory, Answer, Proved};
 use reference::server::{Answer as Second, Server, Sizes};
 
 /// How often the bytes of all blocks are compared, in calls; those that are refused compare them always.
@@ -44,7 +44,7 @@ pub struct Pair {
 
 impl Pair {
     pub fn new(start: Start) -> Pair {
-        let mut proved = Proved::empty(start.sizes, start.longer);
+        let mut proved = empty(start.sizes, start.longer);
         let mut second = Server::new(start.sizes).expect("sizes of the table");
         proved.state[4] = start.last_number.into();
         proved.state[5] = start.last_time.into();
@@ -105,7 +105,7 @@ impl Pair {
         } else if self.proved.counts[2] != 73 {
             return Err("a third count is written".to_string());
         }
-        if refused || self.calls.is_multiple_of(DISK_EVERY) {
+        if refused || self.calls % DISK_EVERY == 0 {
             same_bytes(&self.proved, &self.second)?;
         }
         same_words(&self.proved, &self.second)?;

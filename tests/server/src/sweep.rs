@@ -290,7 +290,7 @@ fn counts_free_blocks(lent: &mut Proved, judged: &Judged) -> bool {
         Err(35) => !is_state,
         Err(number) => is_state && number == 33 && judged.refused == Some(33),
         Ok((free, all)) => {
-            let words = &lent.map[..all.div_ceil(64)];
+            let words = &lent.map[..(all + 63) / 64];
             let ones: u32 = words.iter().map(|word| word.count_ones()).sum();
             is_state && all as u64 == lent.state[0] && free == ones as usize
         }

@@ -28,7 +28,7 @@ fn swept(memories: &[Proved], effort: Effort) -> Tally {
     let mut all = Tally::default();
     let threads = std::thread::available_parallelism().map_or(1, |count| count.get());
     std::thread::scope(|scope| {
-        let share = memories.len().div_ceil(threads);
+        let share = (memories.len() + threads - 1) / threads;
         let started: Vec<_> = (0..threads)
             .map(|thread| {
                 let mine = memories.iter().zip(0..).skip(thread * share).take(share);

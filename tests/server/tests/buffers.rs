@@ -1,11 +1,11 @@
 //! Lent slices that are too short, and sizes outside the table: 33 or 32, and nothing changes.
 use reference::server::Sizes;
 use server::history::run_same;
-use server::proved::{memory, state_words, Answer, Proved};
+use server::proved::{empty, lent, make, memory, state_words, Answer, Proved};
 use server::states::{of_one_case, random_state, start};
 
 fn program() -> Proved {
-    Proved::empty(Sizes::PROGRAM, 0)
+    empty(Sizes::PROGRAM, 0)
 }
 
 type Made = fn(&mut Proved, usize) -> Answer;
@@ -166,11 +166,11 @@ fn a_server_is_not_made_over_short_slices() {
         least,
         largest,
     ] {
-        for (name, mut short) in shortened(&Proved::lent(sizes, 0)) {
+        for (name, mut short) in shortened(&lent(sizes, 0)) {
             // the counts are not lent to this call
             let want = if name == "counts" { 0 } else { 33 };
             let before = short.clone();
-            assert_eq!(short.make(sizes), want, "{name}");
+            assert_eq!(make(&mut short, sizes), want, "{name}");
             assert!(want == 0 || short == before, "{name}");
         }
     }
@@ -219,9 +219,9 @@ fn sizes_outside_the_table_are_33() {
         assert_eq!(memory(wrong, &mut need), 33, "{wrong:?}");
         assert_eq!(need, [7; 7]);
         // the slices are long enough for the largest sizes
-        let mut proved = Proved::lent(sizes(4096, 256, 4, 50), 100);
+        let mut proved = lent(sizes(4096, 256, 4, 50), 100);
         let before = proved.clone();
-        assert_eq!(proved.make(wrong), 33, "{wrong:?}");
+        assert_eq!(make(&mut proved, wrong), 33, "{wrong:?}");
         assert!(proved == before);
     }
 }

@@ -157,8 +157,9 @@ fn a_link_lost_in_a_download() {
         assert_eq!(client.call(Act::Request), Answer::Quiet(0));
     }
     client.send(&download(1, 256, 0));
-    let Answer::Sent(0, packet) = client.call(Act::Request) else {
-        panic!("no DATA");
+    let packet = match client.call(Act::Request) {
+        Answer::Sent(0, packet) => packet,
+        _ => panic!("no DATA"),
     };
     assert_eq!(packet[2..], file[256..512]);
 }

@@ -1,5 +1,17 @@
 //! A plain model of the store (document 01, "Sizes", "Uplink", "Refusals by number"): the files with their bytes, and which blocks are free.
-use crate::{equation, header};
+use reference::equation::Equation;
+use reference::header::{self, Fault};
+
+/// The refusal of a file's items, 0 for none: 7, 14 or 6.
+fn check_items(file: &[u8]) -> u8 {
+    match header::check(file, file.len() as u32) {
+        Ok(_) => 0,
+        // the items are looked at before the values of some of them
+        Err(Fault::WrongBodyOffset | Fault::WrongFileSize) => 0,
+        Err(Fault::WrongHeaderSum | Fault::WrongBodySum) => 0,
+        Err(fault) => fault.number(),
+    }
+}
 
 pub struct File {
     pub number: u32,
@@ -74,7 +86,7 @@ impl Model {
             return Err(3);
         }
         let place = self.files.iter().position(Option::is_none).ok_or(13)?;
-        let needed = (size as usize).div_ceil(256);
+        let needed = (size as usize + 255) / 256;
         if self.free_count() < needed {
             return Err(13);
         }
@@ -120,7 +132,10 @@ impl Model {
     pub fn check(&self, place: usize) -> u8 {
         match self.file(place) {
             Err(refused) => refused,
-            Ok(f) => header::check(&f.bytes, f.size as usize),
+            Ok(f) => match header::check(&f.bytes, f.size) {
+                Err(fault) => fault.number(),
+                Ok(_) => 0,
+            },
         }
     }
 
@@ -128,15 +143,17 @@ impl Model {
     pub fn completes(&self, place: usize) -> u8 {
         match self.file(place) {
             Err(refused) => refused,
-            Ok(f) => header::check_items(&f.bytes),
+            Ok(f) => check_items(&f.bytes),
         }
     }
 
+    /// Completes a file whose items are not refused. The tests complete no other one than a file that `check` accepts.
     pub fn complete(&mut self, place: usize, time: u32) -> u8 {
         let refused = self.completes(place);
         if refused == 0 {
             let f = self.file_mut(place);
-            header::complete(&mut f.bytes, f.number, time);
+            let found = header::check(&f.bytes, f.size).expect("a file that is accepted");
+            header::set_server_fields(&mut f.bytes, &found, f.number, time);
             f.time = time;
             self.latest = self.latest.max(time);
         }
@@ -147,12 +164,12 @@ impl Model {
         if !(1..=50).contains(&most) || selected.len() < most || 256 < eq.len() {
             return Err(33);
         }
-        let equation = equation::parse(eq).ok_or(8)?;
+        let equation = Equation::parse(eq).map_err(|fault| fault.number())?;
         let mut found: Vec<&File> = self
             .files
             .iter()
             .flatten()
-            .filter(|f| f.time != 0 && equation.truth(&f.bytes))
+            .filter(|f| f.time != 0 && equation.holds(&f.bytes))
             .collect();
         found.sort_by_key(|f| f.time);
         found.truncate(most);

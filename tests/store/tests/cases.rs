@@ -1,12 +1,13 @@
 //! Cases chosen by hand: sizes, refusals, fields across blocks, the order of a selection, and states that are not sound.
-use store::equation::{after, relation};
-use store::header::{upload_time_at, Draft};
-use store::random::Random;
-use store::store::Store;
+use bindings::store::Store;
+use reference::draft::Draft;
+use reference::generator::relation;
+use reference::random::Random;
+use store::drafts::{after, put_ahead, upload_time_at};
 
 /// The file of 80 bytes with only the mandatory items.
 fn least_file() -> Vec<u8> {
-    let file = Draft::default().file();
+    let file = Draft::new().bytes();
     assert_eq!(file.len(), 80);
     file
 }
@@ -25,11 +26,7 @@ fn stored(s: &mut Store, last: &mut u32, file: &[u8]) -> usize {
 fn three_files() -> Store {
     let mut s = Store::empty(70, 5);
     let mut last = 0;
-    let d = Draft {
-        body: vec![7; 300],
-        ..Draft::default()
-    };
-    let file = d.file();
+    let file = Draft::new().with_body(&[7; 300]).bytes();
     for time in [10, 20] {
         let place = stored(&mut s, &mut last, &file);
         assert_eq!(s.check(place), 0);
@@ -159,11 +156,7 @@ fn the_checks_give_their_numbers() {
         f[at] = b;
         f
     };
-    let body = Draft {
-        body: vec![1, 2, 3],
-        ..Draft::default()
-    }
-    .file();
+    let body = Draft::new().with_body(&[1, 2, 3]).bytes();
     let mut other_body = body.clone();
     other_body[81] = 9;
     for (file, announced, number) in [
@@ -212,12 +205,9 @@ fn the_least_file_at_clock_0() {
 #[test]
 fn upload_time_across_two_blocks_that_are_no_neighbours() {
     for pad in 170..=184 {
-        let d = Draft {
-            ahead: vec![(0x30, vec![0x11; pad])],
-            body: vec![5; 100],
-            ..Draft::default()
-        };
-        let file = d.file();
+        let mut draft = Draft::new().with_body(&[5; 100]);
+        put_ahead(&mut draft, 0x30, &vec![0x11; pad]);
+        let file = draft.bytes();
         let at = upload_time_at(&file);
         assert_eq!(at, 76 + pad);
         let mut s = Store::empty(65, 3);
@@ -326,11 +316,14 @@ fn selections_refused_change_nothing() {
     );
 }
 
+/// What is changed, and the change.
+type Change = (&'static str, fn(&mut Store));
+
 /// Each fact of refusal 35 on the store is broken by one changed word.
 #[test]
 fn one_changed_word_is_not_sound() {
     let good = three_files();
-    let changes: [(&str, fn(&mut Store)); 16] = [
+    let changes: [Change; 16] = [
         ("a held block is marked free", |s| s.map[0] |= 1),
         ("a free block is marked held", |s| s.map[0] &= !(1 << 63)),
         ("a free block of the last word is marked held", |s| {
@@ -377,7 +370,7 @@ fn one_changed_word_is_not_sound() {
 #[test]
 fn other_lengths_are_not_sound() {
     let good = three_files();
-    let changes: [(&str, fn(&mut Store)); 5] = [
+    let changes: [Change; 5] = [
         ("a word of the map more", |s| s.map.push(0)),
         ("a word of the map fewer", |s| {
             s.map.pop();

@@ -1,10 +1,12 @@
 //! Random operations, call by call beside the model, at all sizes.
+use bindings::store::Store;
+use reference::draft::Draft;
+use reference::generator::relation;
+use reference::header::{FILE_NAME, FILE_TYPE};
+use reference::random::Random;
 use std::collections::BTreeMap;
-use store::equation::{after, relation};
-use store::header::Draft;
+use store::drafts::{after, put_ahead};
 use store::model::Model;
-use store::random::Random;
-use store::store::Store;
 
 /// The store and the model side by side. Each call is made on both, answers are compared, and then every lent slice.
 struct Pair {
@@ -161,36 +163,32 @@ impl Pair {
 
 /// A valid file, or in about a third of all cases one that some check refuses.
 fn some_file(r: &mut Random, most: usize) -> Vec<u8> {
-    let mut d = Draft {
-        file_type: r.below(4) as u8,
-        ..Draft::default()
-    };
-    for b in d.name.iter_mut() {
-        *b = b"abAB*?"[r.below(6)];
-    }
+    let mut d = Draft::new();
+    d.set(FILE_TYPE, &[r.below(4) as u8]);
+    d.set(FILE_NAME, &[0; 8].map(|_: u8| *r.pick(b"abAB*?")));
     let room = most.saturating_sub(80);
     for _ in 0..r.below(3) {
         let n = r.below(40);
         let id = [0x14, 0x22, 0x0122, 0x30][r.below(4)];
-        let item = (id, (0..n).map(|_| b"landLAND"[r.below(8)]).collect());
-        if r.once_in(2) {
-            d.ahead.push(item);
+        let data: Vec<u8> = (0..n).map(|_| b"landLAND"[r.below(8)]).collect();
+        if r.chance(1, 2) {
+            put_ahead(&mut d, id, &data);
         } else {
-            d.behind.push(item);
+            d.items.push((id, data));
         }
     }
-    if r.once_in(16) {
+    if r.chance(1, 16) {
         // a listed item a second time, or behind its place
         let (id, n) = [(0x12, 4), (5, 4), (11, 2)][r.below(3)];
-        d.behind.push((id, vec![0; n]));
+        d.items.push((id, vec![0; n]));
     }
-    let n = if r.once_in(4) {
+    let n = if r.chance(1, 4) {
         r.below(room + 1)
     } else {
         r.below(room.min(900) + 1)
     };
     d.body = r.bytes(n);
-    let mut file = d.file();
+    let mut file = d.bytes();
     match r.below(12) {
         0 => {
             let at = r.below(file.len());
@@ -218,7 +216,7 @@ fn some_equation(r: &mut Random, m: &Model) -> Vec<u8> {
     let mut eq = Vec::new();
     let n = 1 + r.below(4);
     for i in 0..n {
-        let t = (r.next() % (u64::from(m.latest) + 2)) as u32;
+        let t = (r.word() % (u64::from(m.latest) + 2)) as u32;
         let first = [0x80, 0x90, 0xa0, 0xb0, 0xc0, 0xd0][r.below(6)];
         // now and then an order on text, or another code: refused
         let text_code = [0x83, 0x83, 0x83, 0x83, 0xb3, 0xb3, 0xb3, 0x93, 0xa3, 0x84][r.below(10)];
@@ -235,14 +233,14 @@ fn some_equation(r: &mut Random, m: &Model) -> Vec<u8> {
             eq.push(1 + r.below(2) as u8);
         }
     }
-    if r.once_in(2) {
+    if r.chance(1, 2) {
         eq.push(0);
     }
-    if r.once_in(6) {
+    if r.chance(1, 6) {
         let at = r.below(eq.len());
-        eq[at] = r.next() as u8;
+        eq[at] = r.word() as u8;
     }
-    if r.once_in(40) {
+    if r.chance(1, 40) {
         eq.resize(250 + r.below(10), 0);
     }
     eq
@@ -293,7 +291,7 @@ fn one_call(r: &mut Random, p: &mut Pair, sending: &mut [Vec<u8>]) {
                 _ => rest.len().min(256),
             };
             let mut more = rest[..n].to_vec();
-            if r.once_in(12) {
+            if r.chance(1, 12) {
                 more.extend(vec![9; 1 + r.below(300)]);
             }
             p.append(place, &more);
@@ -320,7 +318,7 @@ fn one_call(r: &mut Random, p: &mut Pair, sending: &mut [Vec<u8>]) {
                 .and_then(Option::as_ref)
                 .map_or(0, |f| 256 * f.blocks.len());
             let (at, n) = (r.below(held + 2), r.below(600));
-            let at = if r.once_in(20) {
+            let at = if r.chance(1, 20) {
                 usize::MAX - r.below(2)
             } else {
                 at
@@ -342,7 +340,7 @@ fn calls(
     for _ in 0..steps {
         one_call(&mut r, &mut p, &mut sending);
         // a store that is nearly full is emptied in part
-        if p.model.free_count() == 0 && r.once_in(10) {
+        if p.model.free_count() == 0 && r.chance(1, 10) {
             let place = r.below(files);
             p.discard(place);
         }

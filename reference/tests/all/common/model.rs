@@ -36,8 +36,9 @@ impl Model {
             *uploading = None;
             return;
         }
-        let Framed::Whole { kind, information } = sent else {
-            return;
+        let (kind, information) = match sent {
+            Framed::Whole { kind, information } => (kind, information),
+            _ => return,
         };
         let response = match answer {
             Answer::Sent(_, packet) => Some(packet),
@@ -90,14 +91,15 @@ impl Model {
     pub fn agrees(&self, server: &Server) {
         let mut live = 0;
         for (place, file) in server.store.places.iter().enumerate() {
-            let Some(file) = file else { continue };
-            live += 1;
-            let expected = if file.is_complete() {
-                &self.complete[&file.number]
-            } else {
-                &self.partials[&file.number]
-            };
-            assert_eq!(&server.store.contents(place), expected);
+            if let Some(file) = file {
+                live += 1;
+                let expected = if file.is_complete() {
+                    &self.complete[&file.number]
+                } else {
+                    &self.partials[&file.number]
+                };
+                assert_eq!(&server.store.contents(place), expected);
+            }
         }
         assert_eq!(live, self.complete.len() + self.partials.len());
     }

@@ -162,12 +162,9 @@ impl Author {
 
     /// Takes note of a call's answer.
     pub fn heard(&mut self, call: &Call, answer: &Answer, server: &Server) {
-        let Some(index) = call
-            .session
-            .checked_sub(1)
-            .filter(|index| *index < server.sessions.len())
-        else {
-            return;
+        let index = match call.session.checked_sub(1) {
+            Some(index) if index < server.sessions.len() => index,
+            _ => return,
         };
         if matches!(answer, Answer::Closed(_)) {
             self.outbox[index].clear();
@@ -176,8 +173,9 @@ impl Author {
             self.outbox[index].drain(..taken);
         }
         // what is meant is kept under the number that the session was given
-        let Some(session) = &server.sessions[index] else {
-            return;
+        let session = match &server.sessions[index] {
+            Some(session) => session,
+            None => return,
         };
         if let (Uplink::Receiving { place, .. }, Some(plan)) = (session.uplink, &self.meant[index])
         {

@@ -13,7 +13,7 @@ pub(super) fn map_bit(s: &State) -> Vec<Change> {
 }
 
 pub(super) fn map_past_the_end(s: &State) -> Vec<Change> {
-    let end = s.blocks.div_ceil(64) * 64;
+    let end = (s.blocks + 63) / 64 * 64;
     each((s.blocks..end).map(|block| s.turned(block)))
 }
 
@@ -36,8 +36,9 @@ pub(super) fn file_without_number(s: &State) -> Vec<Change> {
 }
 
 pub(super) fn block_without_file(s: &State) -> Vec<Change> {
-    let Some(free) = s.with(|file| file.number == 0).pop() else {
-        return Vec::new();
+    let free = match s.with(|file| file.number == 0).pop() {
+        Some(free) => free,
+        None => return Vec::new(),
     };
     let blocks = (0..s.blocks).filter(|&block| s.is_free(block));
     blocks
@@ -66,7 +67,7 @@ pub(super) fn received_beyond(s: &State) -> Vec<Change> {
 /// A partial's length, so that the bytes received stay within it.
 pub(super) fn size_of_other_blocks(s: &State) -> Vec<Change> {
     let other = |file: &Record| {
-        let longer = file.size.div_ceil(256) * 256 + 1;
+        let longer = (file.size + 255) / 256 * 256 + 1;
         [longer, u32::MAX].map(|size| Word::table(file.word(1), size))
     };
     each(s.partial().iter().flat_map(other))

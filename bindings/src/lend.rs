@@ -1,4 +1,4 @@
-//! Calls of proved functions from Rust, for tests/server and tests/store, which both take this file in.
+//! Calls of proved functions on slices that a struct holds.
 
 /// Calls a function with the values before the slices, the slices as pointers and lengths, and the values after them. With `&` nothing is written.
 macro_rules! call {

@@ -1,12 +1,8 @@
 //! Times of the store's calls at three sizes: medians over many runs, and the ratios between the sizes. Nothing is asserted on times.
-#[path = "../../../clock.rs"]
-mod clock;
-
+use bindings::store::Store;
 use clock::measured;
-use std::hint::black_box;
-use store::equation::after;
-use store::header::Draft;
-use store::store::Store;
+use reference::draft::Draft;
+use store::drafts::after;
 
 const SIZES: [(usize, usize); 3] = [(128, 32), (1024, 128), (4096, 256)];
 
@@ -16,11 +12,8 @@ fn nearly_full(blocks: usize, files: usize) -> Store {
     let (many, left) = (files - 1, blocks - 1);
     for i in 0..many {
         let n = left * (i + 1) / many - left * i / many;
-        let d = Draft {
-            body: vec![i as u8; 256 * n - 80],
-            ..Draft::default()
-        };
-        let file = d.file();
+        let body = vec![i as u8; 256 * n - 80];
+        let file = Draft::new().with_body(&body).bytes();
         let place = s.begin(i as u32, file.len() as u32).expect("room");
         for part in file.chunks(256) {
             assert_eq!(s.append(place, part), 0);
@@ -38,12 +31,12 @@ fn parts_of_sound(blocks: usize, files: usize) -> (f64, f64) {
     let mut one_file = Store::empty(blocks, 1);
     assert_eq!(one_file.begin(0, 256 * blocks as u32), Ok(0));
     let over_blocks = measured(|| {
-        assert_eq!(black_box(&one_file).sound(1, 0), 1);
+        assert_eq!(one_file.sound(1, 0), 1);
     });
     let mut one_block = Store::empty(1, files);
     one_block.table = (1..=files as u32).flat_map(|n| [n, 0, 0, n]).collect();
     let over_files = measured(|| {
-        assert_eq!(black_box(&one_block).sound(files as u32, files as u32), 1);
+        assert_eq!(one_block.sound(files as u32, files as u32), 1);
     });
     (over_blocks, over_files)
 }
@@ -54,7 +47,7 @@ fn measure(blocks: usize, files: usize) -> Vec<Measured> {
     let mut s = nearly_full(blocks, files);
     let many = files as u32 - 1;
     let sound = measured(|| {
-        assert_eq!(black_box(&s).sound(many, many), 1);
+        assert_eq!(s.sound(many, many), 1);
     });
     let (over_blocks, over_files) = parts_of_sound(blocks, files);
     let reserve = measured(|| {
@@ -62,29 +55,22 @@ fn measure(blocks: usize, files: usize) -> Vec<Measured> {
         assert_eq!(s.discard(place), 0);
     });
     // a file of one block, the last one
-    let file = Draft {
-        body: vec![3; 176],
-        ..Draft::default()
-    }
-    .file();
+    let file = Draft::new().with_body(&[3; 176]).bytes();
     let place = s.begin(many, 256).expect("room");
     let append = measured(|| {
         s.table[4 * place + 2] = 0;
-        assert_eq!(s.append(place, black_box(&file)), 0);
+        assert_eq!(s.append(place, &file), 0);
     });
     let check = measured(|| {
-        assert_eq!(black_box(&s).check(place), 0);
+        assert_eq!(s.check(place), 0);
     });
     let mut selected = [0; 50];
     let none = measured(|| {
-        assert_eq!(
-            black_box(&s).select(&after(u32::MAX), &mut selected, 50),
-            Ok(0)
-        );
+        assert_eq!(s.select(&after(u32::MAX), &mut selected, 50), Ok(0));
     });
     let first = measured(|| {
         assert_eq!(
-            black_box(&s).select(&after(0), &mut selected, 50),
+            s.select(&after(0), &mut selected, 50),
             Ok(50.min(files - 1))
         );
     });

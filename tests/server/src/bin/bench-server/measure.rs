@@ -1,9 +1,8 @@
 //! Times of acts on the three servers.
-use crate::clock::{measured, median, timed, Plan};
 use crate::servers::{Calls, Second};
+use clock::{measured, median, opaque, timed, Plan};
 use reference::server::Sizes;
-use server::proved::Proved;
-use std::hint::black_box;
+use server::proved::{self, Proved};
 
 type OnServer<'a> = &'a dyn Fn(&mut dyn Calls);
 
@@ -50,15 +49,15 @@ fn run(server: &mut dyn Calls, act: &Act, acts: usize) -> f64 {
 fn copied(bytes: usize) -> f64 {
     let (from, mut to) = (vec![7; bytes], vec![0; bytes]);
     measured(|| {
-        to.copy_from_slice(black_box(&from));
-        black_box(&mut to);
+        to.copy_from_slice(opaque(&from));
+        opaque(&mut to);
     })
 }
 
 impl Servers {
     pub fn new(sizes: Sizes) -> Servers {
         Servers {
-            proved: Proved::empty(sizes, 0),
+            proved: proved::empty(sizes, 0),
             second: Second::new(sizes, false),
             checked: Second::new(sizes, true),
         }
@@ -75,10 +74,11 @@ impl Servers {
     /// The runs of the servers take turns, so that the machine's load is the same for all.
     pub fn times(&mut self, act: &Act) -> [f64; 3] {
         let mut servers = self.all();
-        let plans = servers
-            .each_mut()
-            .map(|server| Plan::new(act.before.is_none(), |acts| run(*server, act, acts)));
-        let mut times = [const { Vec::new() }; 3];
+        let plans: Vec<Plan> = servers
+            .iter_mut()
+            .map(|server| Plan::new(act.before.is_none(), |acts| run(*server, act, acts)))
+            .collect();
+        let mut times: [Vec<f64>; 3] = Default::default();
         let most = plans.iter().map(|plan| plan.runs).max().unwrap_or(0);
         for turn in 0..most {
             for ((server, plan), times) in servers.iter_mut().zip(&plans).zip(&mut times) {
@@ -98,7 +98,7 @@ impl Servers {
             bytes: None,
             before: None,
             act: &|server| {
-                black_box(server.receive(1, black_box(&[])));
+                opaque(server.receive(1, opaque(&[])));
             },
         };
         self.row(&act, None)

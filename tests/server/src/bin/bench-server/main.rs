@@ -1,16 +1,14 @@
 //! The cost of the proved server's calls beside the second program's, without and with the test of the facts of refusal 35 at each call, and
 //! beside copying the bytes. All times are medians; nothing is asserted on them.
-#[path = "../../../../clock.rs"]
-mod clock;
 mod measure;
 mod servers;
 
+use clock::opaque;
 use measure::{Act, Row, Servers};
 use reference::draft::Draft;
 use reference::server::Sizes;
 use server::packets::{ack, data, data_end, download, select, upload, whole_upload};
 use servers::Calls;
-use std::hint::black_box;
 
 /// Blocks and files: the program's, more blocks, and more files too.
 const SIZES: [(usize, usize); 3] = [(128, 32), (4096, 32), (4096, 256)];
@@ -19,7 +17,7 @@ const RELATIONS: usize = 51;
 
 /// Hands over one packet, or less.
 fn feed(server: &mut dyn Calls, session: usize, bytes: &[u8]) {
-    assert_eq!(server.receive(session, black_box(bytes)), bytes.len());
+    assert_eq!(server.receive(session, opaque(bytes)), bytes.len());
 }
 
 /// A file with so many bytes.
@@ -168,7 +166,7 @@ fn transferring(sizes: Sizes) -> Vec<Row> {
         act: &|server| {
             feed(server, 1, &download(1, 0, 0));
             while server.request(1) {
-                black_box(server.output());
+                opaque(server.output());
             }
             feed(server, 1, &ack(0));
         },

@@ -1,6 +1,6 @@
 //! The servers that are measured, behind the same calls.
 use reference::server::{Answer, Server, Sizes, Uplink, OUTPUT};
-use server::proved::Proved;
+use server::proved::{make, Proved};
 
 const CLOCK: u32 = 5;
 
@@ -21,13 +21,13 @@ pub trait Calls {
 impl Calls for Proved {
     fn empty(&mut self) {
         let [blocks, files, sessions, maxsel] = [0, 1, 2, 3].map(|at| self.state[at] as usize);
-        let made = self.make(Sizes {
+        let sizes = Sizes {
             blocks,
             files,
             sessions,
             maxsel,
-        });
-        assert_eq!(made, 0);
+        };
+        assert_eq!(make(self, sizes), 0);
     }
 
     fn open(&mut self, session: usize) {

@@ -1,91 +1,5 @@
-//! The calls of the proved store. A slice passes as a pointer and a length. Nothing checks these declarations against `crates/probe/src/lib.rt`.
-
-extern "C" {
-    fn store_make(map: *mut u64, words: usize, owner: *mut u16, blocks: usize) -> u8;
-    fn store_free(map: *const u64, words: usize) -> usize;
-    fn store_read(
-        disk: *const u8,
-        bytes: usize,
-        owner: *const u16,
-        blocks: usize,
-        place: u16,
-        at: usize,
-        out: *mut u8,
-        n: usize,
-    ) -> u8;
-    fn store_begin(
-        map: *mut u64,
-        words: usize,
-        owner: *mut u16,
-        blocks: usize,
-        table: *mut u32,
-        cells: usize,
-        last: u32,
-        size: u32,
-    ) -> u32;
-    fn store_append(
-        disk: *mut u8,
-        bytes: usize,
-        owner: *const u16,
-        blocks: usize,
-        table: *mut u32,
-        cells: usize,
-        place: usize,
-        more: *const u8,
-        n: usize,
-    ) -> u8;
-    fn store_discard(
-        map: *mut u64,
-        words: usize,
-        owner: *mut u16,
-        blocks: usize,
-        table: *mut u32,
-        cells: usize,
-        place: usize,
-    ) -> u8;
-    fn store_check(
-        disk: *const u8,
-        bytes: usize,
-        owner: *const u16,
-        blocks: usize,
-        table: *const u32,
-        cells: usize,
-        place: usize,
-    ) -> u8;
-    fn store_complete(
-        disk: *mut u8,
-        bytes: usize,
-        owner: *const u16,
-        blocks: usize,
-        table: *mut u32,
-        cells: usize,
-        place: usize,
-        time: u32,
-    ) -> u8;
-    fn store_select(
-        eq: *const u8,
-        n: usize,
-        disk: *const u8,
-        bytes: usize,
-        owner: *const u16,
-        blocks: usize,
-        table: *const u32,
-        cells: usize,
-        selected: *mut u32,
-        room: usize,
-        most: usize,
-    ) -> u32;
-    fn store_sound(
-        map: *const u64,
-        words: usize,
-        owner: *const u16,
-        blocks: usize,
-        table: *const u32,
-        cells: usize,
-        last: u32,
-        latest: u32,
-    ) -> u8;
-}
+//! The proved store. Its memory stands in one struct, so that no pointer is given with another's length; every call is safe.
+use crate::probe::*;
 
 /// The slices that a caller lends. The calls take any of any lengths, so every function here is safe.
 #[derive(Clone, PartialEq, Eq, Debug)]
@@ -110,7 +24,7 @@ impl Store {
     /// Slices for so many blocks and files with arbitrary contents, the table with no file.
     pub fn lent(blocks: usize, files: usize) -> Store {
         Store {
-            map: vec![0x5555_5555_5555_5555; blocks.div_ceil(64)],
+            map: vec![0x5555_5555_5555_5555; (blocks + 63) / 64],
             owner: vec![0x7777; blocks],
             disk: (0..256 * blocks).map(|i| (i * 7 + i / 256) as u8).collect(),
             table: vec![0; 4 * files],

@@ -1,4 +1,4 @@
-//! Times for the measurements of tests/server and tests/store, which both take this file in.
+//! Times for the measurements of the proved server and the proved store: only the time that the thread itself runs counts.
 
 /// As C's `struct timespec` is on Linux for x86-64.
 #[repr(C)]
@@ -63,4 +63,13 @@ pub fn measured(mut act: impl FnMut()) -> f64 {
     let mut once = |acts| timed(acts, &mut act);
     let plan = Plan::new(true, &mut once);
     median((0..plan.runs).map(|_| once(plan.acts)).collect())
+}
+
+/// The value, of which the compiler then knows nothing, so that it leaves out no work on it. (Rust 1.63 has no `std::hint::black_box`.)
+pub fn opaque<T>(mut value: T) -> T {
+    // no instruction, but one that could read and write the value
+    unsafe {
+        std::arch::asm!("/* {0} */", in(reg) &mut value, options(nostack, preserves_flags));
+    }
+    value
 }
