@@ -1,3 +1,4 @@
+use mathlib.Core.Path.{refl}
 use Rattle.carry.specs.Carry.{carryOut, onFrees, onWrites, onMoves, onChooses}
 use borrow.Author.Needs.{needs}
 use Rattle.carry.proofs.carry_out.Statement.{statement}
@@ -102,7 +103,7 @@ downlink-only-requires-2 : tie.Need-downlink-only-requires-2
 downlink-only-requires-2 c κs = search needs
 
 same-length : tie.Need-same-length
-same-length c = search needs
+same-length c = c .before .selected .given
 
 returns : tie.Need-returns
 unfolding carryOut onChooses
@@ -117,13 +118,13 @@ unfolding carryOut
 returns-3 c = rw (c .before .before .what .given .1, c .reply-only2 .ensures)
 
 same-length-2 : tie.Need-same-length-2
-same-length-2 c = search needs
+same-length-2 c = c .before .before .before .before .before .map .given
 
 same-length-3 : tie.Need-same-length-3
-same-length-3 c = search needs
+same-length-3 c = c .before .before .before .owner .given
 
 same-length-4 : tie.Need-same-length-4
-same-length-4 c = search needs
+same-length-4 c = c .before .table .given
 
 returns-4 : tie.Need-returns-4
 unfolding carryOut onFrees
@@ -134,26 +135,26 @@ unfolding carryOut
 returns-5 c = rw (c .before .before .what3 .given .1, c .resume .ensures)
 
 same-length-5 : tie.Need-same-length-5
-same-length-5 c = search needs
+same-length-5 c = c .before .before .before .disk .given
 
 same-length-6 : tie.Need-same-length-6
-same-length-6 c = search needs
+same-length-6 c = refl
 
 same-length-7 : tie.Need-same-length-7
-same-length-7 c = search needs
+same-length-7 c = c .before .table2 .given
 
 returns-6 : tie.Need-returns-6
 unfolding carryOut onWrites
 returns-6 c = rw (c .before .before .before .before .before .before .before .before .before .what4 .given .1, ← c .before .before .before .before .store .ensures)
 
 same-length-8 : tie.Need-same-length-8
-same-length-8 c = search needs
+same-length-8 c = c .before .before .before .before .before .map2 .given
 
 same-length-9 : tie.Need-same-length-9
-same-length-9 c = search needs
+same-length-9 c = c .before .before .before .owner2 .given
 
 same-length-10 : tie.Need-same-length-10
-same-length-10 c = search needs
+same-length-10 c = c .before .table3 .given
 
 returns-7 : tie.Need-returns-7
 unfolding carryOut onFrees
@@ -164,58 +165,58 @@ unfolding carryOut
 returns-8 c = rw (c .before .enum-told3 .given .1, c .uplink-only .ensures)
 
 same-length-11 : tie.Need-same-length-11
-same-length-11 c = search needs
+same-length-11 c = c .before .before .before .before .before .before .before .disk2 .given
 
 same-length-12 : tie.Need-same-length-12
-same-length-12 c = search needs
+same-length-12 c = c .before .before .before .before .before .map3 .given
 
 same-length-13 : tie.Need-same-length-13
-same-length-13 c = search needs
+same-length-13 c = c .before .before .before .owner3 .given
 
 same-length-14 : tie.Need-same-length-14
-same-length-14 c = search needs
+same-length-14 c = c .before .table4 .given
 
 returns-9 : tie.Need-returns-9
 unfolding carryOut onMoves
 returns-9 c = rw (c .before .before .before .before .before .before .before .before .before .before .before .before .before .before .what6 .given .1, ← c .before .before .before .before .before .before .before .before .finish .ensures)
 
 same-length-15 : tie.Need-same-length-15
-same-length-15 c = search needs
+same-length-15 c = refl
 
 same-length-16 : tie.Need-same-length-16
-same-length-16 c = search needs
+same-length-16 c = refl
 
 same-length-17 : tie.Need-same-length-17
-same-length-17 c = search needs
+same-length-17 c = refl
 
 same-length-18 : tie.Need-same-length-18
-same-length-18 c = search needs
+same-length-18 c = c .before .selected2 .given
 
 returns-10 : tie.Need-returns-10
 unfolding carryOut onChooses
 returns-10 c = rw (c .before .before .before .before .before .before .before .enum-told4 .given .1, ← c .before .before .select .ensures)
 
 same-length-19 : tie.Need-same-length-19
-same-length-19 c = search needs
+same-length-19 c = refl
 
 same-length-20 : tie.Need-same-length-20
-same-length-20 c = search needs
+same-length-20 c = refl
 
 same-length-21 : tie.Need-same-length-21
-same-length-21 c = search needs
+same-length-21 c = refl
 
 returns-11 : tie.Need-returns-11
 unfolding carryOut
 returns-11 c = rw (c .before .before .before .before .before .what7 .given .1, c .begin2 .ensures)
 
 same-length-22 : tie.Need-same-length-22
-same-length-22 c = search needs
+same-length-22 c = refl
 
 same-length-23 : tie.Need-same-length-23
-same-length-23 c = search needs
+same-length-23 c = refl
 
 same-length-24 : tie.Need-same-length-24
-same-length-24 c = search needs
+same-length-24 c = refl
 
 returns-12 : tie.Need-returns-12
 unfolding carryOut

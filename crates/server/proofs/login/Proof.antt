@@ -16,7 +16,7 @@ on-login-requires : tie.Need-on-login-requires
 on-login-requires c κs = λ i e. go-index _ _ _ _ _ _ _ _ _ (check-go _ _ _ _ _ _ _ _ _ _ _ (sym (c .before .checked .ensures) ∙ e))
 
 same-length : tie.Need-same-length
-same-length c = search needs
+same-length c = c .before .out .given
 
 returns : tie.Need-returns
 unfolding loginOf

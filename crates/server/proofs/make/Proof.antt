@@ -20,19 +20,19 @@ empty-requires : tie.Need-empty-requires
 empty-requires c κs = let t = both-true _ _ (rw (c .before .before .before .before .before .before .before .new-server .ensures) at (sym (c .before .before .before .before .before .before .fits-all .ensures) ∙ c .before .before .before .before .before .if1 .taken)) in let s = sizes-true _ _ _ _ (t .0) in let r = room-true _ _ _ _ _ _ _ _ _ _ (t .1) in record { small = (s .blocks, s .files, s .sessions, s .most); maps = r .map; owners = r .owner; records = r .table; selections = r .selected; packets = r .held }
 
 same-length : tie.Need-same-length
-same-length c = search needs
+same-length c = c .before .before .before .before .before .before .before .before .before .map .given
 
 same-length-2 : tie.Need-same-length-2
-same-length-2 c = search needs
+same-length-2 c = c .before .before .before .before .before .before .before .owner .given
 
 same-length-3 : tie.Need-same-length-3
-same-length-3 c = search needs
+same-length-3 c = c .before .before .before .before .before .table .given
 
 same-length-4 : tie.Need-same-length-4
-same-length-4 c = search needs
+same-length-4 c = c .before .before .before .selected .given
 
 same-length-5 : tie.Need-same-length-5
-same-length-5 c = search needs
+same-length-5 c = c .before .held .given
 
 returns : tie.Need-returns
 unfolding makeOf

@@ -18,7 +18,7 @@ reply-only-requires : tie.Need-reply-only-requires
 reply-only-requires c κs = search needs
 
 same-length : tie.Need-same-length
-same-length c = search needs
+same-length c = c .before .before .before .selected .given
 
 returns : tie.Need-returns
 unfolding closeTurn

@@ -14,13 +14,13 @@ uplink-only-requires : tie.Need-uplink-only-requires
 uplink-only-requires c κs = search needs
 
 same-length : tie.Need-same-length
-same-length c = search needs
+same-length c = c .before .before .before .before .before .before .map .given
 
 same-length-2 : tie.Need-same-length-2
-same-length-2 c = search needs
+same-length-2 c = c .before .before .before .before .owner .given
 
 same-length-3 : tie.Need-same-length-3
-same-length-3 c = search needs
+same-length-3 c = c .before .before .table .given
 
 returns : tie.Need-returns
 unfolding discardTurn

@@ -1,3 +1,4 @@
+use mathlib.Core.Path.{refl}
 use Rattle.carry.specs.Upload.{finishAs, withDisk, withBlocks}
 use borrow.Author.Needs.{needs}
 use Rattle.carry.proofs.upload.finish.Statement.{statement}
@@ -24,29 +25,29 @@ accept-requires : tie.Need-accept-requires
 accept-requires c κs = search needs
 
 same-length : tie.Need-same-length
-same-length c = search needs
+same-length c = refl
 
 same-length-2 : tie.Need-same-length-2
-same-length-2 c = search needs
+same-length-2 c = c .before .before .before .before .before .map .given
 
 same-length-3 : tie.Need-same-length-3
-same-length-3 c = search needs
+same-length-3 c = c .before .before .before .owner .given
 
 same-length-4 : tie.Need-same-length-4
-same-length-4 c = search needs
+same-length-4 c = c .before .table .given
 
 returns : tie.Need-returns
 unfolding finishAs withDisk
 returns c = rw (← c .before .before .before .before .before .before .before .before .before .before .before .before .before .judge .ensures, c .before .before .before .before .before .before .before .before .before .before .before .judged .given .1, ← c .before .before .before .before .before .before .discard .ensures)
 
 same-length-5 : tie.Need-same-length-5
-same-length-5 c = search needs
+same-length-5 c = c .before .before .before .disk .given
 
 same-length-6 : tie.Need-same-length-6
-same-length-6 c = search needs
+same-length-6 c = refl
 
 same-length-7 : tie.Need-same-length-7
-same-length-7 c = search needs
+same-length-7 c = c .before .table2 .given
 
 returns-2 : tie.Need-returns-2
 unfolding finishAs withBlocks

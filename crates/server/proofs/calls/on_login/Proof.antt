@@ -29,7 +29,7 @@ unfolding onLogin
 returns c = rw (c .before .k .given .1)
 
 same-length : tie.Need-same-length
-same-length c = search needs
+same-length c = c .before .out .given
 
 returns-2 : tie.Need-returns-2
 unfolding onLogin

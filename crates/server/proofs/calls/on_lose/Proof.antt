@@ -29,10 +29,10 @@ unfolding onLose
 returns c = rw (c .before .k .given .1)
 
 same-length : tie.Need-same-length
-same-length c = search needs
+same-length c = c .before .before .before .before .before .selected .given
 
 same-length-2 : tie.Need-same-length-2
-same-length-2 c = search needs
+same-length-2 c = c .before .before .before .held .given
 
 returns-2 : tie.Need-returns-2
 unfolding onLose

@@ -42,7 +42,7 @@ unfolding onRequest
 returns c = rw (c .before .k .given .1)
 
 same-length : tie.Need-same-length
-same-length c = search needs
+same-length c = c .before .before .before .out .given
 
 returns-2 : tie.Need-returns-2
 unfolding onRequest dueAs

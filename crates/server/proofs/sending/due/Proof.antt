@@ -35,7 +35,7 @@ unfolding dueOf
 returns c = rw (c .enum-told .given .1)
 
 same-length : tie.Need-same-length
-same-length c = search needs
+same-length c = c .before .out .given
 
 returns-2 : tie.Need-returns-2
 unfolding dueOf sendingOf dataOf
@@ -46,7 +46,7 @@ unfolding dueOf
 returns-3 c = rw (c .enum-told2 .given .1)
 
 same-length-2 : tie.Need-same-length-2
-same-length-2 c = search needs
+same-length-2 c = c .before .before .out2 .given
 
 returns-4 : tie.Need-returns-4
 unfolding dueOf

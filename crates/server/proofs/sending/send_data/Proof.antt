@@ -46,7 +46,7 @@ add-t13 : tie.Need-add-t13
 add-t13 c = search needs
 
 same-length : tie.Need-same-length
-same-length c = search needs
+same-length c = c .before .before .out .given
 
 returns : tie.Need-returns
 unfolding dataOf

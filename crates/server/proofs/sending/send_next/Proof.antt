@@ -30,7 +30,7 @@ send-data-requires : tie.Need-send-data-requires
 send-data-requires c κs = search needs
 
 same-length : tie.Need-same-length
-same-length c = search needs
+same-length c = c .before .out .given
 
 returns : tie.Need-returns
 unfolding sendingOf
@@ -43,7 +43,7 @@ with-down-requires : tie.Need-with-down-requires
 with-down-requires c κs = search needs
 
 same-length-2 : tie.Need-same-length-2
-same-length-2 c = search needs
+same-length-2 c = c .before .before .out2 .given
 
 returns-2 : tie.Need-returns-2
 unfolding sendingOf

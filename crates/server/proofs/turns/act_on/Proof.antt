@@ -1,9 +1,21 @@
 use native.Mathlib.Omega.{arith}
 use mathlib.Core.Path.{_≡_, sym}
-use Prim.Native.Nat.{_+_, _*_, _-_}
+use mathlib.Core.List.{List, _++_}
+use Prim.Native.Nat.{ℕ, _+_, _*_, _-_}
 use native.Mathlib.Nat.{add-sub-cancel-left, mul-le-mul}
+use lib.ListN.{take, drop}
 use lib.Seq.{length-take-le}
-use Rattle.server.specs.Turns.{actOf, putBack}
+use Rattle.packet.specs.declared.frame.Frame.{Frame}
+use Rattle.session.specs.declared.state.Session.{Session}
+use Rattle.table.specs.Table.{files}
+use Rattle.decide.specs.declared.act.Act.{Act}
+use Rattle.decide.specs.Decide.{decideOf}
+use Rattle.carry.specs.declared.turn.Turn.{Turn}
+use Rattle.carry.specs.Turn.{mem, turned}
+use Rattle.carry.specs.Carry.{carryOut}
+use Rattle.server.specs.declared.Server.{Server}
+use Rattle.server.specs.State.{words}
+use Rattle.server.specs.Turns.{sizeIn, actOf, putBack}
 use borrow.Author.Needs.{needs}
 use Rattle.server.proofs.turns.act_on.Statement.{statement}
 use Rattle.server.proofs.turns.act_on.Tie as tie
@@ -83,23 +95,43 @@ carry-out-requires : tie.Need-carry-out-requires
 carry-out-requires c κs = search needs
 
 same-length : tie.Need-same-length
-same-length c = search needs
+same-length c = c .before .before .before .before .before .before .before .before .before .disk .given
 
 same-length-2 : tie.Need-same-length-2
-same-length-2 c = search needs
+same-length-2 c = c .before .before .before .before .before .before .before .map .given .1
 
 same-length-3 : tie.Need-same-length-3
-same-length-3 c = search needs
+same-length-3 c = c .before .before .before .before .before .owner .given .1
 
 same-length-4 : tie.Need-same-length-4
-same-length-4 c = search needs
+same-length-4 c = c .before .before .before .table .given .1
 
 same-length-5 : tie.Need-same-length-5
-same-length-5 c = search needs
+same-length-5 c = c .before .selected2 .given .1
+
+-- what was decided on the parts and carried out on them is the act. The code counts a part's entries as its end less its start
+acted : (sv : Server) (i : ℕ) (s : Session) (frame : Frame) (clock : ℕ) (info disk map owner table selected : List ℕ) (size : ℕ) (what : Act) (t : Turn)
+    (disk′ map′ owner′ table′ selected′ : List ℕ)
+    → size ≡ sizeIn frame
+    → what
+    ≡ decideOf s (sv .links) frame info (files (take (4 * sv .files) table))
+    (take (i * sv .most + sv .most - i * sv .most) (drop (i * sv .most) selected))
+    → turned t (mem disk′ map′ owner′ table′ selected′)
+    ≡ carryOut what s (sv .last) clock (sv .most) size info
+    (mem disk (take (words (sv .blocks)) map) (take (sv .blocks) owner) (take (4 * sv .files) table)
+    (take (i * sv .most + sv .most - i * sv .most) (drop (i * sv .most) selected)))
+    → turned t
+    (mem disk′ (map′ ++ drop (words (sv .blocks)) map) (owner′ ++ drop (sv .blocks) owner) (table′ ++ drop (4 * sv .files) table)
+    (take (i * sv .most) selected
+    ++ (selected′ ++ drop (i * sv .most + sv .most - i * sv .most) (drop (i * sv .most) selected))))
+    ≡ actOf sv i s frame clock info (mem disk map owner table selected)
+unfolding actOf putBack
+acted sv i s frame clock info disk map owner table selected size what t disk′ map′ owner′ table′ selected′ sized decided carried =
+    let d : i * sv .most + sv .most - i * sv .most ≡ sv .most = add-sub-cancel-left (i * sv .most) (sv .most) in
+    rw (d, ← sized, ← rw d at decided, ← rw d at carried)
 
 returns : tie.Need-returns
-unfolding actOf putBack
-returns c = let e = c .before .before .before .before .before .before .before .before .before .before .before .before .before .before .before .before .before .before .before .before .before .before .before .before .before .before .before .before .before .before in let d : e .args .i * e .args .server .most + e .args .server .most - e .args .i * e .args .server .most ≡ e .args .server .most = add-sub-cancel-left (e .args .i * e .args .server .most) (e .args .server .most) in rw (d, ← c .before .before .before .before .before .before .before .before .before .before .before .before .before .before .before .before .before .before .before .before .size-in .ensures, ← rw d at (c .before .before .before .before .before .before .before .before .before .before .before .before .before .before .before .before .decide .ensures), ← rw d at (c .before .before .before .before .before .before .before .before .before .before .carry-out .ensures))
+returns c = acted _ _ _ _ _ _ _ _ _ _ _ _ _ _ _ _ _ _ _ (c .before .before .before .before .before .before .before .before .before .before .before .before .before .before .before .before .before .before .before .before .size-in .ensures) (c .before .before .before .before .before .before .before .before .before .before .before .before .before .before .before .before .decide .ensures) (c .before .before .before .before .before .before .before .before .before .before .carry-out .ensures)
 
 pub act-on-spec : {M : Type 1} → statement M
 act-on-spec =

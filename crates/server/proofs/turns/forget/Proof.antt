@@ -52,10 +52,10 @@ forget-requires-2 : tie.Need-forget-requires-2
 forget-requires-2 c κs = search needs
 
 same-length : tie.Need-same-length
-same-length c = search needs
+same-length c = c .before .before .before .before .before .selected .given .1
 
 same-length-2 : tie.Need-same-length-2
-same-length-2 c = search needs
+same-length-2 c = c .before .held .given .1
 
 returns : tie.Need-returns
 returns c = let e = c .before .before .before .before .before .before .before .before .before .before in let s = e .args .selected .now in let h = e .args .held .now in let a = e .args .i * e .args .most in let b = e .args .i * 258 in let d : a + e .args .most - a ≡ e .args .most = add-sub-cancel-left a (e .args .most) in let f : b + 258 - b ≡ 258 = add-sub-cancel-left b 258 in let n : length (take (e .args .most) (drop a s)) ≡ e .args .most = length-take-le (e .args .most) (drop a s) (rw (length-drop a s) (omega (arith, e .pre .2))) in let m : length (take 258 (drop b h)) ≡ 258 = length-take-le 258 (drop b h) (rw (length-drop b h) (omega (arith, e .pre .3))) in (rw (d, rw (d, n) at (c .before .before .before .before .before .before .forget .ensures)), rw (f, rw (f, m) at (c .before .before .forget2 .ensures)))

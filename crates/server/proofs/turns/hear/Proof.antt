@@ -28,7 +28,7 @@ receive-requires : tie.Need-receive-requires
 receive-requires c κs = search needs
 
 same-length : tie.Need-same-length
-same-length c = search needs
+same-length c = c .before .held .given .1
 
 returns : tie.Need-returns
 unfolding hearOf
