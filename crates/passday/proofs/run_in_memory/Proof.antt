@@ -8,6 +8,18 @@ use Rattle.passday.proofs.run.Reads as run-reads
 use mathlib.Core.Path.{sym}
 use Rattle.passday.proofs.Starting.{ready}
 
+blank-disk-requires : tie.Need-blank-disk-requires
+blank-disk-requires c κs = tt
+
+blank-input-requires : tie.Need-blank-input-requires
+blank-input-requires c κs = tt
+
+blank-text-requires : tie.Need-blank-text-requires
+blank-text-requires c κs = tt
+
+blank-text-requires-2 : tie.Need-blank-text-requires-2
+blank-text-requires-2 c κs = tt
+
 -- src/main.rt:119:9
 slice-aggregate-run : tie.Need-slice-aggregate-run
 slice-aggregate-run c = search needs
@@ -84,6 +96,10 @@ pub run-in-memory-spec : {M : Type 1} → statement M
 run-in-memory-spec =
     tie.close
     (tie.spec
+    blank-disk-requires
+    blank-input-requires
+    blank-text-requires
+    blank-text-requires-2
     slice-aggregate-run
     slice-aggregate-run-2
     slice-aggregate-run-3
