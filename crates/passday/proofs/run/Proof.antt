@@ -11,11 +11,11 @@ use Rattle.passday.proofs.Starting.{new-going, made-played}
 
 -- src/main.rt:80:9
 make-requires : tie.Need-make-requires
-make-requires c κs = search needs
+make-requires c κs = tt
 
 -- src/main.rt:94:9
 new-pass-requires : tie.Need-new-pass-requires
-new-pass-requires c κs = search needs
+new-pass-requires c κs = tt
 
 -- src/main.rt:93:5
 play-requires : tie.Need-play-requires
@@ -23,7 +23,7 @@ play-requires c κs = new-going _ (c .before .before .before .before .before .be
 
 -- src/main.rt:59:1
 same-length : tie.Need-same-length
-same-length c = search needs
+same-length c = c .before .before .before .before .before .before .before .before .before .before .before .before .before .before .before .before .before .before .play .kept .1 .0
 
 -- src/main.rt:59:1
 same-length-2 : tie.Need-same-length-2
@@ -47,15 +47,15 @@ same-length-6 c = c .before .before .before .before .before .before .before .bef
 
 -- src/main.rt:59:1
 same-length-7 : tie.Need-same-length-7
-same-length-7 c = search needs
+same-length-7 c = c .before .before .before .before .before .before .before .before .before .before .before .before .before .before .before .before .before .before .play .kept .1 .1 .1 .1 .1 .1 .1 .0
 
 -- src/main.rt:59:1
 same-length-8 : tie.Need-same-length-8
-same-length-8 c = search needs
+same-length-8 c = c .before .before .before .before .before .before .before .before .before .before .before .before .before .before .before .before .before .before .play .kept .1 .1 .1 .1 .1 .1 .1 .1 .0
 
 -- src/main.rt:59:1
 same-length-9 : tie.Need-same-length-9
-same-length-9 c = search needs
+same-length-9 c = c .before .before .before .before .before .before .before .before .before .before .before .before .before .before .before .before .before .before .play .kept .1 .1 .1 .1 .1 .1 .1 .1 .1 .0
 
 -- src/main.rt:59:1
 returns : tie.Need-returns
