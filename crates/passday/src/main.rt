@@ -7,6 +7,7 @@ use libc::STDOUT_FILENO;
 use pass::Pass;
 ghost use mathlib.Core.Path.{_≡_};
 ghost use mathlib.Core.Bool.{false};
+ghost use lib.ListN.{length};
 ghost use Rattle.server.specs.State.{lent};
 ghost use Rattle.passday.specs.Pass.{memory, passing, overOf};
 ghost use Rattle.passday.specs.Run.{Played};
@@ -94,17 +95,36 @@ fn run(
     )
 }
 
+// The large arrays, all zeros. Their makers promise the length alone, so that no proof of a caller writes out the zeros.
+fn blank_disk() -> [u8; 32768]
+    ensures { λ r. ⌜ length r ≡ 32768 ⌝ }
+{
+    [0u8; 32768]
+}
+
+fn blank_input() -> [u8; 262144]
+    ensures { λ r. ⌜ length r ≡ 262144 ⌝ }
+{
+    [0u8; 262144]
+}
+
+fn blank_text() -> [u8; 65536]
+    ensures { λ r. ⌜ length r ≡ 65536 ⌝ }
+{
+    [0u8; 65536]
+}
+
 // The program's memory, what is done in it, and what is printed last.
 fn run_in_memory() {
-    let mut disk = [0u8; 32768];
+    let mut disk = blank_disk();
     let mut map = [0u64; 2];
     let mut owner = [0u16; 128];
     let mut table = [0u32; 128];
     let mut selected = [0u32; 200];
     let mut held = [0u8; 1032];
-    let mut input = [0u8; 262144];
-    let mut bytes = [0u8; 65536];
-    let mut text = [0u8; 65536];
+    let mut input = blank_input();
+    let mut bytes = blank_text();
+    let mut text = blank_text();
     let end = run(
         &mut disk,
         &mut map,

@@ -1,7 +1,9 @@
 -- The server's call for what a script is doing (document 01, "The script program"). The script keeps the server and its slices to itself, so these are
 -- the calls that do not test 35 again (crates/server, specs/Kept.antt); specs/Reached.antt says that they are the server's own. Assumes nothing.
+use mathlib.Core.Bool.{cond}
 use mathlib.Core.List.{List}
 use Prim.Native.Nat.{ℕ}
+use lib.Dec.{ltb}
 use Rattle.session.specs.declared.reply.Answer.the-variants as answer
 use Rattle.server.specs.declared.Server.{Server}
 use Rattle.server.specs.State.{Lent, lent, Outcome, outcome, doneWith}
@@ -9,6 +11,8 @@ use Rattle.server.specs.Calls.{Opened, Lost}
 use Rattle.server.specs.Kept.{loginKept, receiveKept, requestKept, loseKept}
 use Rattle.script.specs.declared.doing.Doing.{Doing}
 use Rattle.script.specs.declared.doing.Doing.the-variants as doing
+use Rattle.script.specs.declared.calling.Heard.{Heard}
+use Rattle.script.specs.declared.calling.Heard.the-variants as heard
 use Rattle.script.specs.Parts.{bytesFrom}
 
 -- "`rx`, session and hex bytes"
@@ -30,3 +34,23 @@ callOf sv clock (doing.Opening session) bytes l out = onlyOut l (loginKept sv l 
 callOf sv clock (doing.Dropping session) bytes l out = onlyLinks l out (loseKept sv l session)
 callOf sv clock (doing.Hearing session at n) bytes l out = hearOf sv clock session at n bytes l out
 callOf sv clock (doing.Pumping session) bytes l out = onlyOut l (requestKept sv l out session)
+
+-- ---- the same in two parts: what is handed over, and the calls that hand over nothing
+
+abbrev pub heardTo : ℕ → ℕ → ℕ → Heard
+heardTo session at end = heard.Part session (cond (ltb at end) at end) end
+
+-- both places are cut to what is lent
+unfoldable pub heardOf : Doing → ℕ → Heard
+heardOf doing.Rest size = heard.Nothing
+heardOf (doing.Opening session) size = heard.Nothing
+heardOf (doing.Dropping session) size = heard.Nothing
+heardOf (doing.Hearing session at n) size = heardTo session at (cond (ltb n size) n size)
+heardOf (doing.Pumping session) size = heard.Nothing
+
+unfoldable pub stillOf : Server → ℕ → Doing → Lent → List ℕ → Outcome
+stillOf sv clock doing.Rest l out = outcome (doneWith sv (answer.Quiet 0)) l out
+stillOf sv clock (doing.Opening session) l out = onlyOut l (loginKept sv l out session clock)
+stillOf sv clock (doing.Dropping session) l out = onlyLinks l out (loseKept sv l session)
+stillOf sv clock (doing.Hearing session at n) l out = outcome (doneWith sv (answer.Quiet 0)) l out
+stillOf sv clock (doing.Pumping session) l out = onlyOut l (requestKept sv l out session)

@@ -6,42 +6,89 @@ use server::Server;
 use session::reply::Answer;
 ghost use mathlib.Core.Path.{_≡_};
 ghost use Rattle.server.specs.State.{lent, outcome};
-ghost use Rattle.script.specs.Calling.{hearOf, callOf};
+ghost use Rattle.script.specs.Calling.{heardOf, stillOf, callOf};
 
-// The line's bytes from a place on are handed over.
-fn hear(
+// What is handed over: nothing, or for a session the bytes of the line from a place to another.
+enum Heard {
+    Nothing,
+    Part(u32, usize, usize),
+}
+
+// What is handed over of a line of `size` bytes.
+fn handed(doing: Doing, size: usize) -> Heard
+    ensures { λ r. ⌜ r ≡ heardOf doing size ⌝ }
+{
+    match doing {
+        Doing::Rest => Heard::Nothing,
+        Doing::Opening(_) => Heard::Nothing,
+        Doing::Dropping(_) => Heard::Nothing,
+        Doing::Hearing(session, at, n) => {
+            let e = least(n, size);
+            Heard::Part(session, least(at, e), e)
+        }
+        Doing::Pumping(_) => Heard::Nothing,
+    }
+}
+
+// A call that hands over nothing. It only reads the store.
+fn still_call(
     server: Server,
     clock: u32,
-    session: u32,
-    at: usize,
-    n: usize,
-    bytes: &[u8],
-    disk: &mut [u8],
-    map: &mut [u64],
-    owner: &mut [u16],
-    table: &mut [u32],
+    doing: Doing,
+    disk: &[u8],
+    map: &[u64],
+    owner: &[u16],
+    table: &[u32],
     selected: &mut [u32],
     held: &mut [u8],
     out: &mut [u8],
 ) -> Done
-    ensures { λ r. ⌜ outcome r (lent (now (disk .exit)) (now (map .exit)) (now (owner .exit)) (now (table .exit)) (now (selected .exit)) (now (held .exit))) (now (out .exit))
-        ≡ hearOf server clock session at n (now (bytes .entry)) (lent (now (disk .entry)) (now (map .entry)) (now (owner .entry)) (now (table .entry)) (now (selected .entry)) (now (held .entry))) (now (out .entry)) ⌝ }
+    ensures { λ r. ⌜ outcome r (lent (now (disk .entry)) (now (map .entry)) (now (owner .entry)) (now (table .entry)) (now (selected .exit)) (now (held .exit))) (now (out .exit))
+        ≡ stillOf server clock doing (lent (now (disk .entry)) (now (map .entry)) (now (owner .entry)) (now (table .entry)) (now (selected .entry)) (now (held .entry))) (now (out .entry)) ⌝ }
 {
-    let e = least(n, bytes.len());
-    let a = least(at, e);
-    server::kept::receive_kept(
-        server,
-        disk,
-        map,
-        owner,
-        table,
-        selected,
-        held,
-        out,
-        session as usize,
-        clock,
-        &bytes[a..e],
-    )
+    match doing {
+        Doing::Rest => Done {
+            server: server,
+            answer: Answer::Quiet(0),
+        },
+        Doing::Opening(session) => server::kept::login_kept(
+            server,
+            disk,
+            map,
+            owner,
+            table,
+            &*selected,
+            &*held,
+            out,
+            session as usize,
+            clock,
+        ),
+        Doing::Dropping(session) => server::kept::lose_kept(
+            server,
+            disk,
+            map,
+            owner,
+            table,
+            selected,
+            held,
+            session as usize,
+        ),
+        Doing::Hearing(_, _, _) => Done {
+            server: server,
+            answer: Answer::Quiet(0),
+        },
+        Doing::Pumping(session) => server::kept::request_kept(
+            server,
+            disk,
+            map,
+            owner,
+            table,
+            &*selected,
+            &*held,
+            out,
+            session as usize,
+        ),
+    }
 }
 
 // One call of the server, or none while resting.
@@ -61,40 +108,22 @@ pub(crate) fn call(
     ensures { λ r. ⌜ outcome r (lent (now (disk .exit)) (now (map .exit)) (now (owner .exit)) (now (table .exit)) (now (selected .exit)) (now (held .exit))) (now (out .exit))
         ≡ callOf server clock doing (now (bytes .entry)) (lent (now (disk .entry)) (now (map .entry)) (now (owner .entry)) (now (table .entry)) (now (selected .entry)) (now (held .entry))) (now (out .entry)) ⌝ }
 {
-    match doing {
-        Doing::Rest => Done {
-            server: server,
-            answer: Answer::Quiet(0),
-        },
-        Doing::Opening(session) => server::kept::login_kept(
+    let part = handed(doing, bytes.len());
+    match part {
+        Heard::Nothing => still_call(
             server,
-            &*disk,
-            &*map,
-            &*owner,
-            &*table,
-            &*selected,
-            &*held,
-            out,
-            session as usize,
             clock,
-        ),
-        Doing::Dropping(session) => server::kept::lose_kept(
-            server,
+            doing,
             &*disk,
             &*map,
             &*owner,
             &*table,
             selected,
             held,
-            session as usize,
+            out,
         ),
-        Doing::Hearing(session, at, n) => hear(
+        Heard::Part(session, from, to) => server::kept::receive_kept(
             server,
-            clock,
-            session,
-            at,
-            n,
-            bytes,
             disk,
             map,
             owner,
@@ -102,17 +131,9 @@ pub(crate) fn call(
             selected,
             held,
             out,
-        ),
-        Doing::Pumping(session) => server::kept::request_kept(
-            server,
-            &*disk,
-            &*map,
-            &*owner,
-            &*table,
-            &*selected,
-            &*held,
-            out,
             session as usize,
+            clock,
+            &bytes[from..to],
         ),
     }
 }

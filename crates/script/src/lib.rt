@@ -13,15 +13,16 @@ mod printing;
 
 use doing::Doing;
 use lines::Command;
+use server::Done;
 use server::Server;
 ghost use mathlib.Core.Path.{_≡_};
 ghost use Prim.Native.Nat.{_≤_};
 ghost use lib.ListN.{length, take};
 ghost use Rattle.blocks.specs.FreeMap.{freeCount};
 ghost use Rattle.blocks.specs.Owners.{heldCount};
-ghost use Rattle.server.specs.State.{lent};
+ghost use Rattle.server.specs.State.{Lent, lent, outcome};
 ghost use Rattle.lines.specs.Lines.{printed, printedIn, blocksLine};
-ghost use Rattle.script.specs.Day.{beginOf, stepping, turnOf, stepOf};
+ghost use Rattle.script.specs.Day.{beginOf, stepping, answeredOf, stepOf};
 
 // The script between two calls: the server, the clock, and what is being done.
 pub struct Day {
@@ -70,45 +71,18 @@ pub fn begin(day: Day, command: Command) -> Day
     }
 }
 
-// One call of the server, and its line.
-fn turn(
-    day: Day,
-    disk: &mut [u8],
-    map: &mut [u64],
-    owner: &mut [u16],
-    table: &mut [u32],
-    selected: &mut [u32],
-    held: &mut [u8],
-    bytes: &[u8],
-    text: &mut [u8],
-) -> Stepped
-    ensures { λ r. ⌜ stepping r (lent (now (disk .exit)) (now (map .exit)) (now (owner .exit)) (now (table .exit)) (now (selected .exit)) (now (held .exit))) (now (text .exit))
-        ≡ turnOf day (lent (now (disk .entry)) (now (map .entry)) (now (owner .entry)) (now (table .entry)) (now (selected .entry)) (now (held .entry))) (now (bytes .entry)) (now (text .entry)) ⌝ }
+// After a call: its line is printed, and the script goes on.
+fn conclude(day: Day, done: Done, size: usize, out: &[u8], text: &mut [u8]) -> Stepped
+    ensures { λ r. ⌜ ((l : Lent) → stepping r l (now (text .exit)) ≡ answeredOf day size (now (text .entry)) (outcome done l (now (out .entry)))) ⌝ }
 {
-    let mut out = [0u8; 258];
-    let server = day.server;
-    let clock = day.clock;
     let doing = day.doing;
-    let done = calling::call(
-        server,
-        clock,
-        doing,
-        bytes,
-        disk,
-        map,
-        owner,
-        table,
-        selected,
-        held,
-        &mut out,
-    );
     let answer = done.answer;
-    let written = printing::show(doing::session_of(doing), answer, &out, text);
+    let written = printing::show(doing::session_of(doing), answer, out, text);
     let next = done.server;
-    let then = doing::after(doing, answer, bytes.len());
+    let then = doing::after(doing, answer, size);
     let after = Day {
         server: next,
-        clock: clock,
+        clock: day.clock,
         doing: then,
     };
     Stepped {
@@ -140,7 +114,23 @@ pub fn step(
             written: 0,
         };
     }
-    turn(day, disk, map, owner, table, selected, held, bytes, text)
+    let mut out = [0u8; 258];
+    let server = day.server;
+    let doing = day.doing;
+    let done = calling::call(
+        server,
+        day.clock,
+        doing,
+        bytes,
+        disk,
+        map,
+        owner,
+        table,
+        selected,
+        held,
+        &mut out,
+    );
+    conclude(day, done, bytes.len(), &out, text)
 }
 
 // The last line: the blocks free, the one bits of the map, and the blocks held.

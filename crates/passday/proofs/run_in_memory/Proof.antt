@@ -5,46 +5,50 @@ use Rattle.passday.proofs.run_in_memory.Reads as reads
 use Rattle.passday.proofs.run_in_memory.Lts as lts
 use Rattle.passday.proofs.pass.finish.Reads as finish-reads
 use Rattle.passday.proofs.run.Reads as run-reads
-use mathlib.Core.Path.{sym}
+use mathlib.Core.Path.{sym, _∙_}
+use Prim.Native.Nat.{ℕ}
+use lib.ListN.{length-replicate}
 use Rattle.passday.proofs.Starting.{ready}
 
--- src/main.rt:119:9
-slice-aggregate-run : tie.Need-slice-aggregate-run
-slice-aggregate-run c = search needs
+blank-disk-requires : tie.Need-blank-disk-requires
+blank-disk-requires c κs = tt
 
--- src/main.rt:120:9
+blank-input-requires : tie.Need-blank-input-requires
+blank-input-requires c κs = tt
+
+blank-text-requires : tie.Need-blank-text-requires
+blank-text-requires c κs = tt
+
+blank-text-requires-2 : tie.Need-blank-text-requires-2
+blank-text-requires-2 c κs = tt
+
+slice-aggregate-run : tie.Need-slice-aggregate-run
+slice-aggregate-run c = sym (c .before .before .before .before .blank-disk .ensures)
+
 slice-aggregate-run-2 : tie.Need-slice-aggregate-run-2
 slice-aggregate-run-2 c = search needs
 
--- src/main.rt:121:9
 slice-aggregate-run-3 : tie.Need-slice-aggregate-run-3
 slice-aggregate-run-3 c = search needs
 
--- src/main.rt:122:9
 slice-aggregate-run-4 : tie.Need-slice-aggregate-run-4
 slice-aggregate-run-4 c = search needs
 
--- src/main.rt:123:9
 slice-aggregate-run-5 : tie.Need-slice-aggregate-run-5
 slice-aggregate-run-5 c = search needs
 
--- src/main.rt:124:9
 slice-aggregate-run-6 : tie.Need-slice-aggregate-run-6
 slice-aggregate-run-6 c = search needs
 
--- src/main.rt:125:9
 slice-aggregate-run-7 : tie.Need-slice-aggregate-run-7
-slice-aggregate-run-7 c = search needs
+slice-aggregate-run-7 c = sym (c .before .before .before .before .before .before .before .before .before .blank-input .ensures)
 
--- src/main.rt:126:9
 slice-aggregate-run-8 : tie.Need-slice-aggregate-run-8
-slice-aggregate-run-8 c = search needs
+slice-aggregate-run-8 c = sym (c .before .before .before .before .before .before .before .before .before .blank-text .ensures)
 
--- src/main.rt:127:9
 slice-aggregate-run-9 : tie.Need-slice-aggregate-run-9
-slice-aggregate-run-9 c = search needs
+slice-aggregate-run-9 c = sym (c .before .before .before .before .before .before .before .before .before .blank-text2 .ensures)
 
--- src/main.rt:118:9
 run-requires : tie.Need-run-requires
 run-requires c κs =
     ready _
@@ -60,23 +64,18 @@ run-requires c κs =
       text = sym (slice-aggregate-run-9 c);
     })
 
--- src/main.rt:129:23
 slice-aggregate-finish : tie.Need-slice-aggregate-finish
-slice-aggregate-finish c = search needs
+slice-aggregate-finish c = sym (c .before .before .before .before .before .before .before .before .before .before .run .kept .1 .0 ∙ length-replicate {A = ℕ} 2 0)
 
--- src/main.rt:129:29
 slice-aggregate-finish-2 : tie.Need-slice-aggregate-finish-2
-slice-aggregate-finish-2 c = search needs
+slice-aggregate-finish-2 c = sym (c .before .before .before .before .before .before .before .before .before .before .before .run .kept .1 .1 .0 ∙ length-replicate {A = ℕ} 128 0)
 
--- src/main.rt:129:37
 slice-aggregate-finish-3 : tie.Need-slice-aggregate-finish-3
-slice-aggregate-finish-3 c = search needs
+slice-aggregate-finish-3 c = sym (c .before .before .before .before .before .before .before .before .before .before .before .before .run .kept .1 .1 .1 .1 .1 .1 .1 .1 .0 ∙ c .before .before .before .before .before .before .before .before .before .before .before .before .before .before .before .before .before .before .before .before .before .before .blank-text2 .ensures)
 
--- src/main.rt:129:5
 finish-requires : tie.Need-finish-requires
-finish-requires c κs = search needs
+finish-requires c κs = tt
 
--- src/main.rt:108:1
 returns : tie.Need-returns
 returns c = search needs
 
@@ -84,6 +83,10 @@ pub run-in-memory-spec : {M : Type 1} → statement M
 run-in-memory-spec =
     tie.close
     (tie.spec
+    blank-disk-requires
+    blank-input-requires
+    blank-text-requires
+    blank-text-requires-2
     slice-aggregate-run
     slice-aggregate-run-2
     slice-aggregate-run-3

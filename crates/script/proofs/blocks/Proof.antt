@@ -7,23 +7,18 @@ use Rattle.blocks.proofs.free_count.Reads as free-count-reads
 use Rattle.blocks.proofs.held_count.Reads as held-count-reads
 use Rattle.lines.proofs.print.blocks_line.Reads as blocks-line-reads
 
--- src/lib.rt:145:31
 free-count-requires : tie.Need-free-count-requires
 free-count-requires c κs = search needs
 
--- src/lib.rt:145:56
 held-count-requires : tie.Need-held-count-requires
 held-count-requires c κs = search needs
 
--- src/lib.rt:145:5
 blocks-line-requires : tie.Need-blocks-line-requires
 blocks-line-requires c κs = search needs
 
--- src/lib.rt:142:1
 same-length : tie.Need-same-length
 same-length c = search needs
 
--- src/lib.rt:142:1
 returns : tie.Need-returns
 returns c = rw (← c .before .before .before .before .held-count .ensures, ← c .before .before .before .before .before .free-count .ensures) (c .before .before .blocks-line .ensures)
 

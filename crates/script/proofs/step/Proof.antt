@@ -1,62 +1,61 @@
+use mathlib.Core.Path.{_∙_}
 use borrow.Author.Needs.{needs}
 use Rattle.script.proofs.step.Statement.{statement}
 use Rattle.script.proofs.step.Tie as tie
-use Rattle.script.proofs.step.Reads as reads
-use Rattle.script.proofs.step.Lts as lts
-use Rattle.script.proofs.turn.Reads as turn-reads
 use native.Mathlib.Omega.{arith}
-use borrow.Author.Tests.{lt-ltb, le-ltb}
+use borrow.Author.Tests.{lt-ltb}
 use Rattle.script.specs.Day.{stepOf}
-use Rattle.script.proofs.Written.{written-fits}
+use Rattle.script.proofs.Written.{step-turned}
 
--- src/lib.rt:133:9
 returns : tie.Need-returns
 unfolding stepOf
 returns c = (rw (lt-ltb _ _ (c .if1 .taken)), omega arith)
 
--- src/lib.rt:138:5
-turn-requires : tie.Need-turn-requires
-turn-requires c κs = search needs
+slice-aggregate-call : tie.Need-slice-aggregate-call
+slice-aggregate-call c = search needs
 
--- src/lib.rt:117:1
+call-requires : tie.Need-call-requires
+call-requires c κs = tt
+
+slice-aggregate-conclude : tie.Need-slice-aggregate-conclude
+slice-aggregate-conclude c = search needs
+
+conclude-requires : tie.Need-conclude-requires
+conclude-requires c κs = tt
+
 same-length : tie.Need-same-length
-same-length c = search needs
+same-length c = c .before .before .before .before .before .before .before .before .before .before .before .before .before .before .before .before .before .before .call .kept .1 .1 .1 .1 .0
 
--- src/lib.rt:117:1
 same-length-2 : tie.Need-same-length-2
-same-length-2 c = search needs
+same-length-2 c = c .before .before .before .before .before .before .before .before .before .before .before .before .before .before .before .before .before .before .call .kept .1 .1 .1 .1 .1 .0
 
--- src/lib.rt:117:1
 same-length-3 : tie.Need-same-length-3
-same-length-3 c = search needs
+same-length-3 c = c .before .before .before .before .before .before .before .before .before .before .before .before .before .before .before .before .before .before .call .kept .1 .1 .1 .1 .1 .1 .0
 
--- src/lib.rt:117:1
 same-length-4 : tie.Need-same-length-4
-same-length-4 c = search needs
+same-length-4 c = c .before .before .before .before .before .before .before .before .before .before .before .before .before .before .before .before .before .before .call .kept .1 .1 .1 .1 .1 .1 .1 .0
 
--- src/lib.rt:117:1
 same-length-5 : tie.Need-same-length-5
-same-length-5 c = search needs
+same-length-5 c = c .before .before .before .before .before .before .before .before .before .before .before .before .before .before .before .before .before .before .call .kept .1 .1 .1 .1 .1 .1 .1 .1 .0
 
--- src/lib.rt:117:1
 same-length-6 : tie.Need-same-length-6
-same-length-6 c = search needs
+same-length-6 c = c .before .before .before .before .before .before .before .before .before .before .before .before .before .before .before .before .before .before .call .kept .1 .1 .1 .1 .1 .1 .1 .1 .1 .0
 
--- src/lib.rt:117:1
 same-length-7 : tie.Need-same-length-7
-same-length-7 c = search needs
+same-length-7 c = c .before .before .conclude .kept .1 .1 .1 .1 .0
 
--- src/lib.rt:117:1
 returns-2 : tie.Need-returns-2
-unfolding stepOf
-returns-2 c = (rw (le-ltb _ _ (c .before .before .before .before .before .before .before .before .before .before .before .before .before .before .before .before .before .before .before .before .before .before .if1 .left)) (c .before .before .before .before .before .before .before .before .before .before .before .before .before .before .turn .ensures), written-fits _ _ _ _ _ (c .before .before .before .before .before .before .before .before .before .before .before .before .before .before .turn .ensures))
+returns-2 c = step-turned _ _ _ _ _ _ _ _ _ (c .before .before .before .before .before .before .before .before .before .before .before .before .before .before .before .before .before .before .before .before .before .before .before .before .before .before .before .if1 .left) (c .before .before .before .before .before .before .before .before .before .before .before .before .before .before .before .before .before .before .call .ensures) (c .before .before .conclude .ensures _)
 
 pub step-spec : {M : Type 1} → statement M
 step-spec =
     tie.close
     (tie.spec
     returns
-    turn-requires
+    slice-aggregate-call
+    call-requires
+    slice-aggregate-conclude
+    conclude-requires
     same-length
     same-length-2
     same-length-3

@@ -1,3 +1,4 @@
+use mathlib.Core.Path.{refl}
 use borrow.Author.Needs.{needs}
 use Rattle.passday.proofs.pass.turn.Statement.{statement}
 use Rattle.passday.proofs.pass.turn.Tie as tie
@@ -13,7 +14,7 @@ use Rattle.passday.proofs.Turning.{turned-step, turned-line, turned-flu
 
 -- src/pass.rt:275:9
 decide-requires : tie.Need-decide-requires
-decide-requires c κs = search needs
+decide-requires c κs = tt
 
 -- src/pass.rt:277:34
 enum-told : tie.Need-enum-told
@@ -21,7 +22,7 @@ enum-told c = search needs
 
 -- src/pass.rt:277:23
 step-requires : tie.Need-step-requires
-step-requires c κs = search needs
+step-requires c κs = tt
 
 -- src/pass.rt:278:20
 enum-known-next : tie.Need-enum-known-next
@@ -29,7 +30,7 @@ enum-known-next c = search needs
 
 -- src/pass.rt:278:26
 begin-line-requires : tie.Need-begin-line-requires
-begin-line-requires c κs = search needs
+begin-line-requires c κs = tt
 
 -- src/pass.rt:279:36
 enum-told-2 : tie.Need-enum-told-2
@@ -37,7 +38,7 @@ enum-told-2 c = search needs
 
 -- src/pass.rt:279:24
 flush-requires : tie.Need-flush-requires
-flush-requires c κs = search needs
+flush-requires c κs = tt
 
 -- src/pass.rt:280:34
 enum-told-3 : tie.Need-enum-told-3
@@ -45,7 +46,7 @@ enum-told-3 c = search needs
 
 -- src/pass.rt:280:23
 fill-requires : tie.Need-fill-requires
-fill-requires c κs = search needs
+fill-requires c κs = tt
 
 -- src/pass.rt:281:20
 enum-known-next-2 : tie.Need-enum-known-next-2
@@ -53,43 +54,43 @@ enum-known-next-2 c = search needs
 
 -- src/pass.rt:281:30
 with-stage-requires : tie.Need-with-stage-requires
-with-stage-requires c κs = search needs
+with-stage-requires c κs = tt
 
 -- src/pass.rt:260:1
 same-length : tie.Need-same-length
-same-length c = search needs
+same-length c = c .before .before .before .before .before .before .before .before .before .before .before .before .before .before .step .kept .1 .0
 
 -- src/pass.rt:260:1
 same-length-2 : tie.Need-same-length-2
-same-length-2 c = search needs
+same-length-2 c = c .before .before .before .before .before .before .before .before .before .before .before .before .before .before .step .kept .1 .1 .0
 
 -- src/pass.rt:260:1
 same-length-3 : tie.Need-same-length-3
-same-length-3 c = search needs
+same-length-3 c = c .before .before .before .before .before .before .before .before .before .before .before .before .before .before .step .kept .1 .1 .1 .0
 
 -- src/pass.rt:260:1
 same-length-4 : tie.Need-same-length-4
-same-length-4 c = search needs
+same-length-4 c = c .before .before .before .before .before .before .before .before .before .before .before .before .before .before .step .kept .1 .1 .1 .1 .0
 
 -- src/pass.rt:260:1
 same-length-5 : tie.Need-same-length-5
-same-length-5 c = search needs
+same-length-5 c = c .before .before .before .before .before .before .before .before .before .before .before .before .before .before .step .kept .1 .1 .1 .1 .1 .0
 
 -- src/pass.rt:260:1
 same-length-6 : tie.Need-same-length-6
-same-length-6 c = search needs
+same-length-6 c = c .before .before .before .before .before .before .before .before .before .before .before .before .before .before .step .kept .1 .1 .1 .1 .1 .1 .0
 
 -- src/pass.rt:260:1
 same-length-7 : tie.Need-same-length-7
-same-length-7 c = search needs
+same-length-7 c = refl
 
 -- src/pass.rt:260:1
 same-length-8 : tie.Need-same-length-8
-same-length-8 c = search needs
+same-length-8 c = refl
 
 -- src/pass.rt:260:1
 same-length-9 : tie.Need-same-length-9
-same-length-9 c = search needs
+same-length-9 c = c .before .before .before .before .before .before .before .before .before .before .before .before .before .before .step .kept .1 .1 .1 .1 .1 .1 .1 .1 .0
 
 -- src/pass.rt:260:1
 returns : tie.Need-returns
@@ -97,11 +98,11 @@ returns c = turned-step _ _ _ (c .before .before .before .before .before .before
 
 -- src/pass.rt:260:1
 same-length-10 : tie.Need-same-length-10
-same-length-10 c = search needs
+same-length-10 c = refl
 
 -- src/pass.rt:260:1
 same-length-11 : tie.Need-same-length-11
-same-length-11 c = search needs
+same-length-11 c = c .before .before .begin-line .kept .1 .1 .1 .0
 
 -- src/pass.rt:260:1
 returns-2 : tie.Need-returns-2
@@ -109,11 +110,11 @@ returns-2 c = turned-line _ _ _ (c .before .before .before .before .before .befo
 
 -- src/pass.rt:260:1
 same-length-12 : tie.Need-same-length-12
-same-length-12 c = search needs
+same-length-12 c = refl
 
 -- src/pass.rt:260:1
 same-length-13 : tie.Need-same-length-13
-same-length-13 c = search needs
+same-length-13 c = refl
 
 -- src/pass.rt:260:1
 returns-3 : tie.Need-returns-3
@@ -121,7 +122,7 @@ returns-3 c = turned-flush _ _ _ (c .before .before .before .before .decide .ens
 
 -- src/pass.rt:260:1
 same-length-14 : tie.Need-same-length-14
-same-length-14 c = search needs
+same-length-14 c = c .before .before .fill .kept .1 .0
 
 -- src/pass.rt:260:1
 returns-4 : tie.Need-returns-4
@@ -129,7 +130,7 @@ returns-4 c = turned-fill _ _ _ (c .before .before .before .before .before .befo
 
 -- src/pass.rt:260:1
 same-length-15 : tie.Need-same-length-15
-same-length-15 c = search needs
+same-length-15 c = refl
 
 -- src/pass.rt:260:1
 returns-5 : tie.Need-returns-5

@@ -5,11 +5,9 @@ use Rattle.script.proofs.parts.least.Lts as lts
 use native.Mathlib.Omega.{arith}
 use borrow.Author.Tests.{lt-ltb, le-ltb}
 
--- src/calling.rt:19:9
 returns : tie.Need-returns
 returns c = (omega arith, omega arith, rw (lt-ltb _ _ (c .if1 .taken)))
 
--- src/calling.rt:15:1
 returns-2 : tie.Need-returns-2
 returns-2 c = (omega arith, omega arith, rw (le-ltb _ _ (c .if1 .left)))
 
