@@ -21,7 +21,7 @@ copy-requires : tie.Need-copy-requires
 copy-requires c κs = search needs
 
 same-length : tie.Need-same-length
-same-length c = search needs
+same-length c = c .before .out .given
 
 returns : tie.Need-returns
 returns c = c .before .before .copy .ensures ∙ rw add-sub-cancel-left

@@ -24,10 +24,10 @@ fill-map-requires c κs =
     omega (arith, d .exact, f)
 
 same-length : tie.Need-same-length
-same-length c = search needs
+same-length c = c .before .map .given
 
 same-length-2 : tie.Need-same-length-2
-same-length-2 c = search needs
+same-length-2 c = c .before .before .before .before .before .before .owner .given
 
 returns : tie.Need-returns
 unfolding makeMap makeOwner

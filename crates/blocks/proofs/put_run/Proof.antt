@@ -24,7 +24,7 @@ copy-requires : tie.Need-copy-requires
 copy-requires c κs = search needs
 
 same-length : tie.Need-same-length
-same-length c = search needs
+same-length c = c .before .disk .given .1
 
 returns : tie.Need-returns
 returns c =

@@ -29,10 +29,10 @@ clear-blocks-requires : tie.Need-clear-blocks-requires
 clear-blocks-requires c κs = search needs
 
 same-length : tie.Need-same-length
-same-length c = search needs
+same-length c = c .before .before .before .before .before .map .given
 
 same-length-2 : tie.Need-same-length-2
-same-length-2 c = search needs
+same-length-2 c = c .before .owner .given
 
 returns : tie.Need-returns
 unfolding releaseMap releaseOwner

@@ -1,6 +1,6 @@
 -- `blocks::reserve` meets its contract. Both parts of the store are changed by what `take_blocks` leaves; a refusal changes nothing.
 use Prim.Native.Nat.{_+_}
-use mathlib.Core.Path.{_≡_, sym, _∙_}
+use mathlib.Core.Path.{refl, _≡_, sym, _∙_}
 use native.Mathlib.Omega.{arith}
 use lib.ListN.{length}
 use Rattle.blocks.specs.FreeMap.{reservedMap}
@@ -29,10 +29,10 @@ take-blocks-requires c κs =
     (d .sizes .words-most, d .room)
 
 same-length : tie.Need-same-length
-same-length c = search needs
+same-length c = c .before .before .before .map .given
 
 same-length-2 : tie.Need-same-length-2
-same-length-2 c = search needs
+same-length-2 c = c .before .owner .given
 
 returns : tie.Need-returns
 unfolding reserveMap reserveOwner
@@ -50,7 +50,7 @@ returns c =
     )
 
 same-length-3 : tie.Need-same-length-3
-same-length-3 c = search needs
+same-length-3 c = refl
 
 returns-2 : tie.Need-returns-2
 unfolding reserveMap reserveOwner

@@ -27,7 +27,7 @@ put-runs-requires c κs =
     (d .sizes .most, d .sizes .bytes, d .room)
 
 same-length : tie.Need-same-length
-same-length c = search needs
+same-length c = c .before .disk .given
 
 returns : tie.Need-returns
 unfolding writeDisk

@@ -1,5 +1,5 @@
 -- `files::append` meets its contract: a law for each path, with the record that was read put for the table's.
-use mathlib.Core.Path.{sym, ap, _∙_}
+use mathlib.Core.Path.{refl, sym, ap, _∙_}
 use lib.ListN.{length}
 use Rattle.blocks.specs.Answers.{windowNumber, writeDisk}
 use Rattle.table.specs.declared.File.{File}
@@ -18,7 +18,7 @@ room-number-requires : tie.Need-room-number-requires
 room-number-requires c κs = search needs
 
 same-length : tie.Need-same-length
-same-length c = search needs
+same-length c = refl
 
 returns : tie.Need-returns
 returns c =
@@ -58,10 +58,10 @@ put-requires : tie.Need-put-requires
 put-requires c κs = search needs
 
 same-length-2 : tie.Need-same-length-2
-same-length-2 c = search needs
+same-length-2 c = c .before .before .before .before .before .before .before .disk .given
 
 same-length-3 : tie.Need-same-length-3
-same-length-3 c = search needs
+same-length-3 c = c .before .table .given
 
 returns-2 : tie.Need-returns-2
 returns-2 c =
@@ -76,10 +76,10 @@ returns-2 c =
     append-done (a .disk .now) (a .owner .now) (a .table .now) (a .place) (a .bytes .now) _ _ _ z n (c .before .before .before .before .before .if2 .taken) d t
 
 same-length-4 : tie.Need-same-length-4
-same-length-4 c = search needs
+same-length-4 c = c .before .before .disk .given
 
 same-length-5 : tie.Need-same-length-5
-same-length-5 c = search needs
+same-length-5 c = refl
 
 returns-3 : tie.Need-returns-3
 returns-3 c =

@@ -26,13 +26,13 @@ returns c =
     sym (ap (λ (g : Given). beginWith g (a .size) (a .map .now) (a .owner .now) (a .table .now)) e)
 
 same-length : tie.Need-same-length
-same-length c = search needs
+same-length c = c .before .before .before .before .before .map .given
 
 same-length-2 : tie.Need-same-length-2
-same-length-2 c = search needs
+same-length-2 c = c .before .before .before .owner .given
 
 same-length-3 : tie.Need-same-length-3
-same-length-3 c = search needs
+same-length-3 c = c .before .table .given
 
 returns-2 : tie.Need-returns-2
 unfolding beginWith

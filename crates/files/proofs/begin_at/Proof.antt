@@ -23,13 +23,13 @@ put-requires : tie.Need-put-requires
 put-requires c κs = search needs
 
 same-length : tie.Need-same-length
-same-length c = search needs
+same-length c = c .before .before .before .before .before .before .before .before .map .given
 
 same-length-2 : tie.Need-same-length-2
-same-length-2 c = search needs
+same-length-2 c = c .before .before .before .before .before .before .owner .given
 
 same-length-3 : tie.Need-same-length-3
-same-length-3 c = search needs
+same-length-3 c = c .before .table .given
 
 returns-2 : tie.Need-returns-2
 returns-2 c =
@@ -38,10 +38,10 @@ returns-2 c =
     begin-started (a .map .now) (a .owner .now) (a .table .now) (a .place) (a .number) (a .size) _ _ _ _ (c .before .before .before .before .before .before .before .before .before .before .blocks-for .ensures) (sym (e .0) ∙ c .before .before .before .before .if2 .taken) (e .1 .0) (e .1 .1) (c .before .before .put .ensures .1)
 
 same-length-4 : tie.Need-same-length-4
-same-length-4 c = search needs
+same-length-4 c = c .before .before .before .before .map .given
 
 same-length-5 : tie.Need-same-length-5
-same-length-5 c = search needs
+same-length-5 c = c .before .before .owner .given
 
 returns-3 : tie.Need-returns-3
 returns-3 c =

@@ -1,5 +1,5 @@
 -- `files::begin_in` meets its contract: by the place that `free_place` finds.
-use mathlib.Core.Path.{sym, ap, _∙_}
+use mathlib.Core.Path.{refl, sym, ap, _∙_}
 use Rattle.table.specs.declared.Found.{Found}
 use Rattle.files.specs.Uploads.{beginIn}
 use borrow.Author.Needs.{needs}
@@ -19,7 +19,7 @@ begin-at-requires : tie.Need-begin-at-requires
 begin-at-requires c κs = search needs
 
 same-length : tie.Need-same-length
-same-length c = search needs
+same-length c = refl
 
 returns : tie.Need-returns
 unfolding beginIn
@@ -29,13 +29,13 @@ returns c =
     sym (ap (λ (f : Found). beginIn f (a .number) (a .size) (a .map .now) (a .owner .now) (a .table .now)) e)
 
 same-length-2 : tie.Need-same-length-2
-same-length-2 c = search needs
+same-length-2 c = c .before .before .before .before .before .map .given
 
 same-length-3 : tie.Need-same-length-3
-same-length-3 c = search needs
+same-length-3 c = c .before .before .before .owner .given
 
 same-length-4 : tie.Need-same-length-4
-same-length-4 c = search needs
+same-length-4 c = c .before .table .given
 
 returns-2 : tie.Need-returns-2
 unfolding beginIn

@@ -1,5 +1,5 @@
 -- `files::discard` meets its contract: a law for each path.
-use mathlib.Core.Path.{sym, ap, _∙_}
+use mathlib.Core.Path.{refl, sym, ap, _∙_}
 use Rattle.files.specs.Uploads.{placeNumber}
 use Rattle.files.proofs.Calls.{place-is, discard-early, discard-refused, discard-done}
 use native.Mathlib.Omega.{arith}
@@ -14,7 +14,7 @@ place-number-requires : tie.Need-place-number-requires
 place-number-requires c κs = search needs
 
 same-length : tie.Need-same-length
-same-length c = search needs
+same-length c = refl
 
 returns : tie.Need-returns
 returns c =
@@ -33,13 +33,13 @@ put-requires : tie.Need-put-requires
 put-requires c κs = search needs
 
 same-length-2 : tie.Need-same-length-2
-same-length-2 c = search needs
+same-length-2 c = c .before .before .before .before .before .before .before .before .map .given
 
 same-length-3 : tie.Need-same-length-3
-same-length-3 c = search needs
+same-length-3 c = c .before .before .before .before .before .before .owner .given
 
 same-length-4 : tie.Need-same-length-4
-same-length-4 c = search needs
+same-length-4 c = c .before .table .given
 
 returns-2 : tie.Need-returns-2
 returns-2 c =
@@ -49,13 +49,13 @@ returns-2 c =
     discard-done (a .map .now) (a .owner .now) (a .table .now) (a .place) _ _ _ _ (sym r ∙ c .before .before .before .before .before .before .before .before .before .before .before .before .if1 .left) (e .0) (c .before .before .before .before .if2 .taken) (e .1 .0) (e .1 .1) (c .before .before .put .ensures .1)
 
 same-length-5 : tie.Need-same-length-5
-same-length-5 c = search needs
+same-length-5 c = c .before .before .before .before .map .given
 
 same-length-6 : tie.Need-same-length-6
-same-length-6 c = search needs
+same-length-6 c = c .before .before .owner .given
 
 same-length-7 : tie.Need-same-length-7
-same-length-7 c = search needs
+same-length-7 c = refl
 
 returns-3 : tie.Need-returns-3
 returns-3 c =

@@ -42,7 +42,7 @@ choose-requires c κs =
     (part-take (s .result .count) (s .last .1 .1 .1 .0) ∙ s .ensures .1 z .1, omega (arith, cleared-length (a .selected .now) (a .most) h, ap length (c .before .before .before .before .before .clear .ensures)))
 
 same-length : tie.Need-same-length
-same-length c = search needs
+same-length c = c .before .selected2 .given ∙ c .before .before .before .before .before .before .before .selected .given
 
 returns : tie.Need-returns
 returns c =

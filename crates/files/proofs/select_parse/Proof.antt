@@ -28,7 +28,7 @@ parse-requires : tie.Need-parse-requires
 parse-requires c κs = search needs
 
 same-length : tie.Need-same-length
-same-length c = search needs
+same-length c = c .before .steps .given
 
 returns-5 : tie.Need-returns-5
 unfolding selectNumber

@@ -1,5 +1,5 @@
 -- `stored::set_fields` meets its contract. Each answer follows from the tests that led to it.
-use mathlib.Core.Path.{sym, _∙_}
+use mathlib.Core.Path.{refl, sym, _∙_}
 use Prim.Native.Nat.{_+_}
 use native.Mathlib.Omega.{arith}
 use lib.ListN.{length}
@@ -45,7 +45,7 @@ write-fields-requires c κs =
     (omega (arith, h .before .before .before .block-count .ensures)) (h .header-at .result) (h .header-at .ensures) (c .before .if3 .taken)
 
 same-length : tie.Need-same-length
-same-length c = search needs
+same-length c = c .before .disk .given
 
 returns-2 : tie.Need-returns-2
 returns-2 c =
@@ -56,7 +56,7 @@ returns-2 c =
     (omega (arith, h .before .before .before .block-count .ensures)) (h .header-at .result) (h .header-at .ensures) (c .before .before .before .before .if3 .taken) _ (c .before .before .write-fields .ensures)
 
 same-length-2 : tie.Need-same-length-2
-same-length-2 c = search needs
+same-length-2 c = refl
 
 returns-3 : tie.Need-returns-3
 returns-3 c =

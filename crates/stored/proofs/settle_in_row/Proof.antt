@@ -41,10 +41,10 @@ settle-laid-requires c κs =
     part-lies (a .place + 1) (a .owner .now) (a .disk .now) _ (f .result) (a .received) (n .result) (f .ensures) (p .0) (p .1) (n .ensures .0) (n .ensures .1) (n .ensures .2)
 
 same-length : tie.Need-same-length
-same-length c = search needs
+same-length c = c .before .before .before .before .before .before .before .before .row .given
 
 same-length-2 : tie.Need-same-length-2
-same-length-2 c = search needs
+same-length-2 c = c .before .truths .given
 
 returns : tie.Need-returns
 returns c =

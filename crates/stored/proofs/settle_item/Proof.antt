@@ -24,7 +24,7 @@ settle-window-requires : tie.Need-settle-window-requires
 settle-window-requires c κs = search needs
 
 same-length : tie.Need-same-length
-same-length c = search needs
+same-length c = c .before .truths .given
 
 returns : tie.Need-returns
 returns c =

@@ -18,7 +18,7 @@ settle-items-requires : tie.Need-settle-items-requires
 settle-items-requires c κs = search needs
 
 same-length : tie.Need-same-length
-same-length c = search needs
+same-length c = c .before .truths .given
 
 returns-2 : tie.Need-returns-2
 returns-2 c =

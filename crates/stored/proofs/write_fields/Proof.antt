@@ -37,7 +37,7 @@ write-sum-requires : tie.Need-write-sum-requires
 write-sum-requires c κs = search needs
 
 same-length : tie.Need-same-length
-same-length c = search needs
+same-length c = c .before .disk4 .given ∙ c .before .before .before .before .before .before .before .disk3 .given ∙ c .before .before .before .before .before .before .before .before .before .before .before .disk2 .given ∙ c .before .before .before .before .before .before .before .before .before .before .before .before .before .before .before .disk .given
 
 returns : tie.Need-returns
 returns c =

@@ -29,7 +29,7 @@ reply-only-requires-2 : tie.Need-reply-only-requires-2
 reply-only-requires-2 c κs = search needs
 
 same-length : tie.Need-same-length
-same-length c = search needs
+same-length c = c .before .before .before .before .selected .given
 
 returns-2 : tie.Need-returns-2
 unfolding selectTurn selectedAs
@@ -42,7 +42,7 @@ reply-only-requires-3 : tie.Need-reply-only-requires-3
 reply-only-requires-3 c κs = search needs
 
 same-length-2 : tie.Need-same-length-2
-same-length-2 c = search needs
+same-length-2 c = c .before .before .before .before .before .selected .given
 
 returns-3 : tie.Need-returns-3
 unfolding selectTurn selectedAs

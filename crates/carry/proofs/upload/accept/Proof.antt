@@ -15,10 +15,10 @@ uplink-only-requires : tie.Need-uplink-only-requires
 uplink-only-requires c κs = search needs
 
 same-length : tie.Need-same-length
-same-length c = search needs
+same-length c = c .before .before .before .before .before .disk .given
 
 same-length-2 : tie.Need-same-length-2
-same-length-2 c = search needs
+same-length-2 c = c .before .before .before .table .given
 
 returns : tie.Need-returns
 unfolding acceptTurn acceptedAs
@@ -28,10 +28,10 @@ uplink-only-requires-2 : tie.Need-uplink-only-requires-2
 uplink-only-requires-2 c κs = search needs
 
 same-length-3 : tie.Need-same-length-3
-same-length-3 c = search needs
+same-length-3 c = c .before .before .before .before .before .disk .given
 
 same-length-4 : tie.Need-same-length-4
-same-length-4 c = search needs
+same-length-4 c = c .before .before .before .table .given
 
 returns-2 : tie.Need-returns-2
 unfolding acceptTurn acceptedAs
