@@ -1,0 +1,5 @@
+pub mod Change
+pub mod Sound
+pub mod Naming
+pub mod Cut
+pub mod Neighbour
