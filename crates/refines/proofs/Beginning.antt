@@ -39,11 +39,11 @@ use Rattle.model.specs.State as model
 use Rattle.model.specs.State.{File, file, inSession, Turn, turn}
 use Rattle.model.specs.Files.{find, free}
 use Rattle.model.specs.Uplink.{uploadNew, uploadContinued, onUploadCmd}
-use Rattle.refines.proofs.Views.{facts}
+use Rattle.views.proofs.Views.{facts}
 use Rattle.refines.proofs.Turns.{parts, turnView, set-mk}
-use Rattle.refines.proofs.Stores as stores
-use Rattle.refines.proofs.Counting.{free-is, places-full, places-left}
-use Rattle.refines.proofs.Bytes as bytes
+use Rattle.views.proofs.Stores as stores
+use Rattle.views.proofs.Counting.{free-is, places-full, places-left}
+use Rattle.views.proofs.Bytes as bytes
 use Rattle.refines.proofs.Packets.{Here, fs, sel, s0, k0, M, does, on, stays, tells}
 use Rattle.refines.proofs.Uplink.{moved, down-stays, link-up}
 use Rattle.refines.proofs.Uploads.{continues}

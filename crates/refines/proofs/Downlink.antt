@@ -36,10 +36,10 @@ use Rattle.model.specs.State as model
 use Rattle.model.specs.State.{File, sending, inSession, turn}
 use Rattle.model.specs.Files.{find}
 use Rattle.model.specs.Downlink.{destinationsIn, downloadOf, downloadNumbered, onDownloadCmd, fewerDestinations, onDlAckCmd, onDlNakCmd}
-use Rattle.refines.specs.View.{fileIn, downOf}
-use Rattle.refines.proofs.Views.{facts, find-view, found-at}
+use Rattle.views.specs.View.{fileIn, downOf}
+use Rattle.views.proofs.Views.{facts, find-view, found-at}
 use Rattle.refines.proofs.Turns.{parts, turnView}
-use Rattle.refines.proofs.Bytes as bytes
+use Rattle.views.proofs.Bytes as bytes
 use Rattle.refines.proofs.Packets.{Here, F, fs, sel, s0, k0, M, does, on, moves, stays, tells, ignores, closes-all}
 
 module _ (c : Here) where

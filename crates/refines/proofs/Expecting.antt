@@ -13,7 +13,7 @@ use Rattle.session.specs.Expected.{takesData, takesUpload, takesCommand, takesA
 use Rattle.history.specs.Change.{Files}
 use Rattle.model.specs.State.{Turn}
 use Rattle.model.specs.Step.{ifNoUpload, ifNoDownload}
-use Rattle.refines.specs.View.{upOf, downOf}
+use Rattle.views.specs.View.{upOf, downOf}
 
 upload-taken : (F : Files) (u : Uplink) (x y : Turn) → ifNoUpload (upOf F u) x y ≡ cond (takesUpload u) x y
 upload-taken F up.Idle x y = refl

@@ -15,7 +15,7 @@ use Rattle.packet.specs.Machine.{Step, more, ends, Call, call, called}
 use Rattle.packet.specs.Frame.{Held, Event, packet, too-long, none-held, announcedIn, packetIn, judged, byte}
 use Rattle.links.proofs.Facts.{Unfinished}
 use Rattle.model.specs.Step.{endsIn}
-use Rattle.refines.proofs.Bytes.{front-read}
+use Rattle.views.proofs.Bytes.{front-read}
 
 -- the bytes that an event takes
 abbrev pub usedBy : Event → ℕ

@@ -23,8 +23,8 @@ use Rattle.history.specs.Good.{Good}
 use Rattle.history.specs.Stored.{filesOf}
 use Rattle.model.specs.State as model
 use Rattle.model.specs.State.{Model, inSession, Turn, turn, closing}
-use Rattle.refines.specs.View.{openFrom, view}
-use Rattle.refines.proofs.Views.{open-from, open-view}
+use Rattle.views.specs.View.{openFrom, view}
+use Rattle.views.proofs.Views.{open-from, open-view}
 use Rattle.refines.proofs.Turns.{mk, parts, turnView, set-mk, with-mk}
 
 -- a good state in which a packet of an open session is whole: `part` is the session's part of the unfinished packets, of which it holds no byte

@@ -22,8 +22,9 @@ use Rattle.history.proofs.Sessions.{part-stays, packet-stays}
 use Rattle.model.specs.State as model
 use Rattle.model.specs.State.{Model, Stepped, stepped, lost}
 use Rattle.model.specs.Step.{refusal, unless, step}
-use Rattle.refines.specs.View.{view, Refines}
-use Rattle.refines.proofs.Views.{facts, byRefusal, Through, check-is, through, link-moved}
+use Rattle.views.specs.View.{view}
+use Rattle.refines.specs.Refines.{Refines}
+use Rattle.views.proofs.Views.{facts, byRefusal, Through, check-is, through, link-moved}
 
 pub told-room : (r : Reply) (taken : ℕ) (out : List ℕ) → 258 ≤ length out → answered r taken out ≡ tell r taken out
 unfolding answered

@@ -48,8 +48,9 @@ use Rattle.model.specs.State.{Model, inSession, Turn, turn, Stepped, stepped, c
 use Rattle.model.specs.Uplink.{onUploadCmd, onData, onDataEnd}
 use Rattle.model.specs.Downlink.{onDownloadCmd, onDlAckCmd, onDlNakCmd, onDirCmd, onSelectCmd}
 use Rattle.model.specs.Step.{byType, onPacket, endsIn, onEvent, refusal, step}
-use Rattle.refines.specs.View.{upOf, downOf, openFrom, sessionFrom, view, Refines}
-use Rattle.refines.proofs.Views.{facts, check-is, through, open-from, open-view}
+use Rattle.views.specs.View.{upOf, downOf, openFrom, sessionFrom, view}
+use Rattle.refines.specs.Refines.{Refines}
+use Rattle.views.proofs.Views.{facts, check-is, through, open-from, open-view}
 use Rattle.refines.proofs.Plain.{told-room, seen, refined, by-check}
 use Rattle.refines.proofs.Turns.{mk, parts, turnView, turned, turn-view, link-mk}
 use Rattle.refines.proofs.Packets.{Here, F, fs, sel, s0, k0, M, M-is, does, on, tells, closes-all}

@@ -37,10 +37,11 @@ use Rattle.model.specs.State as model
 use Rattle.model.specs.State.{File, inSession, Stepped, stepped}
 use Rattle.model.specs.Downlink.{dataDue, onRequest}
 use Rattle.model.specs.Step.{refusal, step}
-use Rattle.refines.specs.View.{fileOf, downOf, view, Refines}
-use Rattle.refines.proofs.Views.{facts, Through, check-is, through, open-view, state-moved, view-stays, found-at}
+use Rattle.views.specs.View.{fileOf, downOf, view}
+use Rattle.refines.specs.Refines.{Refines}
+use Rattle.views.proofs.Views.{facts, Through, check-is, through, open-view, state-moved, view-stays, found-at}
 use Rattle.refines.proofs.Plain.{told-room, refined, by-check}
-use Rattle.refines.proofs.Bytes as bytes
+use Rattle.views.proofs.Bytes as bytes
 
 module _ (sv : Server) (l : Lent) (g : Good sv l) (i : ℕ) (inside : i < sv .sessions) (linked : linkOf sv i .linked ≡ true) where
   abbrev F : Files

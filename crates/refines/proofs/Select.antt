@@ -46,12 +46,12 @@ use Rattle.model.specs.State as model
 use Rattle.model.specs.State.{File, inSession, turn}
 use Rattle.model.specs.Files.{matching, byTime, selection}
 use Rattle.model.specs.Downlink.{onSelectCmd}
-use Rattle.refines.specs.View.{fileOf, fileIn, numbered, view}
-use Rattle.refines.proofs.Views.{facts, numbered-own, open-from}
+use Rattle.views.specs.View.{fileOf, fileIn, numbered, view}
+use Rattle.views.proofs.Views.{facts, numbered-own, open-from}
 use Rattle.refines.proofs.Turns.{mk, parts, turnView, set-mk}
-use Rattle.refines.proofs.Stores as stores
-use Rattle.refines.proofs.Bytes as bytes
-use Rattle.refines.proofs.Order as order
+use Rattle.views.proofs.Stores as stores
+use Rattle.views.proofs.Bytes as bytes
+use Rattle.views.proofs.Order as order
 use Rattle.refines.proofs.Packets.{Here, F, fs, sel, s0, k0, M, does, stays}
 
 -- both layers' test of an answer

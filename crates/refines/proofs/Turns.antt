@@ -31,9 +31,10 @@ use Rattle.history.proofs.Sessions.{part-stays, part-own, apart-both}
 use Rattle.history.proofs.Leaves.{memOf, backIn, stored-parts}
 use Rattle.model.specs.State as model
 use Rattle.model.specs.State.{File, Model, inSession, Turn, turn}
-use Rattle.refines.specs.View.{fileIn, listed, upOf, downOf, openFrom, sessionFrom, sessionOf, each, view}
-use Rattle.refines.proofs.Lists.{each-set, each-length}
-use Rattle.refines.proofs.Views.{facts, four}
+use Rattle.views.specs.View.{fileIn, listed, upOf, downOf, openFrom, sessionFrom, sessionOf, each, view}
+use Rattle.views.proofs.Lists.{each-set, each-length}
+use Rattle.views.proofs.Views.{facts, four}
+use Rattle.views.proofs.Stores.{filesBy}
 
 -- ---- a session in two stores
 
@@ -61,10 +62,6 @@ link-same F G selected held s h = go (s .linked) h
     go false h = refl
 
 -- ---- the view of a turn
-
--- the files of a store
-abbrev pub filesBy : Mem → ℕ → List File
-filesBy m last = listed last (λ n. fileIn (filesIn m) (findOf (files (m .table)) n))
 
 module _ (sv : Server) (l : Lent) (i : ℕ) where
   -- the view with another last number and time, other files, and another session i

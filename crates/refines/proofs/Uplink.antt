@@ -43,11 +43,12 @@ use Rattle.model.specs.State as model
 use Rattle.model.specs.State.{File, file, withFiles, inSession, Turn, turn}
 use Rattle.model.specs.Files.{find, changed, without}
 use Rattle.model.specs.Uplink.{discarded, grown, dataTo, onData, timeAt, completed, dataEndTo, onDataEnd}
-use Rattle.refines.specs.View.{fileOf, upOf, downOf, openFrom}
-use Rattle.refines.proofs.Views.{facts, found-at, open-from}
-use Rattle.refines.proofs.Turns.{mk, parts, turnView, filesBy, down-same, set-mk}
-use Rattle.refines.proofs.Stores as stores
-use Rattle.refines.proofs.Bytes as bytes
+use Rattle.views.specs.View.{fileOf, upOf, downOf, openFrom}
+use Rattle.views.proofs.Views.{facts, found-at, open-from}
+use Rattle.views.proofs.Stores.{filesBy}
+use Rattle.refines.proofs.Turns.{mk, parts, turnView, down-same, set-mk}
+use Rattle.views.proofs.Stores as stores
+use Rattle.views.proofs.Bytes as bytes
 use Rattle.refines.proofs.Packets.{Here, F, fs, sel, s0, k0, M, does, on, moves, ignores, closes-all}
 
 module _ (c : Here) where

@@ -28,9 +28,9 @@ use Rattle.model.specs.State as model
 use Rattle.model.specs.State.{File, inSession, turn}
 use Rattle.model.specs.Files.{find, receives, uploading}
 use Rattle.model.specs.Uplink.{uploadContinued}
-use Rattle.refines.specs.View.{fileIn, upOf, openFrom, sessionFrom, sessionOf, each}
-use Rattle.refines.proofs.Views.{facts, find-view, open-view}
-use Rattle.refines.proofs.Bytes as bytes
+use Rattle.views.specs.View.{fileIn, upOf, openFrom, sessionFrom, sessionOf, each}
+use Rattle.views.proofs.Views.{facts, find-view, open-view}
+use Rattle.views.proofs.Bytes as bytes
 use Rattle.refines.proofs.Packets.{Here, F, fs, s0, k0, M, does, on, moves, tells}
 
 -- ---- one of the first n numbers passes a test

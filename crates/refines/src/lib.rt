@@ -1,2 +1,2 @@
-// The server of crates/server is the machine of crates/model: what a state stands for (`view`), and that each call answers and leaves what a step of
-// the machine does. Definitions and theorems only; there is no code here.
+// The server of crates/server is the machine of crates/model: each call answers and leaves what a step of the machine does, by the view of crates/views.
+// Definitions and theorems only; there is no code here.

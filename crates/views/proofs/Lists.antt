@@ -11,7 +11,7 @@ use lib.ListN.{length, getD, set}
 use Rattle.model.specs.State as model
 use Rattle.model.specs.State.{File}
 use Rattle.model.specs.Files.{find, changed, without}
-use Rattle.refines.specs.View.{entry, listed, each}
+use Rattle.views.specs.View.{entry, listed, each}
 
 -- ---- sessions
 

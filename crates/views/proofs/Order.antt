@@ -15,8 +15,8 @@ use Rattle.table.specs.Order as table
 use Rattle.files.specs.Selection.{passing}
 use Rattle.model.specs.State.{File}
 use Rattle.model.specs.Files.{find, matching, placed, byTime}
-use Rattle.refines.specs.View.{entry, listed}
-use Rattle.refines.proofs.Lists.{Own, find-listed}
+use Rattle.views.specs.View.{entry, listed}
+use Rattle.views.proofs.Lists.{Own, find-listed}
 
 abbrev pub In : File → List File → Type 0
 In f fs = List·Memᴰ f fs

@@ -29,8 +29,8 @@ use Rattle.model.specs.State as model
 use Rattle.model.specs.State.{File, inSession}
 use Rattle.model.specs.Files.{find}
 use Rattle.model.specs.Step.{refusal}
-use Rattle.refines.specs.View.{fileOf, fileIn, numbered, openFrom, sessionFrom, sessionOf, each, view}
-use Rattle.refines.proofs.Lists.{Own, find-any, each-length, each-at, each-set}
+use Rattle.views.specs.View.{fileOf, fileIn, numbered, openFrom, sessionFrom, sessionOf, each, view}
+use Rattle.views.proofs.Lists.{Own, find-any, each-length, each-at, each-set}
 
 clash : {A : Type 0} {x : A} → none ≡ some x → ⊥
 clash e = let z : _≡_ {A = ℕ} 0 1 = cc in omega arith

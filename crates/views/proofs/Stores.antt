@@ -14,9 +14,12 @@ use Rattle.carry.specs.Turn.{Mem}
 use Rattle.history.proofs.Interface.{filesIn}
 use Rattle.model.specs.State.{File}
 use Rattle.model.specs.Files.{changed, without}
-use Rattle.refines.specs.View.{fileOf, fileIn, listed, entry}
-use Rattle.refines.proofs.Lists.{Own, listed-same, listed-changed, listed-without}
-use Rattle.refines.proofs.Turns.{filesBy}
+use Rattle.views.specs.View.{fileOf, fileIn, listed, entry}
+use Rattle.views.proofs.Lists.{Own, listed-same, listed-changed, listed-without}
+
+-- the files of a store
+abbrev pub filesBy : Mem → ℕ → List File
+filesBy m last = listed last (λ n. fileIn (filesIn m) (findOf (files (m .table)) n))
 
 -- the file with a number in a store
 abbrev pub byNumber : Mem → ℕ → Option File

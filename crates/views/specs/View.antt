@@ -1,9 +1,9 @@
--- What a state of the server stands for in the machine of crates/model, and the statement that each call is a step of it. Assumes nothing.
+-- What a state of the server stands for in the machine of crates/model. Assumes nothing.
 use mathlib.Core.Path.{_≡_}
 use mathlib.Core.Bool.{true, cond}
 use mathlib.Core.List.{List, [], _∷_, _++_}
 use mathlib.Core.Option.{Option, none, some}
-use Prim.Native.Nat.{ℕ, zero, suc, _+_, _*_}
+use Prim.Native.Nat.{ℕ, zero, suc, _+_, _*_, _-_}
 use lib.ListN.{take}
 use Rattle.session.specs.declared.state.Session.{Session}
 use Rattle.session.specs.declared.state.Uplink.{Uplink}
@@ -96,24 +96,3 @@ view sv l =
       files = listed (sv .last .number) (numbered sv l);
       sessions = each (sv .sessions) (sessionOf sv l);
     }
-
--- ---- THE STATEMENTS
-
--- a call answers, sends and leaves what the machine does
-pub record Refines (sv : Server) (l : Lent) (c : Call) : Type 0 where
-  pub told : told (callOf sv l c .done .answer) (callOf sv l c .out) ≡ step (view sv l) c .told
-  pub after : view (callOf sv l c .done .server) (callOf sv l c .lent) ≡ step (view sv l) c .after
-
-abbrev pub EveryCall : Type 0
-EveryCall = (sv : Server) (l : Lent) → Good sv l → (c : Call) → Refines sv l c
-
--- the machine after calls
-unfoldable pub run : Model → History → Model
-run m start = m
-run m (h ▸ c) = step (run m h) c .after
-
--- after any calls from an empty store, the state stands for the machine after the same calls from its empty store
-abbrev pub EveryHistory : Type 0
-EveryHistory =
-    (s : Start) → legal s ≡ true → (h : History)
-    → view (after s h .server) (after s h .lent) ≡ run (empty (s .blocks) (s .files) (s .sessions) (s .most)) h

@@ -32,8 +32,8 @@ use Rattle.history.specs.Good.{Good}
 use Rattle.history.specs.Stored.{filesOf}
 use Rattle.model.specs.State.{File}
 use Rattle.model.specs.Files.{reserved, free}
-use Rattle.refines.specs.View.{fileIn, numbered, entry, listed, view}
-use Rattle.refines.proofs.Views.{facts}
+use Rattle.views.specs.View.{fileIn, numbered, entry, listed, view}
+use Rattle.views.proofs.Views.{facts}
 
 -- ---- sums (those of crates/demands/proofs/Lists.antt)
 
