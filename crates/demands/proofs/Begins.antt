@@ -5,12 +5,14 @@ use mathlib.Core.List.{List}
 use mathlib.Core.Option.{none, some}
 use Prim.Native.Nat.{ℕ, _-_, _*_, _≤_, _<_}
 use native.Mathlib.Omega.{arith}
-use borrow.Author.Tests.{eqb-true, eqb-false}
+use borrow.Author.Tests.{eqb-true, eqb-false, eq-eqb}
 use lib.Dec.{eqb, ltb}
 use lib.ListN.{length, drop}
 use lib.Seq.{getD-set-same}
+use Rattle.packet.specs.declared.frame.Frame.the-variants.{Whole}
 use Rattle.packet.specs.Machine.{Call}
 use Rattle.packet.specs.Frame.{Held, Event, packet, none-held, padded, answerBy}
+use Rattle.packet.proofs.FrameLaws.{padded-length}
 use Rattle.session.specs.declared.state.Session.{Session}
 use Rattle.session.specs.declared.state.Downlink.the-variants as down
 use Rattle.session.specs.declared.reply.Reply.{Reply}
@@ -26,21 +28,21 @@ use Rattle.table.specs.Table.{files, fileAt, findOf}
 use Rattle.table.proofs.Finding.{find-found, find-number}
 use Rattle.links.proofs.Facts.{CompleteAt}
 use Rattle.carry.specs.declared.turn.Turn.{Turn}
-use Rattle.carry.specs.Turn.{turnOf, mem}
+use Rattle.carry.specs.Turn.{Mem, turnOf, mem}
 use Rattle.carry.specs.Download as download
 use Rattle.carry.specs.Carry.{onChooses, carryOut}
 use Rattle.files.specs.View.{View}
 use Rattle.files.specs.Completion.{destinationsAt}
 use Rattle.decide.specs.Words.{wordAt}
 use Rattle.decide.specs.Downlink.{onFound, onNumbered, onDownload, onDownlink}
-use Rattle.decide.specs.Decide.{onPacket}
+use Rattle.decide.specs.Decide.{onPacket, onFrame, decideOf}
 use Rattle.decide.specs.declared.act.Act.{Act}
 use Rattle.server.specs.declared.Server.{Server}
 use Rattle.server.specs.declared.check.Check.{Check}
 use Rattle.server.specs.declared.check.Check.the-variants.{Go, Refuse}
 use Rattle.server.specs.State.{Lent, Outcome, linkOf, ownerPart, tablePart, part}
 use Rattle.server.specs.Check.{checkOf}
-use Rattle.server.specs.Turns.{sizeIn, putBack, actOf}
+use Rattle.server.specs.Turns.{partsOf, sizeIn, putBack, actOf}
 use Rattle.server.specs.Calls.{onCheck, receiveOf}
 use Rattle.history.specs.Calls.{receive, History, _▸_, after}
 use Rattle.history.specs.Stored.{filesOf}
@@ -52,8 +54,7 @@ use Rattle.demands.proofs.Checks.{Through, check-through}
 use Rattle.demands.proofs.Hearing.{Ended, Hears, unended, ended}
 use Rattle.demands.proofs.Receiving as steps
 use Rattle.demands.proofs.Answered.{refused-call}
-use Rattle.demands.proofs.Informed as informed
-use Rattle.demands.proofs.Replies as replies
+use Rattle.views.proofs.Bytes.{word-padded}
 use Rattle.demands.proofs.Theorems.{contents}
 use Rattle.demands.proofs.Downloads.{kept, complete, download-brings}
 
@@ -83,8 +84,12 @@ module _ (sv : Server) (l : Lent) (i clock : ℕ) (info : List ℕ) where
   abbrev selected : List ℕ
   selected = part (i * sv .most) (sv .most) (l .selected)
 
+  -- the store and the session's selection, as an act is handed them
+  abbrev handed : Mem
+  handed = partsOf sv i (mem (l .disk) (l .map) (l .owner) (l .table) (l .selected))
+
   abbrev turnBy : Act → Turn
-  turnBy a = carryOut a own (sv .last) clock (sv .most) (length info) (padded info) (informed.handed sv l i clock info) .turn
+  turnBy a = carryOut a own (sv .last) clock (sv .most) (length info) (padded info) handed .turn
 
   -- the session is to be sent the file of a number from an offset on
   record Sends (number offset : ℕ) (t : Turn) : Type 0 where
@@ -146,7 +151,7 @@ module _ (sv : Server) (l : Lent) (i clock : ℕ) (info : List ℕ) where
       same (eqb (length info) 9) _ (wordAt info 4) _ _
       (λ q.
       let n = eqb-true (length info) 9 q in
-      rw (informed.word-padded info 0 (omega arith), informed.word-padded info 4 (omega arith))
+      rw (word-padded info 0 (omega arith), word-padded info 4 (omega arith))
       (either (eqb (wordAt info 0) 0) _ _ (wordAt info 4) _ _
       (λ _.
       same (ltb (linkOf sv i .next) (linkOf sv i .count)) _ (wordAt info 4) _ _ (λ _. found-begins _ _ (wordAt info 4) _ _ refl)
@@ -186,13 +191,21 @@ module _ (sv : Server) (l : Lent) (session clock taken : ℕ) (input out : List 
       (onPacket (withHeld (linkOf sv i) 0) (sv .links) 8 (length info) (padded info) (files (tablePart sv l))
       (part (i * sv .most) (sv .most) (l .selected)))
 
+  -- the frame is whole
+  decided : decideOf (withHeld (linkOf sv i) 0) (sv .links) (Whole 8 (length info)) (padded info) (files (tablePart sv l))
+      (part (i * sv .most) (sv .most) (l .selected))
+      ≡ onPacket (withHeld (linkOf sv i) 0) (sv .links) 8 (length info) (padded info) (files (tablePart sv l))
+      (part (i * sv .most) (sv .most) (l .selected))
+  unfolding decideOf onFrame
+  decided = rw (eq-eqb (length (padded info)) 256 (padded-length info short))
+
   acted : (n : ℕ)
       → actOf sv i (withHeld (linkOf sv i) 0) (answerBy n none-held (some (packet 8 info)) .frame) clock
       (answerBy n none-held (some (packet 8 info)) .info) (mem (l .disk) (l .map) (l .owner) (l .table) (l .selected))
       .turn
       ≡ downloads
   unfolding actOf putBack answerBy sizeIn
-  acted n = ap (turnBy sv l i clock info) (replies.decided sv l session clock input out i t 8 info short)
+  acted n = ap (turnBy sv l i clock info) decided
 
   turn-is : steps.turnAt sv l session clock input out i t heard .turn ≡ downloads
   unfolding steps.turnAt

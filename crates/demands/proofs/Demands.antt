@@ -3,7 +3,6 @@ use Rattle.paging.proofs.Examples.{examples}
 use Rattle.paging.proofs.Paging.{page-answered, paging, paging-whole}
 use Rattle.demands.specs.Demands.{Demands}
 use Rattle.demands.proofs.Demand1.{demand-1}
-use Rattle.demands.proofs.Unique.{calls-determined}
 use Rattle.demands.proofs.Demand2.{demand-2}
 use Rattle.demands.proofs.Whole.{demand-3}
 use Rattle.demands.proofs.Downloads.{from-pupil-to-pupil}
@@ -13,7 +12,6 @@ pub demands : Demands
 demands =
     record {
       every-answer = demand-1;
-      determined = calls-determined;
       real-answers = demand-2;
       sound-store = demand-3;
       pupil-to-pupil = from-pupil-to-pupil;

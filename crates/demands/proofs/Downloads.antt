@@ -36,14 +36,16 @@ use Rattle.paging.proofs.Growth.{complete-kept}
 use Rattle.demands.specs.Parts.{sessionIn}
 use Rattle.demands.specs.Events.{sentBy, typeOf}
 use Rattle.demands.specs.Demand3.{serverAt, lentAt, filesAt, sentAt}
-use Rattle.demands.specs.Downloads.{toRequest, isRequest, requestOrOther, requestsOnly, sentTo, dataIn, dataTo, endTo, asksIn, asks}
+use Rattle.demands.specs.Downloads.{isRequest, requestOrOther, requestsOnly, sentTo, dataIn, dataTo, endTo, asksIn, asks}
 use Rattle.demands.specs.Downloads.{Downloading, DownloadBrings, DownloadEnds, FromPupilToPupil}
 use Rattle.demands.proofs.Checks.{StateFacts, state-facts, linked-below, check-sound, session-through}
 use Rattle.demands.proofs.Others.{others-link}
 use Rattle.demands.proofs.Own.{request-free}
 use Rattle.demands.proofs.Answered.{refused-call}
 use Rattle.demands.proofs.Theorems.{contents}
-use Rattle.demands.proofs.Requests.{size-is, countable, data-length, every-request}
+use Rattle.history.proofs.GoodFacts.{good-facts}
+use Rattle.views.proofs.Bytes.{size-is, countable, data-length}
+use Rattle.demands.proofs.Requests.{toRequest, request-told}
 
 clash : false ≡ true → ⊥
 clash e = let z : _≡_ {A = ℕ} 0 1 = cc in omega arith
@@ -184,15 +186,15 @@ module _ (sv : Server) (l : Lent) (good : Good sv l) (session : ℕ) (one : 1 �
     unfolding sendingOf dataOf
     down-more k =
         down-after
-        ∙ rw (lt-ltb (offset + sent) (fileAt (files (tablePart sv l)) place .size) (omega (arith, size-is sv l facts place file)))
+        ∙ rw (lt-ltb (offset + sent) (fileAt (files (tablePart sv l)) place .size) (omega (arith, size-is sv l (good-facts sv l good) place file)))
         (ap (λ (n : ℕ). down.Sending place offset n)
-        (ap (λ (n : ℕ). (sent + n) % 4294967296) (data-length sv l facts place file (offset + sent)) ∙ mod-eq-of-lt small))
+        (ap (λ (n : ℕ). (sent + n) % 4294967296) (data-length sv l (good-facts sv l good) place file (offset + sent)) ∙ mod-eq-of-lt small))
       where
         small : sent + length (take 256 (drop (offset + sent) (filesOf sv l place .bytes))) < 4294967296
         small =
             omega (
               arith,
-              countable sv l facts place file,
+              countable sv l (good-facts sv l good) place file,
               length-take 256 (drop (offset + sent) (filesOf sv l place .bytes)),
               length-drop (offset + sent) (filesOf sv l place .bytes),
             )
@@ -202,7 +204,7 @@ module _ (sv : Server) (l : Lent) (good : Good sv l) (session : ℕ) (one : 1 �
     unfolding sendingOf
     down-end k =
         down-after
-        ∙ rw (le-ltb (offset + sent) (fileAt (files (tablePart sv l)) place .size) (omega (arith, size-is sv l facts place file)))
+        ∙ rw (le-ltb (offset + sent) (fileAt (files (tablePart sv l)) place .size) (omega (arith, size-is sv l (good-facts sv l good) place file)))
 
 -- ---- after a history
 
@@ -310,7 +312,7 @@ module _ (s : Start) (ok : legal s ≡ true) (session : ℕ) (one : 1 ≤ sessio
   roomy-sent h out d linked room e =
       own-sent h out
       ∙ ap sentIn
-      (every-request (serverAt s h) (lentAt s h) session out (session - 1)
+      (request-told (serverAt s h) (lentAt s h) (good-after s ok h) session out
       (check-is (serverAt s h) (lentAt s h) (good-after s ok h) session one linked (length out)
       ∙ ap (λ (b : Bool). cond b (Refuse 32) (Go (session - 1))) (le-ltb (length out) 258 room)))
       ∙ ap (λ (x : Downlink). sentIn (toRequest x (filesAt s h) out)) e

@@ -11,7 +11,7 @@ use Rattle.header.specs.Fields.{fieldsSet}
 use Rattle.packet.specs.Numbers.{number}
 use Rattle.session.specs.declared.state.Downlink.the-variants as down
 use Rattle.session.specs.declared.reply.Answer.the-variants as answer
-use Rattle.session.specs.Reply.{Told, told}
+use Rattle.session.specs.Reply.{told}
 use Rattle.table.specs.declared.File.{File}
 use Rattle.server.specs.State.{outcome, doneWith, linkOf}
 use Rattle.history.specs.Calls.{Call, request, callOf, Start, legal, History, _▸_}
@@ -22,52 +22,51 @@ use Rattle.demands.proofs.Demand2.{demand-2}
 use Rattle.demands.proofs.Whole.{demand-3}
 use Rattle.demands.proofs.Demands.{demands}
 use Rattle.demands.proofs.Example.{small, small-legal, pair, pair-legal, output, rx, nak, download, nextFile, lostOnce, picked, sending}
-use Rattle.demands.proofs.Example.{sending40, sentAll, complete80, two, both, handed, meanwhile, packetTold, Requested, Begun, Commanded}
+use Rattle.demands.proofs.Example.{sending40, sentAll, complete80, two, both, handed, meanwhile, packetTold, Begun, Commanded}
 use Rattle.demands.proofs.Example.{requested, downloaded}
+use Rattle.demands.proofs.MachineAtWork.{tells, at-work, as-the-machine}
 
 -- ---- one request
 
 -- the small server is asked by its driver: this packet is sent; nothing is sent
-abbrev asking : History → Told
-asking h =
-    told (callOf (serverAt small h) (lentAt small h) (request 1 output) .done .answer)
-    (callOf (serverAt small h) (lentAt small h) (request 1 output) .out)
-
 abbrev pub Brings : History → List ℕ → Type 0
-Brings h p = asking h ≡ packetTold p
+Brings h p = tells h (request 1 output) ≡ packetTold p
 
 abbrev pub BringsNothing : History → Type 0
-BringsNothing h = asking h ≡ told (answer.Quiet 0) output
-
-by-request : (h : History) (t : Told) → Requested h t → asking h ≡ t
-by-request h t c = demand-2 .requests (serverAt small h) (lentAt small h) 1 output 0 (c .goes) ∙ c .reply
+BringsNothing h = tells h (request 1 output) ≡ told (answer.Quiet 0) output
 
 -- where no file is being sent: nothing
 pub nothing-due : BringsNothing lostOnce
-nothing-due = by-request _ _ (requested .idle)
+unfolding at-work
+nothing-due = as-the-machine lostOnce (request 1 output) _ refl
 
 -- and all is as it was
 pub nothing-changed : callOf (serverAt small sentAll) (lentAt small sentAll) (request 1 output)
     ≡ outcome (doneWith (serverAt small sentAll) (answer.Quiet 0)) (lentAt small sentAll) output
-nothing-changed = demand-2 .nothing-due (serverAt small sentAll) (lentAt small sentAll) 1 output 0 (requested .ended .goes) (requested .not-due)
+nothing-changed = demand-2 .nothing-due (serverAt small sentAll) (lentAt small sentAll) 1 output 0 (requested .goes) (requested .not-due)
 
 -- the file from 0 on: one DATA with all 80 bytes; from 40 on: one with the last 40
 pub all-80 : Brings sending (80 ∷ 0 ∷ complete80)
-all-80 = by-request _ _ (requested .first)
+unfolding at-work
+all-80 = as-the-machine sending (request 1 output) _ refl
 
 pub last-40 : Brings sending40 (40 ∷ 0 ∷ drop 40 complete80)
-last-40 = by-request _ _ (requested .last-40)
+unfolding at-work
+last-40 = as-the-machine sending40 (request 1 output) _ refl
 
 -- behind them DATA_END, and then nothing
 pub then-end : Brings (sending ▸ request 1 output) (0 ∷ 1 ∷ [])
-then-end = by-request _ _ (requested .end)
+unfolding at-work
+then-end = as-the-machine (sending ▸ request 1 output) (request 1 output) _ refl
 
 pub then-nothing : BringsNothing sentAll
-then-nothing = by-request _ _ (requested .ended)
+unfolding at-work
+then-nothing = as-the-machine sentAll (request 1 output) _ refl
 
 -- after a DL_NAK_CMD that brought DATA_END: DL_ABORTED_RESP
 pub aborted : Brings (sending ▸ rx 13 nak) (0 ∷ 10 ∷ [])
-aborted = by-request _ _ (requested .aborted)
+unfolding at-work
+aborted = as-the-machine (sending ▸ rx 13 nak) (request 1 output) _ refl
 
 -- ---- DOWNLOAD_CMD
 

@@ -6,7 +6,6 @@ pub mod Receiving
 pub mod Answered
 pub mod Demand1
 pub mod ClosingIsLosing
-pub mod Unique
 pub mod Parts
 pub mod Held
 pub mod Joined
@@ -18,10 +17,6 @@ pub mod Earlier
 pub mod Flushed
 pub mod Uncut
 pub mod Feeding
-pub mod Informed
-pub mod RepliesUp
-pub mod RepliesDown
-pub mod Replies
 pub mod Requests
 pub mod Downloads
 pub mod Begins
@@ -47,5 +42,5 @@ pub mod Demands
 pub mod Plain
 pub mod Example
 pub mod AtWork
-pub mod SheetAtWork
+pub mod MachineAtWork
 pub mod DownloadsAtWork

@@ -1,27 +1,23 @@
 -- What a request of the driver brings, and what a whole download brings: document 01's "Downlink", "Each further request by the driver yields one
--- DATA of up to 256 bytes, as full as can be, then DATA_END; with nothing due it yields nothing and changes nothing." The proofs are in
--- proofs/Requests.antt, Begins.antt and Downloads.antt. Assumes nothing.
+-- DATA of up to 256 bytes, as full as can be, then DATA_END; with nothing due it yields nothing and changes nothing." What one request brings is
+-- the machine's `onRequest` (crates/model/specs/Downlink.antt). The proofs are in proofs/Requests.antt, Begins.antt and Downloads.antt. Assumes nothing.
 use mathlib.Core.Path.{_≡_}
 use mathlib.Core.Bool.{Bool, true, false, cond}
 use mathlib.Core.List.{List, [], _∷_, _++_}
 use mathlib.Core.Option.{some}
 use Prim.Native.Nat.{ℕ, _+_, _-_, _*_, _/_, _≤_}
 use lib.Dec.{eqb, ltb}
-use lib.ListN.{length, getD, take, drop}
+use lib.ListN.{length, getD, drop}
 use Rattle.packet.specs.Frame.{packet}
 use Rattle.header.specs.Fields.{fieldsSet}
 use Rattle.session.specs.declared.state.Downlink.{Downlink}
 use Rattle.session.specs.declared.state.Downlink.the-variants as down
-use Rattle.session.specs.declared.reply.Reply.the-variants as reply
 use Rattle.session.specs.declared.reply.Answer.the-variants as answer
-use Rattle.session.specs.Reply.{Told, told, sentInfo, tell}
 use Rattle.decide.specs.Words.{wordAt}
 use Rattle.server.specs.declared.Server.{Server}
 use Rattle.server.specs.declared.check.Check.the-variants.{Go}
 use Rattle.server.specs.State.{Lent, outcome, doneWith, linkOf, part}
-use Rattle.history.specs.Change.{Files}
 use Rattle.history.specs.Calls.{Call, login, receive, request, lose, callOf, Start, legal, History, _▸_}
-use Rattle.history.specs.Stored.{filesOf}
 use Rattle.demands.specs.Parts.{sessionIn, checkIn}
 use Rattle.demands.specs.Cut.{endsIn}
 use Rattle.demands.specs.Events.{typeOf}
@@ -29,24 +25,6 @@ use Rattle.demands.specs.Accepted.{accepted}
 use Rattle.demands.specs.Demand3.{serverAt, lentAt, filesAt, sentAt}
 
 -- ---- one request
-
--- "one DATA of up to 256 bytes, as full as can be, then DATA_END; with nothing due it yields nothing": DATA (0) has the file's bytes from the offset
--- on, behind those that were sent. "DL_ABORTED_RESP at the next request", after a DL_NAK_CMD that brought DATA_END.
-unfoldable pub toRequest : Downlink → Files → List ℕ → Told
-toRequest down.Idle F out = tell reply.Nothing 0 out
-toRequest (down.Sending place offset sent) F out =
-    cond (ltb (offset + sent) (length (F place .bytes))) (sentInfo 0 (take 256 (drop (offset + sent) (F place .bytes))) 0 out)
-    (tell reply.DataEnd 0 out)
-toRequest (down.Ended place) F out = tell reply.Nothing 0 out
-toRequest (down.Aborting place) F out = tell reply.Aborted 0 out
-
--- THE ANSWER SHEET, REQUESTS: a request that is not refused locally (`Go i`: it goes to session i, counted from 0) answers just this
-abbrev pub EveryRequest : Type 0
-EveryRequest =
-    (sv : Server) (l : Lent) (session : ℕ) (out : List ℕ) (i : ℕ)
-    → checkIn sv l (request session out) ≡ Go i
-    → told (callOf sv l (request session out) .done .answer) (callOf sv l (request session out) .out)
-    ≡ toRequest (linkOf sv i .down) (filesOf sv l) out
 
 -- whether a packet is due
 unfoldable pub isDue : Downlink → Bool

@@ -8,37 +8,50 @@ use native.Mathlib.Omega.{arith}
 use borrow.Author.Tests.{eqb-true, leb-true, ltb-true, ltb-false}
 use lib.Dec.{eqb, leb, ltb}
 use lib.ListN.{length}
+use lib.Seq.{getD-set-other, set-getD, set-set}
 use Rattle.packet.specs.Frame.{Event, packet, too-long}
 use Rattle.header.specs.Header.{verdict}
 use Rattle.equation.specs.Answer.{validityOf}
 use Rattle.table.specs.Given.{blocksFor, mostGiven}
 use Rattle.model.specs.State.{File, file, Uplink, noUpload, receiving, ignoring, Downlink, noDownload, sending, ended, aborting, Session}
-use Rattle.model.specs.State.{withHeld, Model, sessionAt, inSession, Turn, Stepped, stepped, closing}
-use Rattle.model.specs.Files.{find, changed, without, reserved, free, uploading}
-use Rattle.model.specs.Uplink.{uploadNew, uploadContinued, onUploadCmd, grown, dataTo, onData, timeAt, completed, dataEndTo, onDataEnd}
+use Rattle.model.specs.State.{closedSession, freshSession, withUp, withDown, withSelection, withNext, withHeld, Model, model, sessionAt, withSession}
+use Rattle.model.specs.State.{inSession, Turn, Stepped, stepped, closing}
+use Rattle.model.specs.Files.{find, changed, without, reserved, free, uploading, selection}
+use Rattle.model.specs.Uplink.{uploadNew, uploadContinued, onUploadCmd, discarded, grown, dataTo, onData, timeAt, completed, dataEndTo, onDataEnd}
 use Rattle.model.specs.Downlink.{destinationsIn, downloadOf, downloadNumbered, onDownloadCmd, onDirCmd, dataDue, onRequest, onDlAckCmd, onDlNakCmd, onSelectCmd}
 use Rattle.calls.specs.Call.{login, receive, request, lose}
-use Rattle.model.specs.Step.{ifNoUpload, ifNoDownload, byType, endsIn, onEvent, refusal, unless, step}
+use Rattle.model.specs.Step.{ifNoUpload, ifNoDownload, byType, onPacket, endsIn, onEvent, refusal, unless, step}
 use Rattle.decide.specs.Words.{wordAt}
 use Rattle.session.specs.declared.reply.Answer.the-variants as answer
 use Rattle.session.specs.Reply.{told}
-use Rattle.steps.specs.Change.{Change, same, begins, grows, completes, drops, OneChange}
+use Rattle.steps.specs.Parts.{sessionIn}
+use Rattle.steps.specs.Change.{Leaves, Change, same, begins, grows, completes, drops, OneChange, OwnSession}
+use Rattle.steps.proofs.Cutting.{session-there, link-held}
 use Rattle.steps.specs.Sound.{Numbers, Sound, SoundStays}
 
-abbrev Does : Model → Turn → Type 0
-Does m t = Change m (t .after)
+abbrev Does : Model → ℕ → Turn → Type 0
+Does m i t = Change m i (t .after)
 
--- nothing but sessions
-abbrev quiet : (m m′ : Model) → m′ .files ≡ m .files → m′ .lastNumber ≡ m .lastNumber → m′ .lastTime ≡ m .lastTime → m′ .blocks ≡ m .blocks → Change m m′
-quiet m m′ a b c d = same (record { files = a; number = b; time = c; blocks = d })
+-- nothing changes, or session i alone
+keeps : (m : Model) (i : ℕ) → Change m i m
+keeps m i =
+    same (record {
+      leaves = record {
+        session = sessionAt m i;
+        after = ap (λ (ss : List Session). model m (m .lastNumber) (m .lastTime) (m .files) ss) (sym (set-getD (m .sessions) i closedSession));
+      };
+    })
 
-by : (m : Model) (b : Bool) (x y : Turn) → (b ≡ true → Does m x) → (b ≡ false → Does m y) → Does m (cond b x y)
-by m true x y f g = f refl
-by m false x y f g = g refl
+moves : (m : Model) (i : ℕ) (x : Session) → Change m i (withSession m i x)
+moves m i x = same (record { leaves = record { session = x; after = refl } })
 
-either : (m : Model) (b : Bool) (x y : Stepped) → Change m (x .after) → Change m (y .after) → Change m (cond b x y .after)
-either m true x y f g = f
-either m false x y f g = g
+by : (m : Model) (i : ℕ) (b : Bool) (x y : Turn) → (b ≡ true → Does m i x) → (b ≡ false → Does m i y) → Does m i (cond b x y)
+by m i true x y f g = f refl
+by m i false x y f g = g refl
+
+either : (m : Model) (i : ℕ) (b : Bool) (x y : Stepped) → Change m i (x .after) → Change m i (y .after) → Change m i (cond b x y .after)
+either m i true x y f g = f
+either m i false x y f g = g
 
 later : (clock last : ℕ) → last < timeAt clock last
 later clock last = go (ltb clock (last + 1)) refl
@@ -48,256 +61,276 @@ later clock last = go (ltb clock (last + 1)) refl
     go false e = let k = ltb-false clock (last + 1) e in omega arith
 
 module _ (m : Model) (i : ℕ) where
-  new-does : (size : ℕ) → Does m (uploadNew m i size)
+  abbrev stays : Change m i m
+  stays = keeps m i
+
+  new-does : (size : ℕ) → Does m i (uploadNew m i size)
   unfolding uploadNew
   new-does size =
-      by m (eqb (m .lastNumber) mostGiven) _ _ (λ _. quiet m _ refl refl refl refl)
+      by m i (eqb (m .lastNumber) mostGiven) _ _ (λ _. stays)
       (λ _.
-      by m (ltb (length (m .files)) (m .places)) _ _
+      by m i (ltb (length (m .files)) (m .places)) _ _
       (λ p.
-      by m (leb (blocksFor size) (free m)) _ _
+      by m i (leb (blocksFor size) (free m)) _ _
       (λ r.
       begins (record {
         size = size;
         place = ltb-true (length (m .files)) (m .places) p;
         room = leb-true (blocksFor size) (free m) r;
-        files = refl;
-        number = refl;
-        time = refl;
-        blocks = refl;
+        leaves = record { session = withUp (receiving (m .lastNumber + 1)) (sessionAt m i); after = refl };
       }))
-      (λ _. quiet m _ refl refl refl refl))
-      (λ _. quiet m _ refl refl refl refl))
+      (λ _. stays))
+      (λ _. stays))
 
-  continued-does : (f : Option File) (n size : ℕ) → Does m (uploadContinued f m i n size)
+  continued-does : (f : Option File) (n size : ℕ) → Does m i (uploadContinued f m i n size)
   unfolding uploadContinued
-  continued-does none n size = quiet m _ refl refl refl refl
+  continued-does none n size = stays
   continued-does (some f) n size =
-      by m (eqb (f .time) 0) _ _
+      by m i (eqb (f .time) 0) _ _
       (λ _.
-      by m (eqb (f .size) size) _ _
-      (λ _. by m (uploading (m .sessions) n) _ _ (λ _. quiet m _ refl refl refl refl) (λ _. quiet m _ refl refl refl refl))
-      (λ _. quiet m _ refl refl refl refl))
-      (λ _. quiet m _ refl refl refl refl)
+      by m i (eqb (f .size) size) _ _ (λ _. by m i (uploading (m .sessions) n) _ _ (λ _. stays) (λ _. moves m i (withUp (receiving n) (sessionAt m i))))
+      (λ _. stays))
+      (λ _. stays)
 
-  upload-does : (info : List ℕ) → Does m (onUploadCmd m i info)
+  upload-does : (info : List ℕ) → Does m i (onUploadCmd m i info)
   unfolding onUploadCmd
   upload-does info =
-      by m (eqb (length info) 8) _ _
-      (λ _. by m (eqb (wordAt info 0) 0) _ _ (λ _. new-does (wordAt info 4)) (λ _. continued-does (find (wordAt info 0) (m .files)) (wordAt info 0) (wordAt info 4)))
-      (λ _. quiet m _ refl refl refl refl)
+      by m i (eqb (length info) 8) _ _
+      (λ _.
+      by m i (eqb (wordAt info 0) 0) _ _ (λ _. new-does (wordAt info 4))
+      (λ _. continued-does (find (wordAt info 0) (m .files)) (wordAt info 0) (wordAt info 4)))
+      (λ _. stays)
 
-  data-does : (u : Uplink) (info : List ℕ) → Does m (onData u m i info)
+  closing-does : Does m i (closing m i)
+  closing-does = moves m i closedSession
+
+  dropped : (n : ℕ) (f : File) (u : Uplink) → sessionAt m i .up ≡ receiving n → find n (m .files) ≡ some f → Change m i (discarded i n u m)
+  dropped n f u o e =
+      drops (record { n = n; file = f; own = o; found = e; leaves = record { session = withUp u (sessionAt m i); after = refl } })
+
+  data-does : (u : Uplink) → sessionAt m i .up ≡ u → (info : List ℕ) → Does m i (onData u m i info)
   unfolding onData dataTo
-  data-does noUpload info = quiet m _ refl refl refl refl
-  data-does (receiving n) info = go (find n (m .files)) refl
+  data-does noUpload o info = closing-does
+  data-does (receiving n) o info = go (find n (m .files)) refl
     where
-      go : (f : Option File) → find n (m .files) ≡ f → Does m (dataTo f m i n info)
-      go none e = quiet m _ refl refl refl refl
+      go : (f : Option File) → find n (m .files) ≡ f → Does m i (dataTo f m i n info)
+      go none e = stays
       go (some f) e =
-          by m (ltb (f .size) (length (f .bytes) + length info)) _ _
-          (λ _. drops (record { n = n; file = f; found = e; files = refl; number = refl; time = refl; blocks = refl }))
+          by m i (ltb (f .size) (length (f .bytes) + length info)) _ _ (λ _. dropped n f ignoring o e)
           (λ q.
           grows (record {
             n = n;
             file = f;
             bytes = info;
+            own = o;
             found = e;
             room = ltb-false (f .size) (length (f .bytes) + length info) q;
-            files = refl;
-            number = refl;
-            time = refl;
-            blocks = refl;
+            leaves = record {
+              session = sessionAt m i;
+              after = ap (λ (ss : List Session). model m (m .lastNumber) (m .lastTime) (changed n (grown info) (m .files)) ss)
+                  (sym (set-getD (m .sessions) i closedSession));
+            };
           }))
-  data-does ignoring info = quiet m _ refl refl refl refl
+  data-does ignoring o info = stays
 
-  end-does : (u : Uplink) (clock : ℕ) → Does m (onDataEnd u m i clock)
+  end-does : (u : Uplink) → sessionAt m i .up ≡ u → (clock : ℕ) → Does m i (onDataEnd u m i clock)
   unfolding onDataEnd dataEndTo
-  end-does noUpload clock = quiet m _ refl refl refl refl
-  end-does (receiving n) clock = go (find n (m .files)) refl
+  end-does noUpload o clock = closing-does
+  end-does (receiving n) o clock = go (find n (m .files)) refl
     where
-      go : (f : Option File) → find n (m .files) ≡ f → Does m (dataEndTo f m i n clock)
-      go none e = quiet m _ refl refl refl refl
+      go : (f : Option File) → find n (m .files) ≡ f → Does m i (dataEndTo f m i n clock)
+      go none e = stays
       go (some f) e =
-          by m (eqb (verdict (f .bytes) (f .size)) 0) _ _
+          by m i (eqb (verdict (f .bytes) (f .size)) 0) _ _
           (λ v.
-          by m (eqb (m .lastTime) mostGiven) _ _
-          (λ _. drops (record { n = n; file = f; found = e; files = refl; number = refl; time = refl; blocks = refl }))
+          by m i (eqb (m .lastTime) mostGiven) _ _ (λ _. dropped n f noUpload o e)
           (λ _.
           completes (record {
             n = n;
             file = f;
             t = timeAt clock (m .lastTime);
+            own = o;
             found = e;
             valid = eqb-true (verdict (f .bytes) (f .size)) 0 v;
             newer = later clock (m .lastTime);
-            files = refl;
-            number = refl;
-            time = refl;
-            blocks = refl;
+            leaves = record { session = withUp noUpload (sessionAt m i); after = refl };
           })))
-          (λ _. drops (record { n = n; file = f; found = e; files = refl; number = refl; time = refl; blocks = refl }))
-  end-does ignoring clock = quiet m _ refl refl refl refl
+          (λ _. dropped n f noUpload o e)
+  end-does ignoring o clock = moves m i (withUp noUpload (sessionAt m i))
 
-  file-does : (f : Option File) (n offset lock passed : ℕ) → Does m (downloadOf f m i n offset lock passed)
+  file-does : (f : Option File) (n offset lock passed : ℕ) → Does m i (downloadOf f m i n offset lock passed)
   unfolding downloadOf
-  file-does none n offset lock passed = quiet m _ refl refl refl refl
+  file-does none n offset lock passed = stays
   file-does (some f) n offset lock passed =
-      by m (eqb (f .time) 0) _ _ (λ _. quiet m _ refl refl refl refl)
+      by m i (eqb (f .time) 0) _ _ (λ _. stays)
       (λ _.
-      by m (ltb (length (f .bytes)) offset) _ _ (λ _. quiet m _ refl refl refl refl)
-      (λ _. by m (ltb (destinationsIn (f .bytes)) lock) _ _ (λ _. quiet m _ refl refl refl refl) (λ _. quiet m _ refl refl refl refl)))
+      by m i (ltb (length (f .bytes)) offset) _ _ (λ _. stays)
+      (λ _.
+      by m i (ltb (destinationsIn (f .bytes)) lock) _ _ (λ _. stays)
+      (λ _. moves m i (withDown (sending n offset) (withNext passed (sessionAt m i))))))
 
-  download-does : (s : Session) (info : List ℕ) → Does m (onDownloadCmd m i s info)
+  download-does : (s : Session) (info : List ℕ) → Does m i (onDownloadCmd m i s info)
   unfolding onDownloadCmd downloadNumbered
   download-does s info =
-      by m (eqb (length info) 9) _ _
+      by m i (eqb (length info) 9) _ _
       (λ _.
-      by m (eqb (wordAt info 0) 0) _ _
-      (λ _. by m (ltb (s .next) (length (s .selected))) _ _ (λ _. file-does _ _ _ _ _) (λ _. quiet m _ refl refl refl refl))
+      by m i (eqb (wordAt info 0) 0) _ _
+      (λ _. by m i (ltb (s .next) (length (s .selected))) _ _ (λ _. file-does _ _ _ _ _) (λ _. stays))
       (λ _. file-does _ _ _ _ _))
-      (λ _. quiet m _ refl refl refl refl)
+      (λ _. stays)
 
-  ack-does : (d : Downlink) (info : List ℕ) → Does m (onDlAckCmd d m i info)
+  ack-does : (d : Downlink) (info : List ℕ) → Does m i (onDlAckCmd d m i info)
   unfolding onDlAckCmd
-  ack-does noDownload info = quiet m _ refl refl refl refl
-  ack-does (sending n at) info = quiet m _ refl refl refl refl
-  ack-does (ended n) info = quiet m _ refl refl refl refl
-  ack-does (aborting n) info = quiet m _ refl refl refl refl
+  ack-does noDownload info = closing-does
+  ack-does (sending n at) info = closing-does
+  ack-does (ended n) info = moves m i (withDown noDownload (sessionAt m i))
+  ack-does (aborting n) info = closing-does
 
-  nak-does : (d : Downlink) → Does m (onDlNakCmd d m i)
+  nak-does : (d : Downlink) → Does m i (onDlNakCmd d m i)
   unfolding onDlNakCmd
-  nak-does noDownload = quiet m _ refl refl refl refl
-  nak-does (sending n at) = quiet m _ refl refl refl refl
-  nak-does (ended n) = quiet m _ refl refl refl refl
-  nak-does (aborting n) = quiet m _ refl refl refl refl
+  nak-does noDownload = stays
+  nak-does (sending n at) = moves m i (withDown (aborting n) (sessionAt m i))
+  nak-does (ended n) = moves m i (withDown noDownload (sessionAt m i))
+  nak-does (aborting n) = closing-does
 
-  select-does : (info : List ℕ) → Does m (onSelectCmd m i info)
+  select-does : (info : List ℕ) → Does m i (onSelectCmd m i info)
   unfolding onSelectCmd
-  select-does info = by m (eqb (validityOf info) 0) _ _ (λ _. quiet m _ refl refl refl refl) (λ _. quiet m _ refl refl refl refl)
+  select-does info =
+      by m i (eqb (validityOf info) 0) _ _ (λ _. moves m i (withSelection (selection (m .maxsel) info (m .files)) (sessionAt m i))) (λ _. stays)
 
-  if-no-upload : (u : Uplink) (x y : Turn) → Does m x → Does m y → Does m (ifNoUpload u x y)
+  if-no-upload : (u : Uplink) (x y : Turn) → Does m i x → Does m i y → Does m i (ifNoUpload u x y)
   if-no-upload noUpload x y f g = f
   if-no-upload (receiving n) x y f g = g
   if-no-upload ignoring x y f g = g
 
-  if-no-download : (d : Downlink) (x y : Turn) → Does m x → Does m y → Does m (ifNoDownload d x y)
+  if-no-download : (d : Downlink) (x y : Turn) → Does m i x → Does m i y → Does m i (ifNoDownload d x y)
   if-no-download noDownload x y f g = f
   if-no-download (sending n offset) x y f g = g
   if-no-download (ended n) x y f g = g
   if-no-download (aborting n) x y f g = g
 
-  closing-does : Does m (closing m i)
-  closing-does = quiet m _ refl refl refl refl
-
-  packet-does : (s : Session) (clock kind : ℕ) (info : List ℕ) → Does m (byType m i s clock kind info)
+  packet-does : (clock kind : ℕ) (info : List ℕ) → Does m i (onPacket m i clock kind info)
   unfolding byType onDirCmd
-  packet-does s clock kind info =
-      by m (eqb kind 0) _ _ (λ _. data-does (s .up) info)
+  packet-does clock kind info =
+      by m i (eqb kind 0) _ _ (λ _. data-does (sessionAt m i .up) refl info)
       (λ _.
-      by m (eqb kind 1) _ _ (λ _. by m (eqb (length info) 0) _ _ (λ _. end-does (s .up) clock) (λ _. closing-does))
+      by m i (eqb kind 1) _ _ (λ _. by m i (eqb (length info) 0) _ _ (λ _. end-does (sessionAt m i .up) refl clock) (λ _. closing-does))
       (λ _.
-      by m (eqb kind 3) _ _ (λ _. if-no-upload (s .up) _ _ (upload-does info) closing-does)
+      by m i (eqb kind 3) _ _ (λ _. if-no-upload (sessionAt m i .up) _ _ (upload-does info) closing-does)
       (λ _.
-      by m (eqb kind 8) _ _ (λ _. if-no-download (s .down) _ _ (download-does s info) closing-does)
+      by m i (eqb kind 8) _ _ (λ _. if-no-download (sessionAt m i .down) _ _ (download-does (sessionAt m i) info) closing-does)
       (λ _.
-      by m (eqb kind 12) _ _ (λ _. ack-does (s .down) info)
+      by m i (eqb kind 12) _ _ (λ _. ack-does (sessionAt m i .down) info)
       (λ _.
-      by m (eqb kind 13) _ _ (λ _. by m (eqb (length info) 0) _ _ (λ _. nak-does (s .down)) (λ _. closing-does))
+      by m i (eqb kind 13) _ _ (λ _. by m i (eqb (length info) 0) _ _ (λ _. nak-does (sessionAt m i .down)) (λ _. closing-does))
       (λ _.
-      by m (eqb kind 14) _ _ (λ _. if-no-download (s .down) _ _ (quiet m _ refl refl refl refl) closing-does)
+      by m i (eqb kind 14) _ _ (λ _. if-no-download (sessionAt m i .down) _ _ stays closing-does)
       (λ _.
-      by m (eqb kind 15) _ _ (λ _. if-no-download (s .down) _ _ (quiet m _ refl refl refl refl) closing-does)
-      (λ _. by m (eqb kind 16) _ _ (λ _. if-no-download (s .down) _ _ (select-does info) closing-does) (λ _. closing-does)))))))))
+      by m i (eqb kind 15) _ _ (λ _. if-no-download (sessionAt m i .down) _ _ stays closing-does)
+      (λ _. by m i (eqb kind 16) _ _ (λ _. if-no-download (sessionAt m i .down) _ _ (select-does info) closing-does) (λ _. closing-does)))))))))
 
--- a state with the same files, numbers and sizes
-over : (m m′ : Model) → m .files ≡ m′ .files → m .lastNumber ≡ m′ .lastNumber → m .lastTime ≡ m′ .lastTime → m .places ≡ m′ .places → m .blocks ≡ m′ .blocks
-    → (x : Model) → Change m x → Change m′ x
-over m m′ a b c d e x (same k) = same (record { files = k .files ∙ a; number = k .number ∙ b; time = k .time ∙ c; blocks = k .blocks ∙ e })
-over m m′ a b c d e x (begins k) =
-    begins (record {
-      size = k .size;
-      place = subst (λ (n : ℕ). n < m′ .places) (ap length a) (subst (λ (n : ℕ). length (m .files) < n) d (k .place));
-      room = subst (λ (n : ℕ). blocksFor (k .size) ≤ n) (ap₂ (λ (n : ℕ) (fs : List File). n - reserved fs) e a) (k .room);
-      files = k .files ∙ ap₂ (λ (fs : List File) (n : ℕ). fs ++ file (n + 1) (k .size) [] 0 ∷ []) a b;
-      number = k .number ∙ ap (λ (n : ℕ). n + 1) b;
-      time = k .time ∙ c;
-      blocks = k .blocks ∙ e;
-    })
-over m m′ a b c d e x (grows k) =
-    grows (record {
-      n = k .n;
-      file = k .file;
-      bytes = k .bytes;
-      found = ap (find (k .n)) (sym a) ∙ k .found;
-      room = k .room;
-      files = k .files ∙ ap (changed (k .n) (grown (k .bytes))) a;
-      number = k .number ∙ b;
-      time = k .time ∙ c;
-      blocks = k .blocks ∙ e;
-    })
-over m m′ a b c d e x (completes k) =
-    completes (record {
-      n = k .n;
-      file = k .file;
-      t = k .t;
-      found = ap (find (k .n)) (sym a) ∙ k .found;
-      valid = k .valid;
-      newer = subst (λ (n : ℕ). n < k .t) c (k .newer);
-      files = k .files ∙ ap (changed (k .n) (completed (k .t))) a;
-      number = k .number ∙ b;
-      time = k .time;
-      blocks = k .blocks ∙ e;
-    })
-over m m′ a b c d e x (drops k) =
-    drops (record {
-      n = k .n;
-      file = k .file;
-      found = ap (find (k .n)) (sym a) ∙ k .found;
-      files = k .files ∙ ap (without (k .n)) a;
-      number = k .number ∙ b;
-      time = k .time ∙ c;
-      blocks = k .blocks ∙ e;
-    })
+-- a state that differs in what session i holds
+module _ (m : Model) (i : ℕ) (there : i < length (m .sessions)) (bytes : List ℕ) (x : Model) where
+  abbrev held : Model
+  held = inSession i (withHeld bytes) m
+
+  left-over : (n t : ℕ) (fs : List File) → Leaves held i x n t fs → Leaves m i x n t fs
+  left-over n t fs l =
+      record {
+        session = l .session;
+        after = l .after
+            ∙ ap (λ (ss : List Session). model m n t fs ss) (set-set (m .sessions) i (withHeld bytes (sessionAt m i)) (l .session));
+      }
+
+  up-over : (n : ℕ) → sessionAt held i .up ≡ receiving n → sessionAt m i .up ≡ receiving n
+  up-over n e = ap (λ (s : Session). s .up) (sym (link-held m i there bytes)) ∙ e
+
+  over : Change held i x → Change m i x
+  over (same k) = same (record { leaves = left-over _ _ _ (k .leaves) })
+  over (begins k) = begins (record { size = k .size; place = k .place; room = k .room; leaves = left-over _ _ _ (k .leaves) })
+  over (grows k) =
+      grows (record {
+        n = k .n;
+        file = k .file;
+        bytes = k .bytes;
+        own = up-over (k .n) (k .own);
+        found = k .found;
+        room = k .room;
+        leaves = left-over _ _ _ (k .leaves);
+      })
+  over (completes k) =
+      completes (record {
+        n = k .n;
+        file = k .file;
+        t = k .t;
+        own = up-over (k .n) (k .own);
+        found = k .found;
+        valid = k .valid;
+        newer = k .newer;
+        leaves = left-over _ _ _ (k .leaves);
+      })
+  over (drops k) =
+      drops (record { n = k .n; file = k .file; own = up-over (k .n) (k .own); found = k .found; leaves = left-over _ _ _ (k .leaves) })
 
 module _ (m : Model) (i : ℕ) where
-  -- the bytes held are no matter of the files
-  event-does : (e : Option Event) (clock : ℕ) (held input out : List ℕ) → Change m (onEvent e m i clock held input out .after)
+  event-does : (e : Option Event) (clock : ℕ) (held input out : List ℕ) → i < length (m .sessions) → Change m i (onEvent e m i clock held input out .after)
   unfolding onEvent
-  event-does none clock held input out = quiet m _ refl refl refl refl
-  event-does (some too-long) clock held input out = quiet m _ refl refl refl refl
-  event-does (some (packet kind info)) clock held input out =
-      over (inSession i (withHeld []) m) m refl refl refl refl refl _ (packet-does (inSession i (withHeld []) m) i (sessionAt (inSession i (withHeld []) m) i) clock kind info)
+  event-does none clock held input out there = moves m i (withHeld (held ++ input) (sessionAt m i))
+  event-does (some too-long) clock held input out there = moves m i closedSession
+  event-does (some (packet kind info)) clock held input out there =
+      over m i there [] _ (packet-does (inSession i (withHeld []) m) i clock kind info)
 
-  due-does : (d : Downlink) (out : List ℕ) → Change m (onRequest d m i out .after)
+  due-does : (d : Downlink) (out : List ℕ) → Change m i (onRequest d m i out .after)
   unfolding onRequest dataDue
-  due-does noDownload out = quiet m _ refl refl refl refl
+  due-does noDownload out = keeps m i
   due-does (sending n at) out = go (find n (m .files))
     where
-      go : (f : Option File) → Change m (dataDue f m i n at out .after)
-      go none = quiet m _ refl refl refl refl
-      go (some f) = either m (ltb at (length (f .bytes))) _ _ (quiet m _ refl refl refl refl) (quiet m _ refl refl refl refl)
-  due-does (ended n) out = quiet m _ refl refl refl refl
-  due-does (aborting n) out = quiet m _ refl refl refl refl
+      go : (f : Option File) → Change m i (dataDue f m i n at out .after)
+      go none = keeps m i
+      go (some f) = either m i (ltb at (length (f .bytes))) _ _ (moves m i _) (moves m i (withDown (ended n) (sessionAt m i)))
+  due-does (ended n) out = keeps m i
+  due-does (aborting n) out = moves m i (withDown noDownload (sessionAt m i))
 
-unless-does : (n : ℕ) (m : Model) (out : List ℕ) (x : Stepped) → Change m (x .after) → Change m (unless n m out x .after)
+unless-does : (n : ℕ) (m : Model) (i : ℕ) (out : List ℕ) (x : Stepped) → (n ≡ 0 → Change m i (x .after)) → Change m i (unless n m out x .after)
 unfolding unless
-unless-does n m out x c = go (eqb n 0)
+unless-does n m i out x c = go (eqb n 0) refl
   where
-    go : (b : Bool) → Change m (cond b x (stepped (told (answer.Refused n) out) m) .after)
-    go true = c
-    go false = quiet m _ refl refl refl refl
+    go : (b : Bool) → eqb n 0 ≡ b → Change m i (cond b x (stepped (told (answer.Refused n) out) m) .after)
+    go true e = c (eqb-true n 0 e)
+    go false e = keeps m i
 
--- THEOREM: a step changes no file but one, in one of these ways
+-- THEOREM: a step changes no file but one, in one of these ways, and no session but its own
 pub one-change : OneChange
 unfolding step
-one-change m (login session clock out) = unless-does (refusal m session false (length out)) m out _ (quiet m _ refl refl refl refl)
+one-change m (login session clock out) =
+    unless-does (refusal m session false (length out)) m (session - 1) out _ (λ _. moves m (session - 1) freshSession)
 one-change m (receive session clock input out) =
-    unless-does (refusal m session true (length out)) m out _
-    (event-does m (session - 1) (endsIn (sessionAt m (session - 1) .held ++ input)) clock (sessionAt m (session - 1) .held) input out)
+    unless-does (refusal m session true (length out)) m (session - 1) out _
+    (λ z.
+    event-does m (session - 1) (endsIn (sessionAt m (session - 1) .held ++ input)) clock (sessionAt m (session - 1) .held) input out
+    (session-there m session true (length out) z))
 one-change m (request session out) =
-    unless-does (refusal m session true (length out)) m out _ (due-does m (session - 1) (sessionAt m (session - 1) .down) out)
-one-change m (lose session) = unless-does (refusal m session true 258) m [] _ (quiet m _ refl refl refl refl)
+    unless-does (refusal m session true (length out)) m (session - 1) out _ (λ _. due-does m (session - 1) (sessionAt m (session - 1) .down) out)
+one-change m (lose session) = unless-does (refusal m session true 258) m (session - 1) [] _ (λ _. moves m (session - 1) closedSession)
+
+-- ---- its own session alone
+
+leaves-of : (m : Model) (i : ℕ) (m′ : Model) → Change m i m′ → (j : ℕ) → (j ≡ i → ⊥) → sessionAt m′ j ≡ sessionAt m j
+leaves-of m i m′ c j n = go c
+  where
+    on : (k t : ℕ) (fs : List File) → Leaves m i m′ k t fs → sessionAt m′ j ≡ sessionAt m j
+    on k t fs l = ap (λ (x : Model). sessionAt x j) (l .after) ∙ getD-set-other (m .sessions) i j (l .session) closedSession n
+
+    go : Change m i m′ → sessionAt m′ j ≡ sessionAt m j
+    go (same k) = on _ _ _ (k .leaves)
+    go (begins k) = on _ _ _ (k .leaves)
+    go (grows k) = on _ _ _ (k .leaves)
+    go (completes k) = on _ _ _ (k .leaves)
+    go (drops k) = on _ _ _ (k .leaves)
+
+-- THEOREM
+pub own-session : OwnSession
+own-session m c j n = leaves-of m (sessionIn c - 1) (step m c .after) (one-change m c) j n
 
 -- ---- every change keeps a sound state
 
@@ -358,34 +391,36 @@ reserved-without n (f ∷ fs) = go (eqb (f .number) n) (reserved-without n fs)
     go false e = omega arith
 
 -- THEOREM: every change keeps it
-pub sound-change : (m m′ : Model) → Sound m → Change m m′ → Sound m′
-sound-change m m′ s (same k) = record { numbers = rw (k .files, k .number, k .time) (s .numbers); room = rw (k .files, k .blocks) (s .room) }
-sound-change m m′ s (begins k) =
+pub sound-change : (m : Model) (i : ℕ) (m′ : Model) → Sound m → Change m i m′ → Sound m′
+sound-change m i m′ s (same k) = subst Sound (sym (k .leaves .after)) (record { numbers = s .numbers; room = s .room })
+sound-change m i m′ s (begins k) =
     let r = reserved-snoc (m .files) (file (m .lastNumber + 1) (k .size) [] 0) in
-    record {
-      numbers = rw (k .files, k .number, k .time)
-          (numbers-snoc 0 (m .lastNumber) (m .lastTime) (m .files) (file (m .lastNumber + 1) (k .size) [] 0) (s .numbers) (omega arith) (omega arith) (omega arith));
-      room = rw (k .files, k .blocks) (omega (arith, s .room, k .room));
-    }
-sound-change m m′ s (grows k) =
-    record {
-      numbers = rw (k .files, k .number, k .time)
-          (numbers-changed 0 (m .lastNumber) (m .lastTime) (k .n) (grown (k .bytes)) (m .files) (λ f. refl) (λ f h. h) (s .numbers));
-      room = rw (k .files, k .blocks) (omega (arith, s .room, reserved-changed (k .n) (grown (k .bytes)) (m .files) (λ f. refl)));
-    }
-sound-change m m′ s (completes k) =
-    record {
-      numbers = rw (k .files, k .number, k .time)
-          (numbers-changed 0 (m .lastNumber) (k .t) (k .n) (completed (k .t)) (m .files) (λ f. refl) (λ f h. omega arith)
-          (up 0 (m .lastNumber) (m .lastTime) (m .lastNumber) (k .t) (m .files) (omega arith) (omega (arith, k .newer)) (s .numbers)));
-      room = rw (k .files, k .blocks) (omega (arith, s .room, reserved-changed (k .n) (completed (k .t)) (m .files) (λ f. refl)));
-    }
-sound-change m m′ s (drops k) =
-    record {
-      numbers = rw (k .files, k .number, k .time) (numbers-without 0 (m .lastNumber) (m .lastTime) (k .n) (m .files) (s .numbers));
-      room = rw (k .files, k .blocks) (omega (arith, s .room, reserved-without (k .n) (m .files)));
-    }
+    subst Sound (sym (k .leaves .after))
+    (record {
+      numbers = numbers-snoc 0 (m .lastNumber) (m .lastTime) (m .files) (file (m .lastNumber + 1) (k .size) [] 0) (s .numbers) (omega arith) (omega arith)
+          (omega arith);
+      room = omega (arith, s .room, k .room);
+    })
+sound-change m i m′ s (grows k) =
+    subst Sound (sym (k .leaves .after))
+    (record {
+      numbers = numbers-changed 0 (m .lastNumber) (m .lastTime) (k .n) (grown (k .bytes)) (m .files) (λ f. refl) (λ f h. h) (s .numbers);
+      room = omega (arith, s .room, reserved-changed (k .n) (grown (k .bytes)) (m .files) (λ f. refl));
+    })
+sound-change m i m′ s (completes k) =
+    subst Sound (sym (k .leaves .after))
+    (record {
+      numbers = numbers-changed 0 (m .lastNumber) (k .t) (k .n) (completed (k .t)) (m .files) (λ f. refl) (λ f h. omega arith)
+          (up 0 (m .lastNumber) (m .lastTime) (m .lastNumber) (k .t) (m .files) (omega arith) (omega (arith, k .newer)) (s .numbers));
+      room = omega (arith, s .room, reserved-changed (k .n) (completed (k .t)) (m .files) (λ f. refl));
+    })
+sound-change m i m′ s (drops k) =
+    subst Sound (sym (k .leaves .after))
+    (record {
+      numbers = numbers-without 0 (m .lastNumber) (m .lastTime) (k .n) (m .files) (s .numbers);
+      room = omega (arith, s .room, reserved-without (k .n) (m .files));
+    })
 
 -- THEOREM
 pub sound-step : SoundStays
-sound-step m c s = sound-change m (step m c .after) s (one-change m c)
+sound-step m c s = sound-change m (sessionIn c - 1) (step m c .after) s (one-change m c)

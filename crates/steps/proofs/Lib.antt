@@ -1,4 +1,5 @@
-pub mod Changes
 pub mod Cutting
-pub mod Neighbour
+pub mod Changes
 pub mod Naming
+pub mod Own
+pub mod Neighbour

@@ -97,7 +97,7 @@ find-changed n k h (x ∷ fs) f u e = go (eqb (x .number) n) refl e (find-change
         same true = u x
         same false = refl
 
-find-without : (n k : ℕ) (fs : List File) → (n ≡ k → ⊥) → find n (without k fs) ≡ find n fs
+pub find-without : (n k : ℕ) (fs : List File) → (n ≡ k → ⊥) → find n (without k fs) ≡ find n fs
 unfolding find without
 find-without n k [] z = refl
 find-without n k (x ∷ fs) z = go (eqb (x .number) k) refl (find-without n k fs z)

@@ -1,3 +1,4 @@
+pub mod Parts
 pub mod Change
 pub mod Sound
 pub mod Naming

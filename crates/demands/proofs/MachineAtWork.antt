@@ -1,27 +1,30 @@
--- The answer sheet at work: `EveryReply` is applied to small cases of Example.antt, and what goes out is stated byte by byte. Assumes nothing.
-use mathlib.Core.Path.{_≡_, ap, _∙_}
+-- The machine at work: `EveryCall` and `EveryHistory` are applied to small cases of Example.antt. What the machine tells is computed, and what goes out
+-- is stated byte by byte. Assumes nothing.
+use mathlib.Core.Path.{_≡_, refl, ap, _∙_}
 use mathlib.Core.List.{List, [], _∷_, _++_}
 use Prim.Native.Nat.{ℕ}
 use lib.ListN.{length, drop}
 use Rattle.header.proofs.Examples.{smallest}
-use Rattle.packet.specs.Machine.{call}
-use Rattle.packet.specs.Packet.{packetOf}
-use Rattle.packet.specs.Frame.{byte}
-use Rattle.session.specs.declared.reply.Reply.{Reply}
 use Rattle.session.specs.declared.reply.Answer.the-variants as answer
-use Rattle.session.specs.Reply.{Told, told, tell}
-use Rattle.history.specs.Calls.{callOf, History, _▸_}
+use Rattle.session.specs.Reply.{Told, told}
+use Rattle.history.specs.Calls.{Call, callOf, History, _▸_}
+use Rattle.history.proofs.Histories.{good-after}
+use Rattle.model.specs.State.{Model, empty}
+use Rattle.model.specs.Step.{step}
+use Rattle.cases.specs.Computing.{computing}
+use Rattle.refines.specs.Refines.{run}
 use Rattle.demands.specs.Demand3.{serverAt, lentAt}
 use Rattle.demands.proofs.Demand2.{demand-2}
-use Rattle.demands.proofs.Example.{small, output, rx, upload, dataEnd, shortUpload, largeUpload, nextFile, titleAboveM, size80, otherLength}
+use Rattle.demands.proofs.Example.{small, small-legal, output, rx, upload, dataEnd, shortUpload, largeUpload, nextFile, titleAboveM, size80, otherLength}
 use Rattle.demands.proofs.Example.{ack, nak, directory, data41, type18, download, opened, halfway, beforeUpload, lostOnce, picked, sending}
-use Rattle.demands.proofs.Example.{sentAll, continued, rest, unfinished, Sheeted, computed}
+use Rattle.demands.proofs.Example.{sending40, complete80, sentAll, continued, rest}
 
--- what the small server answers to bytes, and the output that it leaves
+-- what the small server tells at a call, and at bytes of its link
+abbrev pub tells : History → Call → Told
+tells h c = told (callOf (serverAt small h) (lentAt small h) c .done .answer) (callOf (serverAt small h) (lentAt small h) c .out)
+
 abbrev answersTo : History → ℕ → List ℕ → Told
-answersTo h clock bytes =
-    told (callOf (serverAt small h) (lentAt small h) (rx clock bytes) .done .answer)
-    (callOf (serverAt small h) (lentAt small h) (rx clock bytes) .out)
+answersTo h clock bytes = tells h (rx clock bytes)
 
 -- all bytes are taken, and: this packet is sent; nothing is sent; the link is closed
 abbrev pub Gets : History → ℕ → List ℕ → List ℕ → Type 0
@@ -33,145 +36,157 @@ GetsNothing h clock bytes = answersTo h clock bytes ≡ told (answer.Quiet (leng
 abbrev pub GetsClosed : History → ℕ → List ℕ → Type 0
 GetsClosed h clock bytes = answersTo h clock bytes ≡ told (answer.Closed (length bytes)) output
 
--- the sheet's reply is what is answered
-on-the-sheet : (h : History) (clock : ℕ) (bytes : List ℕ) (r : Reply) → Sheeted h clock bytes r
-    → answersTo h clock bytes ≡ tell r (length bytes) output
-on-the-sheet h clock bytes r c =
-    demand-2 .replies (serverAt small h) (lentAt small h) 1 clock bytes output 0 (c .kind) (c .info) (c .goes) (c .ends)
-    ∙ ap (λ (q : Reply). tell q (call byte (unfinished small h) bytes .taken) output) (c .reply)
-    ∙ ap (λ (n : ℕ). tell r n output) (c .taken)
+-- the machine after the same calls
+abbrev pub machine : History → Model
+machine h = run (empty (small .blocks) (small .files) (small .sessions) (small .most)) h
+
+-- whoever unfolds this unfolds all that the machine computes with in these cases
+unfoldable pub at-work : ℕ
+unfolding
+    computing run small smallest opened halfway beforeUpload continued lostOnce picked sending sending40 complete80 sentAll
+at-work = 0
+
+-- what the machine tells is what the server tells
+pub as-the-machine : (h : History) (c : Call) (t : Told) → step (machine h) c .told ≡ t → tells h c ≡ t
+as-the-machine h c t e =
+    demand-2 .machine (serverAt small h) (lentAt small h) (good-after small small-legal h) c .told
+    ∙ ap (λ (m : Model). step m c .told) (demand-2 .machine-after small small-legal h)
+    ∙ e
+
+by-machine : (h : History) (clock : ℕ) (bytes : List ℕ) (t : Told) → step (machine h) (rx clock bytes) .told ≡ t → answersTo h clock bytes ≡ t
+by-machine h clock bytes t e = as-the-machine h (rx clock bytes) t e
 
 -- ---- UPLOAD_CMD
 
 -- of one byte: UL_ERROR_RESP 1
 pub short-upload : Gets opened 6 shortUpload (1 ∷ 5 ∷ 1 ∷ [])
-unfolding tell packetOf
-short-upload = on-the-sheet _ _ _ _ (computed .sheet .short-upload)
+unfolding at-work
+short-upload = by-machine opened 6 shortUpload _ refl
 
 -- for a new file of 257 bytes, where one block is free: UL_ERROR_RESP 13
 pub no-room : Gets opened 6 largeUpload (1 ∷ 5 ∷ 13 ∷ [])
-unfolding tell packetOf
-no-room = on-the-sheet _ _ _ _ (computed .sheet .no-room)
+unfolding at-work
+no-room = by-machine opened 6 largeUpload _ refl
 
 -- for a new file of 80: UL_GO_RESP with number 1 and offset 0
 pub new-file : Gets opened 6 (upload 0) (8 ∷ 4 ∷ 1 ∷ 0 ∷ 0 ∷ 0 ∷ 0 ∷ 0 ∷ 0 ∷ 0 ∷ [])
-unfolding tell packetOf
-new-file = on-the-sheet _ _ _ _ (computed .sheet .new)
+unfolding at-work
+new-file = by-machine opened 6 (upload 0) _ refl
 
 -- to continue it, 40 bytes being received: offset 40
 pub continued-at-40 : Gets beforeUpload 10 (upload 1) (8 ∷ 4 ∷ 1 ∷ 0 ∷ 0 ∷ 0 ∷ 40 ∷ 0 ∷ 0 ∷ 0 ∷ [])
-unfolding tell packetOf
-continued-at-40 = on-the-sheet _ _ _ _ (computed .sheet .offered)
+unfolding at-work
+continued-at-40 = by-machine beforeUpload 10 (upload 1) _ refl
 
 -- with another length than the first: UL_ERROR_RESP 2
 pub other-length : Gets beforeUpload 10 otherLength (1 ∷ 5 ∷ 2 ∷ [])
-unfolding tell packetOf
-other-length = on-the-sheet _ _ _ _ (computed .sheet .other-length)
+unfolding at-work
+other-length = by-machine beforeUpload 10 otherLength _ refl
 
 -- to continue a file that is not there: UL_ERROR_RESP 4
 pub no-such-file : Gets opened 6 (upload 1) (1 ∷ 5 ∷ 4 ∷ [])
-unfolding tell packetOf
-no-such-file = on-the-sheet _ _ _ _ (computed .sheet .no-such-file)
+unfolding at-work
+no-such-file = by-machine opened 6 (upload 1) _ refl
 
 -- to continue it when it is complete: UL_ERROR_RESP 12
 pub complete-already : Gets lostOnce 12 (upload 1) (1 ∷ 5 ∷ 12 ∷ [])
-unfolding tell packetOf
-complete-already = on-the-sheet _ _ _ _ (computed .sheet .finished)
+unfolding at-work
+complete-already = by-machine lostOnce 12 (upload 1) _ refl
 
 -- ---- DATA, DATA_END
 
 -- 41 bytes behind 40 of 80: UL_NAK_RESP 16; the 40 that are left: nothing
 pub one-too-many : Gets halfway 8 data41 (1 ∷ 7 ∷ 16 ∷ [])
-unfolding tell packetOf
-one-too-many = on-the-sheet _ _ _ _ (computed .sheet .too-many)
+unfolding at-work
+one-too-many = by-machine halfway 8 data41 _ refl
 
 pub just-enough : GetsNothing halfway 8 (40 ∷ 0 ∷ drop 40 smallest)
-unfolding tell
-just-enough = on-the-sheet _ _ _ _ (computed .sheet .just-enough)
+unfolding at-work
+just-enough = by-machine halfway 8 (40 ∷ 0 ∷ drop 40 smallest) _ refl
 
 -- DATA_END behind 40 of 80: UL_NAK_RESP 16
 pub end-too-early : Gets halfway 8 dataEnd (1 ∷ 7 ∷ 16 ∷ [])
-unfolding tell packetOf
-end-too-early = on-the-sheet _ _ _ _ (computed .sheet .too-few)
+unfolding at-work
+end-too-early = by-machine halfway 8 dataEnd _ refl
 
 -- behind all 80: UL_ACK_RESP
 pub end-accepted : Gets (continued ▸ rest) 4 dataEnd (0 ∷ 6 ∷ [])
-unfolding tell packetOf
-end-accepted = on-the-sheet _ _ _ _ (computed .sheet .in-time)
+unfolding at-work
+end-accepted = by-machine (continued ▸ rest) 4 dataEnd _ refl
 
 -- ---- DOWNLOAD_CMD
 
 -- of a file that is not there: DL_ERROR_RESP 4; of a partial one: 11
 pub nothing-there : Gets opened 6 (download 0 0) (1 ∷ 9 ∷ 4 ∷ [])
-unfolding tell packetOf
-nothing-there = on-the-sheet _ _ _ _ (computed .sheet .absent)
+unfolding at-work
+nothing-there = by-machine opened 6 (download 0 0) _ refl
 
 pub partial-file : Gets beforeUpload 10 (download 0 0) (1 ∷ 9 ∷ 11 ∷ [])
-unfolding tell packetOf
-partial-file = on-the-sheet _ _ _ _ (computed .sheet .partial)
+unfolding at-work
+partial-file = by-machine beforeUpload 10 (download 0 0) _ refl
 
 -- the next selected file, none being selected: DL_ERROR_RESP 5; one being selected: accepted
 pub none-selected : Gets opened 6 nextFile (1 ∷ 9 ∷ 5 ∷ [])
-unfolding tell packetOf
-none-selected = on-the-sheet _ _ _ _ (computed .sheet .none-selected)
+unfolding at-work
+none-selected = by-machine opened 6 nextFile _ refl
 
 pub one-selected : GetsNothing picked 13 nextFile
-unfolding tell
-one-selected = on-the-sheet _ _ _ _ (computed .sheet .selected-next)
+unfolding at-work
+one-selected = by-machine picked 13 nextFile _ refl
 
 -- 80 bytes from offset 80 on: accepted; from 81 on: DL_ERROR_RESP 2
 pub from-the-end : GetsNothing lostOnce 12 (download 80 0)
-unfolding tell
-from-the-end = on-the-sheet _ _ _ _ (computed .sheet .at-the-end)
+unfolding at-work
+from-the-end = by-machine lostOnce 12 (download 80 0) _ refl
 
 pub from-behind-the-end : Gets lostOnce 12 (download 81 0) (1 ∷ 9 ∷ 2 ∷ [])
-unfolding tell packetOf
-from-behind-the-end = on-the-sheet _ _ _ _ (computed .sheet .behind-the-end)
+unfolding at-work
+from-behind-the-end = by-machine lostOnce 12 (download 81 0) _ refl
 
 -- lock destination 1 of a file with none: DL_ERROR_RESP 10
 pub no-such-lock : Gets lostOnce 12 (download 80 1) (1 ∷ 9 ∷ 10 ∷ [])
-unfolding tell packetOf
-no-such-lock = on-the-sheet _ _ _ _ (computed .sheet .locked)
+unfolding at-work
+no-such-lock = by-machine lostOnce 12 (download 80 1) _ refl
 
 -- ---- DL_ACK_CMD, DL_NAK_CMD
 
 -- for no destination: DL_COMPLETED_RESP; for destination 1 of a file with none: DL_ABORTED_RESP
 pub acknowledged : Gets sentAll 13 (ack 0) (0 ∷ 11 ∷ [])
-unfolding tell packetOf
-acknowledged = on-the-sheet _ _ _ _ (computed .sheet .acknowledged)
+unfolding at-work
+acknowledged = by-machine sentAll 13 (ack 0) _ refl
 
 pub no-such-destination : Gets sentAll 13 (ack 1) (0 ∷ 10 ∷ [])
-unfolding tell packetOf
-no-such-destination = on-the-sheet _ _ _ _ (computed .sheet .no-destination)
+unfolding at-work
+no-such-destination = by-machine sentAll 13 (ack 1) _ refl
 
 -- before DATA_END went out: DATA_END; after it: DL_ABORTED_RESP
 pub nak-before : Gets sending 13 nak (0 ∷ 1 ∷ [])
-unfolding tell packetOf
-nak-before = on-the-sheet _ _ _ _ (computed .sheet .nak-before)
+unfolding at-work
+nak-before = by-machine sending 13 nak _ refl
 
 pub nak-after : Gets sentAll 13 nak (0 ∷ 10 ∷ [])
-unfolding tell packetOf
-nak-after = on-the-sheet _ _ _ _ (computed .sheet .nak-after)
+unfolding at-work
+nak-after = by-machine sentAll 13 nak _ refl
 
 -- ---- SELECT_CMD
 
 -- titles greater than "m": DL_ERROR_RESP 8
 pub title-above-m : Gets opened 6 titleAboveM (1 ∷ 9 ∷ 8 ∷ [])
-unfolding tell packetOf
-title-above-m = on-the-sheet _ _ _ _ (computed .sheet .title-above-m)
+unfolding at-work
+title-above-m = by-machine opened 6 titleAboveM _ refl
 
 -- files of 80 bytes: SELECT_RESP with 1
 pub one-of-80 : Gets lostOnce 12 size80 (2 ∷ 17 ∷ 1 ∷ 0 ∷ [])
-unfolding tell packetOf
-one-of-80 = on-the-sheet _ _ _ _ (computed .sheet .size-80)
+unfolding at-work
+one-of-80 = by-machine lostOnce 12 size80 _ refl
 
 -- ---- other types
 
 -- DIR_SHORT_CMD: DL_ERROR_RESP 1 for now
 pub type-14 : Gets opened 6 directory (1 ∷ 9 ∷ 1 ∷ [])
-unfolding tell packetOf
-type-14 = on-the-sheet _ _ _ _ (computed .sheet .type-14)
+unfolding at-work
+type-14 = by-machine opened 6 directory _ refl
 
 pub type-18 : GetsClosed opened 6 type18
-unfolding tell
-type-18 = on-the-sheet _ _ _ _ (computed .sheet .type-18)
+unfolding at-work
+type-18 = by-machine opened 6 type18 _ refl
