@@ -19,8 +19,8 @@ use Rattle.demands.proofs.Uncut.{uncut-same}
 use Rattle.demands.proofs.Earlier.{lent-earlier}
 use Rattle.demands.proofs.Feeding.{enough-calls, pieces-elsewhere}
 use Rattle.demands.proofs.Requests.{nothing-due}
-use Rattle.demands.proofs.Downloads.{download-brings, download-ends}
-use Rattle.demands.proofs.Begins.{begins}
+use Rattle.steps.proofs.Downloads.{download-brings, download-ends}
+use Rattle.steps.proofs.Begins.{download-begins}
 
 -- THEOREM: what the writer leaves reads back
 pub every-written-reads-back : WrittenReadsBack
@@ -66,7 +66,7 @@ demand-2 =
       machine = every-call;
       machine-after = every-history;
       nothing-due = nothing-due;
-      download-begins = begins;
+      download-begins = download-begins;
       download = download-brings;
       download-ends = download-ends;
       closing = every-closing;

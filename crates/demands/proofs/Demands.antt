@@ -5,8 +5,7 @@ use Rattle.demands.specs.Demands.{Demands}
 use Rattle.demands.proofs.Demand1.{demand-1}
 use Rattle.demands.proofs.Demand2.{demand-2}
 use Rattle.demands.proofs.Whole.{demand-3}
-use Rattle.demands.proofs.Downloads.{from-pupil-to-pupil}
-use Rattle.demands.proofs.Begins.{asked-and-sent}
+use Rattle.demands.proofs.Downloads.{from-pupil-to-pupil, asked-and-sent}
 
 pub demands : Demands
 demands =

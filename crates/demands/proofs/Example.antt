@@ -6,7 +6,7 @@ use mathlib.Core.Bool.{true, false}
 use mathlib.Core.Logic.{inl, inr}
 use mathlib.Core.List.{List, [], _∷_, _++_}
 use mathlib.Core.Option.{none, some}
-use Prim.Native.Nat.{ℕ, _-_}
+use Prim.Native.Nat.{ℕ}
 use native.Mathlib.Omega.{arith}
 use lib.Count.{ones, trailingZeros}
 use lib.ListN.{length, getD, replicate, take, drop}
@@ -15,7 +15,6 @@ use Rattle.packet.specs.Frame.{Held, packet, byte}
 use Rattle.header.proofs.Examples.{smallest}
 use Rattle.header.specs.Header.{placeOf}
 use Rattle.session.specs.declared.state.Uplink.the-variants as up
-use Rattle.session.specs.declared.state.Downlink.the-variants as down
 use Rattle.session.specs.declared.reply.Answer.the-variants as answer
 use Rattle.session.specs.Reply.{Told, told}
 use Rattle.server.specs.declared.check.Check.the-variants.{Go}
@@ -34,7 +33,7 @@ use Rattle.demands.specs.Feeding.{feedAll, feedPieces}
 use Rattle.demands.specs.Events.{given, added, finished, dropped}
 use Rattle.demands.specs.Accepted.{uploadOf, accepted, reserved, numbersGiven, total, completion, completions}
 use Rattle.demands.specs.Demand1.{Says, Fits, IsSound, forgotten, cleared}
-use Rattle.demands.specs.Downloads.{isDue, numberAsked, requestsOnly, asks, dataTo, endTo}
+use Rattle.demands.specs.Downloads.{isDue}
 use Rattle.demands.specs.Demand3.{serverAt, lentAt, filesAt, sentAt, infoAt, Outside}
 use Rattle.packet.specs.Frame as packet-frame
 use Rattle.packet.specs.Machine as packet-machine
@@ -423,38 +422,11 @@ pub record Requests : Type 0 where
   pub goes : checkIn (serverAt small sentAll) (lentAt small sentAll) (request 1 output) ≡ Go 0
   pub not-due : isDue (linkOf (serverAt small sentAll) 0 .down) ≡ false
 
--- a session of a server is to be sent file 1, at place 0, of 80 bytes, and these calls follow
-pub record Begun (s : Start) (h : History) (session offset time : ℕ) (cs : List Call) (requests : ℕ) : Type 0 where
-  pub linked : linkOf (serverAt s h) (session - 1) .linked ≡ true
-  pub begun : linkOf (serverAt s h) (session - 1) .down ≡ down.Sending 0 offset 0
-  pub file : filesAt s h 0 .file ≡ record { number = 1; size = 80; received = 80; time = time }
-  pub size : length (filesAt s h 0 .bytes) ≡ 80
-  pub accepted : accepted s h 1 ≡ smallest
-  pub only : requestsOnly session cs ≡ true
-  pub asked : asks session cs ≡ requests
-
--- the small server's session sends a DOWNLOAD_CMD that asks for the file of a number, and gets no packet
-pub record Commanded (h : History) (clock : ℕ) (bytes : List ℕ) (number : ℕ) : Type 0 where
-  pub ends : endsIn small h 1 bytes ≡ some (packet 8 (drop 2 bytes))
-  pub quiet : callOf (serverAt small h) (lentAt small h) (rx clock bytes) .done .answer ≡ answer.Quiet 11
-  pub asked : numberAsked (serverAt small h) (lentAt small h) 0 (drop 2 bytes) ≡ number
-
 pub record Downloads : Type 0 where
-  -- file 1 by its number, and as the next selected file
-  pub by-number : Commanded lostOnce 12 (download 40 0) 1
-  pub next-selected : Commanded picked 13 nextFile 1
-  pub whole : Begun small sending 1 0 4 two 2
-  pub behind-40 : Begun small sending40 1 40 4 two 2
-  pub one : Begun small sending 1 0 4 (request 1 output ∷ []) 1
-  pub other : Begun pair handed 2 0 7 meanwhile 2
-  -- DOWNLOAD_CMD of the second link for the file that the first one uploaded, and then the requests among other calls
-  pub asked : endsIn pair both 2 (download 0 0) ≡ some (packet 8 (drop 2 (download 0 0)))
-  pub accepted : callOf (serverAt pair both) (lentAt pair both) (of 2 9 (download 0 0)) .done .answer ≡ answer.Quiet 11
-  pub number : numberAsked (serverAt pair both) (lentAt pair both) 1 (drop 2 (download 0 0)) ≡ 1
-  -- what the definitions give
+  -- what was accepted for the file that the first link uploaded, before the second one's DOWNLOAD_CMD and after it
+  pub before : accepted pair both 1 ≡ smallest
+  pub after : accepted pair handed 1 ≡ smallest
   pub fields : header-fields.fieldsSet 1 4 smallest ≡ complete80
-  pub data-80 : dataTo small sending 1 two ≡ complete80
-  pub not-yet : endTo small sending 1 (request 1 output ∷ []) ≡ false
 
 pub record Computed : Type 0 where
   pub refusals : Refusals
@@ -513,9 +485,6 @@ unfolding
     equation-holds.bytesOf equation-tree.truth files-completion.destinationsAt carry-download.beginTurn blocks-answers.readOut links-sound.namedAt
     server-sending.leastOf server-sending.dataOf server-sending.sendingOf server-sending.dueOf server-calls.dueAs server-calls.onRequest
     server-calls.requestOf sending40 complete80 handed decide-downlink.onNak demands-downloads.isDue
-    demands-downloads.numberAsked demands-downloads.isRequest demands-downloads.requestOrOther demands-downloads.requestsOnly
-    demands-downloads.sentTo demands-downloads.dataIn demands-downloads.dataTo demands-downloads.endTo demands-downloads.asksIn
-    demands-downloads.asks
 computing = 0
 
 pub computed : Computed
@@ -584,18 +553,4 @@ requested = record { goes = refl; not-due = refl }
 
 pub downloaded : Downloads
 unfolding computing
-downloaded =
-    record {
-      by-number = record { ends = refl; quiet = refl; asked = refl };
-      next-selected = record { ends = refl; quiet = refl; asked = refl };
-      whole = record { linked = refl; begun = refl; file = refl; size = refl; accepted = refl; only = refl; asked = refl };
-      behind-40 = record { linked = refl; begun = refl; file = refl; size = refl; accepted = refl; only = refl; asked = refl };
-      one = record { linked = refl; begun = refl; file = refl; size = refl; accepted = refl; only = refl; asked = refl };
-      other = record { linked = refl; begun = refl; file = refl; size = refl; accepted = refl; only = refl; asked = refl };
-      asked = refl;
-      accepted = refl;
-      number = refl;
-      fields = refl;
-      data-80 = refl;
-      not-yet = refl;
-    }
+downloaded = record { before = refl; after = refl; fields = refl }

@@ -19,7 +19,6 @@ pub mod Uncut
 pub mod Feeding
 pub mod Requests
 pub mod Downloads
-pub mod Begins
 pub mod Demand2
 pub mod Acts
 pub mod Decided

@@ -19,7 +19,8 @@ use Rattle.demands.specs.Closing.{ClosingIsLosing, EveryClosing}
 use Rattle.demands.specs.Cut.{CutElsewhere, LentEarlier}
 use Rattle.demands.specs.Uncut.{UncutSame}
 use Rattle.demands.specs.Feeding.{EnoughCalls, PiecesElsewhere}
-use Rattle.demands.specs.Downloads.{NothingDue, DownloadBegins, DownloadBrings, DownloadEnds}
+use Rattle.steps.specs.Downloads.{DownloadBegins, DownloadBrings, DownloadEnds}
+use Rattle.demands.specs.Downloads.{NothingDue}
 
 -- the reader finds this type and this information in front of the bytes
 pub record Reads (bytes : List ℕ) (kind : ℕ) (info : List ℕ) : Type 0 where
@@ -51,7 +52,7 @@ pub record Demand2 : Type 0 where
   -- and so after any calls from an empty store
   pub machine-after : EveryHistory
   pub nothing-due : NothingDue
-  -- "Each further request by the driver yields one DATA of up to 256 bytes, as full as can be, then DATA_END": so a download brings the file
+  -- "Each further request by the driver yields one DATA of up to 256 bytes, as full as can be, then DATA_END": so a download of the machine brings the file
   pub download-begins : DownloadBegins
   pub download : DownloadBrings
   pub download-ends : DownloadEnds

@@ -3,3 +3,6 @@ pub mod Changes
 pub mod Naming
 pub mod Own
 pub mod Neighbour
+pub mod Downloads
+pub mod Begins
+pub mod Start

@@ -116,7 +116,7 @@ find-snoc n (x ∷ fs) g f e = go (eqb (x .number) n) e (find-snoc n fs g f)
     go true e h = e
     go false e h = h e
 
-find-past : (n a b t : ℕ) (fs : List File) → Numbers a b t fs → b < n → find n fs ≡ none
+pub find-past : (n a b t : ℕ) (fs : List File) → Numbers a b t fs → b < n → find n fs ≡ none
 unfolding find
 find-past n a b t [] k h = refl
 find-past n a b t (x ∷ fs) k h = rw (ne-eqb (x .number) n (λ z. let w = k .1 in omega arith)) (find-past n (x .number) b t fs (k .3) h)
@@ -145,7 +145,7 @@ module _ (fs gs : List File) where
   down-stays (ended n) h o = h n o
   down-stays (aborting n) h o = h n o
 
-not-both : {P : Type 0} (n : ℕ) (fs : List File) → Partial n fs → Complete n fs → P
+pub not-both : {P : Type 0} (n : ℕ) (fs : List File) → Partial n fs → Complete n fs → P
 not-both n fs p c =
     let z : some (p .file) ≡ some (c .file) = sym (p .found) ∙ c .found in
     let e : p .file ≡ c .file = cc in

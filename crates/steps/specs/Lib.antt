@@ -4,3 +4,4 @@ pub mod Sound
 pub mod Naming
 pub mod Cut
 pub mod Neighbour
+pub mod Downloads
