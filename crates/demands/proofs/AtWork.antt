@@ -1,5 +1,5 @@
 -- The theorems of the three demands at work: each that has hypotheses is applied to a small case of Example.antt that meets them, and what it gives
--- is stated. The answer sheet at work is SheetAtWork.antt. Assumes nothing.
+-- is stated. The machine at work is MachineAtWork.antt. Assumes nothing.
 use mathlib.Core.Path.{_≡_, refl, ap, _∙_, sym, subst}
 use mathlib.Core.Bool.{Bool, true, false, cond}
 use mathlib.Core.Logic.{_⊎_, inl, inr}
@@ -19,7 +19,6 @@ use Rattle.blocks.specs.Owners.{blocks}
 use Rattle.table.specs.declared.File.{File}
 use Rattle.server.specs.State.{linkOf, mapPart, ownerPart, withPart}
 use Rattle.server.specs.Making.{newServer, emptied, emptyOf, makes, makeOf}
-use Rattle.server.specs.Calls.{Opened, loginOf}
 use Rattle.decide.specs.Words.{wordAt}
 use Rattle.history.specs.Calls.{Call, login, receive, lose, callOf, Start, History, start, _▸_, after}
 use Rattle.history.specs.Good.{Good}
@@ -38,7 +37,6 @@ use Rattle.demands.specs.Demand3.{serverAt, lentAt, filesAt, sentAt, Are
 use Rattle.demands.proofs.Demand1.{demand-1}
 use Rattle.demands.proofs.Demand2.{demand-2}
 use Rattle.demands.proofs.Uncut.{none-outside}
-use Rattle.demands.proofs.Unique.{calls-determined}
 use Rattle.demands.proofs.Whole.{demand-3}
 use Rattle.demands.proofs.Example.{small, small-legal, pair, pair-legal, output, rx, of, upload, dataEnd, shortUpload, largeUpload, nextFile}
 use Rattle.demands.proofs.Example.{titleAboveM, data41, type18, length257, opened, halfway, beforeUpload, lostOnce, tooEarly, uploads, both}
@@ -253,11 +251,6 @@ unfolding flatten
 three-pieces =
     demand-2 .pieces small small-legal opened 1 6 output room (upload 0 ∷ [])
     ((8 ∷ []) ∷ (3 ∷ 0 ∷ 0 ∷ []) ∷ (0 ∷ 0 ∷ 80 ∷ 0 ∷ 0 ∷ 0 ∷ []) ∷ []) refl
-
--- uniqueness: whatever meets the contract of this login has left LOGIN_RESP in the output
-pub one-login : (one : Opened) → one ≡ loginOf (serverAt small start) (lentAt small start) output 1 5
-    → one .out ≡ 5 ∷ 2 ∷ 5 ∷ 0 ∷ 0 ∷ 0 ∷ 4 ∷ replicate 251 0
-one-login one e = ap (λ (o : Opened). o .out) (calls-determined .login _ _ output 1 5 one _ e refl) ∙ computed .packets .hello
 
 -- ---- demand 3
 

@@ -1,4 +1,4 @@
--- Demand 2's sentences on replies, packets, closing and cutting, together. Assumes nothing.
+-- Demand 2's sentences on the machine, packets, closing and cutting, together. Assumes nothing.
 use mathlib.Core.Path.{_≡_, sym, ap, _∙_}
 use mathlib.Core.List.{List}
 use Prim.Native.Nat.{ℕ, _+_}
@@ -9,6 +9,7 @@ use Rattle.packet.proofs.PacketLaws.{accepted, reads-back, info-back, written-r
 use Rattle.session.specs.declared.reply.Answer.the-variants as answer
 use Rattle.server.specs.State.{Outcome}
 use Rattle.history.specs.Calls.{callOf}
+use Rattle.refines.proofs.Refining.{every-call, every-history}
 use Rattle.demands.specs.Demand1.{Answers, refuses, silent, closes, sends}
 use Rattle.demands.specs.Demand2.{WrittenReadsBack, SentReads, SentReadsBack, Demand2}
 use Rattle.demands.proofs.Answered.{every-call-answers}
@@ -17,10 +18,9 @@ use Rattle.demands.proofs.CutCalls.{cut-elsewhere}
 use Rattle.demands.proofs.Uncut.{uncut-same}
 use Rattle.demands.proofs.Earlier.{lent-earlier}
 use Rattle.demands.proofs.Feeding.{enough-calls, pieces-elsewhere}
-use Rattle.demands.proofs.Replies.{every-reply}
-use Rattle.demands.proofs.Requests.{every-request, nothing-due}
-use Rattle.demands.proofs.Downloads.{download-brings, download-ends}
-use Rattle.demands.proofs.Begins.{begins}
+use Rattle.demands.proofs.Requests.{nothing-due}
+use Rattle.steps.proofs.Downloads.{download-brings, download-ends}
+use Rattle.steps.proofs.Begins.{download-begins}
 
 -- THEOREM: what the writer leaves reads back
 pub every-written-reads-back : WrittenReadsBack
@@ -63,10 +63,10 @@ demand-2 =
     record {
       written = every-written-reads-back;
       sent = every-sent-reads-back;
-      replies = every-reply;
-      requests = every-request;
+      machine = every-call;
+      machine-after = every-history;
       nothing-due = nothing-due;
-      download-begins = begins;
+      download-begins = download-begins;
       download = download-brings;
       download-ends = download-ends;
       closing = every-closing;

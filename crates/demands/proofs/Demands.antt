@@ -3,17 +3,14 @@ use Rattle.paging.proofs.Examples.{examples}
 use Rattle.paging.proofs.Paging.{page-answered, paging, paging-whole}
 use Rattle.demands.specs.Demands.{Demands}
 use Rattle.demands.proofs.Demand1.{demand-1}
-use Rattle.demands.proofs.Unique.{calls-determined}
 use Rattle.demands.proofs.Demand2.{demand-2}
 use Rattle.demands.proofs.Whole.{demand-3}
-use Rattle.demands.proofs.Downloads.{from-pupil-to-pupil}
-use Rattle.demands.proofs.Begins.{asked-and-sent}
+use Rattle.demands.proofs.Downloads.{from-pupil-to-pupil, asked-and-sent}
 
 pub demands : Demands
 demands =
     record {
       every-answer = demand-1;
-      determined = calls-determined;
       real-answers = demand-2;
       sound-store = demand-3;
       pupil-to-pupil = from-pupil-to-pupil;

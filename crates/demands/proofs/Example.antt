@@ -1,12 +1,12 @@
 -- Small passes and calls, and what the server answers to them: by computation, from the definitions that the contracts cite. AtWork.antt,
--- SheetAtWork.antt and DownloadsAtWork.antt apply the theorems of the three demands to them, so that each is seen to speak of states, files and
+-- MachineAtWork.antt and DownloadsAtWork.antt apply the theorems of the three demands to them, so that each is seen to speak of states, files and
 -- packets that are there. The file is document 01's smallest one of 80 bytes. Assumes nothing.
 use mathlib.Core.Path.{_≡_, refl}
 use mathlib.Core.Bool.{true, false}
 use mathlib.Core.Logic.{inl, inr}
 use mathlib.Core.List.{List, [], _∷_, _++_}
 use mathlib.Core.Option.{none, some}
-use Prim.Native.Nat.{ℕ, _-_}
+use Prim.Native.Nat.{ℕ}
 use native.Mathlib.Omega.{arith}
 use lib.Count.{ones, trailingZeros}
 use lib.ListN.{length, getD, replicate, take, drop}
@@ -15,10 +15,7 @@ use Rattle.packet.specs.Frame.{Held, packet, byte}
 use Rattle.header.proofs.Examples.{smallest}
 use Rattle.header.specs.Header.{placeOf}
 use Rattle.session.specs.declared.state.Uplink.the-variants as up
-use Rattle.session.specs.declared.state.Downlink.the-variants as down
 use Rattle.session.specs.declared.reply.Answer.the-variants as answer
-use Rattle.session.specs.declared.reply.Reply.{Reply}
-use Rattle.session.specs.declared.reply.Reply.the-variants as reply
 use Rattle.session.specs.Reply.{Told, told}
 use Rattle.server.specs.declared.check.Check.the-variants.{Go}
 use Rattle.blocks.specs.FreeMap.{bitAt}
@@ -36,8 +33,7 @@ use Rattle.demands.specs.Feeding.{feedAll, feedPieces}
 use Rattle.demands.specs.Events.{given, added, finished, dropped}
 use Rattle.demands.specs.Accepted.{uploadOf, accepted, reserved, numbersGiven, total, completion, completions}
 use Rattle.demands.specs.Demand1.{Says, Fits, IsSound, forgotten, cleared}
-use Rattle.demands.specs.Replies.{replyTo}
-use Rattle.demands.specs.Downloads.{toRequest, isDue, numberAsked, requestsOnly, asks, dataTo, endTo}
+use Rattle.demands.specs.Downloads.{isDue}
 use Rattle.demands.specs.Demand3.{serverAt, lentAt, filesAt, sentAt, infoAt, Outside}
 use Rattle.packet.specs.Frame as packet-frame
 use Rattle.packet.specs.Machine as packet-machine
@@ -84,7 +80,6 @@ use Rattle.demands.specs.Uncut as demands-uncut
 use Rattle.demands.specs.Feeding as demands-feeding
 use Rattle.demands.specs.Events as demands-events
 use Rattle.demands.specs.Accepted as demands-accepted
-use Rattle.demands.specs.Replies as demands-replies
 use Rattle.demands.specs.Downloads as demands-downloads
 
 -- ---- the small store and what its one link brings
@@ -418,111 +413,23 @@ pub record Chopped : Type 0 where
   pub first′ : uncutOf pair unchopped .waiting 1 ≡ []
   pub second′ : uncutOf pair unchopped .waiting 2 ≡ 80 ∷ 0 ∷ []
 
--- the small server takes these bytes, which end in a packet, and the answer sheet has this reply to it
-pub record Sheeted (h : History) (clock : ℕ) (bytes : List ℕ) (r : Reply) : Type 0 where
-  pub kind : ℕ
-  pub info : List ℕ
-  pub goes : checkIn (serverAt small h) (lentAt small h) (rx clock bytes) ≡ Go 0
-  pub ends : eventAt (serverAt small h) (lentAt small h) 0 bytes ≡ some (packet kind info)
-  pub reply : replyTo (serverAt small h) (lentAt small h) 0 kind info ≡ r
-  pub taken : call byte (unfinished small h) bytes .taken ≡ length bytes
-
-pub record Sheet : Type 0 where
-  -- UPLOAD_CMD: of one byte; new, of 257 bytes and of 80; continued, behind the 40 bytes received, with another length, for a file that is not there,
-  -- and when the file is complete
-  pub short-upload : Sheeted opened 6 shortUpload (reply.UploadError 1)
-  pub no-room : Sheeted opened 6 largeUpload (reply.UploadError 13)
-  pub new : Sheeted opened 6 (upload 0) (reply.Go 1 0)
-  pub offered : Sheeted beforeUpload 10 (upload 1) (reply.Go 1 40)
-  pub other-length : Sheeted beforeUpload 10 otherLength (reply.UploadError 2)
-  pub no-such-file : Sheeted opened 6 (upload 1) (reply.UploadError 4)
-  pub finished : Sheeted lostOnce 12 (upload 1) (reply.UploadError 12)
-  -- DATA: 41 bytes behind 40 of 80, and 40
-  pub too-many : Sheeted halfway 8 data41 (reply.Nak 16)
-  pub just-enough : Sheeted halfway 8 (40 ∷ 0 ∷ drop 40 smallest) reply.Nothing
-  -- DATA_END: too early, and behind the whole file
-  pub too-few : Sheeted halfway 8 dataEnd (reply.Nak 16)
-  pub in-time : Sheeted (continued ▸ rest) 4 dataEnd reply.Ack
-  -- DOWNLOAD_CMD: the next selected file, where none is selected; file 1 when it is not there, when it is partial, from its end on, from behind its
-  -- end, and with a lock destination, of which it has none
-  pub none-selected : Sheeted opened 6 nextFile (reply.DownloadError 5)
-  pub absent : Sheeted opened 6 (download 0 0) (reply.DownloadError 4)
-  pub partial : Sheeted beforeUpload 10 (download 0 0) (reply.DownloadError 11)
-  pub at-the-end : Sheeted lostOnce 12 (download 80 0) reply.Nothing
-  pub behind-the-end : Sheeted lostOnce 12 (download 81 0) (reply.DownloadError 2)
-  pub locked : Sheeted lostOnce 12 (download 80 1) (reply.DownloadError 10)
-  -- the next selected file, where it is file 1
-  pub selected-next : Sheeted picked 13 nextFile reply.Nothing
-  -- SELECT_CMD: titles greater than "m"; a file_size equal to 80
-  pub title-above-m : Sheeted opened 6 titleAboveM (reply.DownloadError 8)
-  pub size-80 : Sheeted lostOnce 12 size80 (reply.Selected 1)
-  -- DL_ACK_CMD for no destination, and for one, of which the file has none
-  pub acknowledged : Sheeted sentAll 13 (ack 0) reply.Completed
-  pub no-destination : Sheeted sentAll 13 (ack 1) reply.Aborted
-  -- DL_NAK_CMD before DATA_END and after it
-  pub nak-before : Sheeted sending 13 nak reply.DataEnd
-  pub nak-after : Sheeted sentAll 13 nak reply.Aborted
-  -- types 14 and 18
-  pub type-14 : Sheeted opened 6 directory (reply.DownloadError 1)
-  pub type-18 : Sheeted opened 6 type18 reply.Closing
-
--- a request of the small server's session goes through, and this is told by the answer sheet
-pub record Requested (h : History) (t : Told) : Type 0 where
-  pub goes : checkIn (serverAt small h) (lentAt small h) (request 1 output) ≡ Go 0
-  pub reply : toRequest (linkOf (serverAt small h) 0 .down) (filesAt small h) output ≡ t
-
 -- a packet in front of the output
 abbrev pub packetTold : List ℕ → Told
 packetTold p = told (answer.Sent 0 (length p)) (p ++ drop (length p) output)
 
+-- a request when DATA_END was sent goes through, and nothing is due
 pub record Requests : Type 0 where
-  -- before a download nothing is due
-  pub idle : Requested lostOnce (told (answer.Quiet 0) output)
-  -- the whole file of 80 bytes, or the last 40, in one DATA; then DATA_END, then nothing
-  pub first : Requested sending (packetTold (80 ∷ 0 ∷ complete80))
-  pub last-40 : Requested sending40 (packetTold (40 ∷ 0 ∷ drop 40 complete80))
-  pub end : Requested (sending ▸ request 1 output) (packetTold (0 ∷ 1 ∷ []))
-  pub ended : Requested sentAll (told (answer.Quiet 0) output)
+  pub goes : checkIn (serverAt small sentAll) (lentAt small sentAll) (request 1 output) ≡ Go 0
   pub not-due : isDue (linkOf (serverAt small sentAll) 0 .down) ≡ false
-  -- DL_ABORTED_RESP, after a DL_NAK_CMD that brought DATA_END
-  pub aborted : Requested (sending ▸ rx 13 nak) (packetTold (0 ∷ 10 ∷ []))
-
--- a session of a server is to be sent file 1, at place 0, of 80 bytes, and these calls follow
-pub record Begun (s : Start) (h : History) (session offset time : ℕ) (cs : List Call) (requests : ℕ) : Type 0 where
-  pub linked : linkOf (serverAt s h) (session - 1) .linked ≡ true
-  pub begun : linkOf (serverAt s h) (session - 1) .down ≡ down.Sending 0 offset 0
-  pub file : filesAt s h 0 .file ≡ record { number = 1; size = 80; received = 80; time = time }
-  pub size : length (filesAt s h 0 .bytes) ≡ 80
-  pub accepted : accepted s h 1 ≡ smallest
-  pub only : requestsOnly session cs ≡ true
-  pub asked : asks session cs ≡ requests
-
--- the small server's session sends a DOWNLOAD_CMD that asks for the file of a number, and gets no packet
-pub record Commanded (h : History) (clock : ℕ) (bytes : List ℕ) (number : ℕ) : Type 0 where
-  pub ends : endsIn small h 1 bytes ≡ some (packet 8 (drop 2 bytes))
-  pub quiet : callOf (serverAt small h) (lentAt small h) (rx clock bytes) .done .answer ≡ answer.Quiet 11
-  pub asked : numberAsked (serverAt small h) (lentAt small h) 0 (drop 2 bytes) ≡ number
 
 pub record Downloads : Type 0 where
-  -- file 1 by its number, and as the next selected file
-  pub by-number : Commanded lostOnce 12 (download 40 0) 1
-  pub next-selected : Commanded picked 13 nextFile 1
-  pub whole : Begun small sending 1 0 4 two 2
-  pub behind-40 : Begun small sending40 1 40 4 two 2
-  pub one : Begun small sending 1 0 4 (request 1 output ∷ []) 1
-  pub other : Begun pair handed 2 0 7 meanwhile 2
-  -- DOWNLOAD_CMD of the second link for the file that the first one uploaded, and then the requests among other calls
-  pub asked : endsIn pair both 2 (download 0 0) ≡ some (packet 8 (drop 2 (download 0 0)))
-  pub accepted : callOf (serverAt pair both) (lentAt pair both) (of 2 9 (download 0 0)) .done .answer ≡ answer.Quiet 11
-  pub number : numberAsked (serverAt pair both) (lentAt pair both) 1 (drop 2 (download 0 0)) ≡ 1
-  -- what the definitions give
+  -- what was accepted for the file that the first link uploaded, before the second one's DOWNLOAD_CMD and after it
+  pub before : accepted pair both 1 ≡ smallest
+  pub after : accepted pair handed 1 ≡ smallest
   pub fields : header-fields.fieldsSet 1 4 smallest ≡ complete80
-  pub data-80 : dataTo small sending 1 two ≡ complete80
-  pub not-yet : endTo small sending 1 (request 1 output ∷ []) ≡ false
 
 pub record Computed : Type 0 where
   pub refusals : Refusals
-  pub sheet : Sheet
   pub locals : Locals
   pub closings : Closings
   pub packets : Packets
@@ -572,18 +479,12 @@ unfolding
     files-selection.selectOf equation-symbols.starsIn equation-symbols.goodText equation-symbols.goodNumber equation-symbols.good
     equation-symbols.connectiveOf equation-symbols.relationAt equation-symbols.tokenOf equation-symbols.follow equation-symbols.symbolsPast
     equation-tree.pushed equation-tree.joined equation-tree.result equation-tree.bind equation-tree.run equation-tree.parse equation-answer.refusal
-    equation-answer.validityOf equation-relation.width demands-replies.roomFor demands-replies.toNew demands-replies.toContinued
-    demands-replies.toUpload demands-replies.toData demands-replies.toEnd demands-replies.destinationsIn demands-replies.toFile
-    demands-replies.toNumbered demands-replies.toDownload demands-replies.toSelect demands-replies.toAck demands-replies.toNak
-    demands-replies.replyTo picked sending sentAll table-order.leastAbove table-order.nextAbove table-order.placesAbove stored-answers.truthAt
+    equation-answer.validityOf equation-relation.width picked sending sentAll table-order.leastAbove table-order.nextAbove table-order.placesAbove stored-answers.truthAt
     stored-answers.headerAt header-header.headerOf files-selection.isYes files-selection.passing equation-answer.said equation-answer.answer
     equation-answer.isYes equation-relation.compare equation-relation.numberMeets equation-relation.meets equation-holds.holds
     equation-holds.bytesOf equation-tree.truth files-completion.destinationsAt carry-download.beginTurn blocks-answers.readOut links-sound.namedAt
     server-sending.leastOf server-sending.dataOf server-sending.sendingOf server-sending.dueOf server-calls.dueAs server-calls.onRequest
-    server-calls.requestOf sending40 complete80 handed decide-downlink.onNak demands-downloads.toRequest demands-downloads.isDue
-    demands-downloads.numberAsked demands-downloads.isRequest demands-downloads.requestOrOther demands-downloads.requestsOnly
-    demands-downloads.sentTo demands-downloads.dataIn demands-downloads.dataTo demands-downloads.endTo demands-downloads.asksIn
-    demands-downloads.asks
+    server-calls.requestOf sending40 complete80 handed decide-downlink.onNak demands-downloads.isDue
 computing = 0
 
 pub computed : Computed
@@ -600,34 +501,6 @@ computed =
         same-server = refl;
         same-lent = refl;
         ignoring = refl;
-      };
-      sheet = record {
-        short-upload = record { kind = 3; info = 0 ∷ []; goes = refl; ends = refl; reply = refl; taken = refl };
-        no-room = record { kind = 3; info = drop 2 largeUpload; goes = refl; ends = refl; reply = refl; taken = refl };
-        new = record { kind = 3; info = drop 2 (upload 0); goes = refl; ends = refl; reply = refl; taken = refl };
-        offered = record { kind = 3; info = drop 2 (upload 1); goes = refl; ends = refl; reply = refl; taken = refl };
-        other-length = record { kind = 3; info = drop 2 otherLength; goes = refl; ends = refl; reply = refl; taken = refl };
-        no-such-file = record { kind = 3; info = drop 2 (upload 1); goes = refl; ends = refl; reply = refl; taken = refl };
-        finished = record { kind = 3; info = drop 2 (upload 1); goes = refl; ends = refl; reply = refl; taken = refl };
-        too-many = record { kind = 0; info = drop 2 data41; goes = refl; ends = refl; reply = refl; taken = refl };
-        just-enough = record { kind = 0; info = drop 40 smallest; goes = refl; ends = refl; reply = refl; taken = refl };
-        too-few = record { kind = 1; info = []; goes = refl; ends = refl; reply = refl; taken = refl };
-        in-time = record { kind = 1; info = []; goes = refl; ends = refl; reply = refl; taken = refl };
-        none-selected = record { kind = 8; info = drop 2 nextFile; goes = refl; ends = refl; reply = refl; taken = refl };
-        absent = record { kind = 8; info = drop 2 (download 0 0); goes = refl; ends = refl; reply = refl; taken = refl };
-        partial = record { kind = 8; info = drop 2 (download 0 0); goes = refl; ends = refl; reply = refl; taken = refl };
-        at-the-end = record { kind = 8; info = drop 2 (download 80 0); goes = refl; ends = refl; reply = refl; taken = refl };
-        behind-the-end = record { kind = 8; info = drop 2 (download 81 0); goes = refl; ends = refl; reply = refl; taken = refl };
-        locked = record { kind = 8; info = drop 2 (download 80 1); goes = refl; ends = refl; reply = refl; taken = refl };
-        selected-next = record { kind = 8; info = drop 2 nextFile; goes = refl; ends = refl; reply = refl; taken = refl };
-        title-above-m = record { kind = 16; info = drop 2 titleAboveM; goes = refl; ends = refl; reply = refl; taken = refl };
-        size-80 = record { kind = 16; info = drop 2 size80; goes = refl; ends = refl; reply = refl; taken = refl };
-        acknowledged = record { kind = 12; info = 0 ∷ []; goes = refl; ends = refl; reply = refl; taken = refl };
-        no-destination = record { kind = 12; info = 1 ∷ []; goes = refl; ends = refl; reply = refl; taken = refl };
-        nak-before = record { kind = 13; info = []; goes = refl; ends = refl; reply = refl; taken = refl };
-        nak-after = record { kind = 13; info = []; goes = refl; ends = refl; reply = refl; taken = refl };
-        type-14 = record { kind = 14; info = []; goes = refl; ends = refl; reply = refl; taken = refl };
-        type-18 = record { kind = 18; info = []; goes = refl; ends = refl; reply = refl; taken = refl };
       };
       locals = record {
         short-disk = λ e. clash e;
@@ -676,31 +549,8 @@ computed =
 
 pub requested : Requests
 unfolding computing
-requested =
-    record {
-      idle = record { goes = refl; reply = refl };
-      first = record { goes = refl; reply = refl };
-      last-40 = record { goes = refl; reply = refl };
-      end = record { goes = refl; reply = refl };
-      ended = record { goes = refl; reply = refl };
-      not-due = refl;
-      aborted = record { goes = refl; reply = refl };
-    }
+requested = record { goes = refl; not-due = refl }
 
 pub downloaded : Downloads
 unfolding computing
-downloaded =
-    record {
-      by-number = record { ends = refl; quiet = refl; asked = refl };
-      next-selected = record { ends = refl; quiet = refl; asked = refl };
-      whole = record { linked = refl; begun = refl; file = refl; size = refl; accepted = refl; only = refl; asked = refl };
-      behind-40 = record { linked = refl; begun = refl; file = refl; size = refl; accepted = refl; only = refl; asked = refl };
-      one = record { linked = refl; begun = refl; file = refl; size = refl; accepted = refl; only = refl; asked = refl };
-      other = record { linked = refl; begun = refl; file = refl; size = refl; accepted = refl; only = refl; asked = refl };
-      asked = refl;
-      accepted = refl;
-      number = refl;
-      fields = refl;
-      data-80 = refl;
-      not-yet = refl;
-    }
+downloaded = record { before = refl; after = refl; fields = refl }

@@ -6,7 +6,6 @@ pub mod Receiving
 pub mod Answered
 pub mod Demand1
 pub mod ClosingIsLosing
-pub mod Unique
 pub mod Parts
 pub mod Held
 pub mod Joined
@@ -18,13 +17,8 @@ pub mod Earlier
 pub mod Flushed
 pub mod Uncut
 pub mod Feeding
-pub mod Informed
-pub mod RepliesUp
-pub mod RepliesDown
-pub mod Replies
 pub mod Requests
 pub mod Downloads
-pub mod Begins
 pub mod Demand2
 pub mod Acts
 pub mod Decided
@@ -47,5 +41,5 @@ pub mod Demands
 pub mod Plain
 pub mod Example
 pub mod AtWork
-pub mod SheetAtWork
+pub mod MachineAtWork
 pub mod DownloadsAtWork

@@ -1,8 +1,8 @@
 -- Demand 2: "Every packet written or read, header check, selection, refusal and closing is what FTL0 version 0 with its corrections of March 1991 and
--- our marked house rules define." What the server says to each packet of a client is on one sheet, `EveryReply` (Replies.antt), and what it sends at
--- each request of the driver is `EveryRequest` (Downloads.antt); their parts are the contracts of the functions. "A packet written reads back as
+-- our marked house rules define." What the server answers and leaves at every call is the machine of crates/model, which is written from the papers: the
+-- server is this machine, `EveryCall` (crates/refines). Its parts are the contracts of the functions. "A packet written reads back as
 -- itself. Cutting elsewhere the bytes that a link takes, with each packet and closing byte at the same clock and in the same place among the other
--- calls, changes no packet sent and no state after it." proofs/AtWork.antt, SheetAtWork.antt and DownloadsAtWork.antt show the statements at work.
+-- calls, changes no packet sent and no state after it." proofs/AtWork.antt, MachineAtWork.antt and DownloadsAtWork.antt show the statements at work.
 -- Assumes nothing.
 use mathlib.Core.Path.{_≡_}
 use mathlib.Core.List.{List}
@@ -14,12 +14,13 @@ use Rattle.session.specs.declared.reply.Answer.the-variants as answer
 use Rattle.server.specs.declared.Server.{Server}
 use Rattle.server.specs.State.{Lent, Outcome}
 use Rattle.history.specs.Calls.{Call, callOf}
+use Rattle.refines.specs.Refines.{EveryCall, EveryHistory}
 use Rattle.demands.specs.Closing.{ClosingIsLosing, EveryClosing}
 use Rattle.demands.specs.Cut.{CutElsewhere, LentEarlier}
 use Rattle.demands.specs.Uncut.{UncutSame}
 use Rattle.demands.specs.Feeding.{EnoughCalls, PiecesElsewhere}
-use Rattle.demands.specs.Replies.{EveryReply}
-use Rattle.demands.specs.Downloads.{EveryRequest, NothingDue, DownloadBegins, DownloadBrings, DownloadEnds}
+use Rattle.steps.specs.Downloads.{DownloadBegins, DownloadBrings, DownloadEnds}
+use Rattle.demands.specs.Downloads.{NothingDue}
 
 -- the reader finds this type and this information in front of the bytes
 pub record Reads (bytes : List ℕ) (kind : ℕ) (info : List ℕ) : Type 0 where
@@ -47,10 +48,11 @@ pub record Demand2 : Type 0 where
   pub written : WrittenReadsBack
   pub sent : SentReadsBack
   -- "Every packet written or read, header check, selection, refusal and closing is what FTL0 version 0 .. define"
-  pub replies : EveryReply
-  pub requests : EveryRequest
+  pub machine : EveryCall
+  -- and so after any calls from an empty store
+  pub machine-after : EveryHistory
   pub nothing-due : NothingDue
-  -- "Each further request by the driver yields one DATA of up to 256 bytes, as full as can be, then DATA_END": so a download brings the file
+  -- "Each further request by the driver yields one DATA of up to 256 bytes, as full as can be, then DATA_END": so a download of the machine brings the file
   pub download-begins : DownloadBegins
   pub download : DownloadBrings
   pub download-ends : DownloadEnds

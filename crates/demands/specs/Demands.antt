@@ -7,7 +7,6 @@ use Rattle.history.specs.Calls.{Start, legal, History}
 use Rattle.paging.specs.Examples.{table, got, want}
 use Rattle.paging.specs.Paging.{PageAnswer, Paging, PagingWhole}
 use Rattle.demands.specs.Demand1.{Demand1}
-use Rattle.demands.specs.Unique.{CallsDetermined}
 use Rattle.demands.specs.Demand2.{Demand2}
 use Rattle.demands.specs.Demand3.{Demand3}
 use Rattle.demands.specs.Downloads.{FromPupilToPupil, AskedAndSent}
@@ -17,10 +16,8 @@ pub record Demands : Type 1 where
   -- refuses by a number from the table or closes the link. A refusal leaves the files, the session and the output buffer as that table says."
   pub every-answer : Demand1
   -- 2. "Every packet written or read, header check, selection, refusal and closing is what FTL0 version 0 .. and our marked house rules define": the
-  -- contract of each call is an equation with a definition written from the papers, so no other answer meets it
-  pub determined : CallsDetermined
-  -- and what the server says to each packet is the answer sheet (Replies.antt), and what a download brings is the file (Downloads.antt). "A packet
-  -- written reads back as itself. Cutting elsewhere the bytes that a link takes .. changes no packet sent and no state after it."
+  -- server is the machine of crates/model, and what a download brings is the file (Downloads.antt). "A packet written reads back as itself. Cutting
+  -- elsewhere the bytes that a link takes .. changes no packet sent and no state after it."
   pub real-answers : Demand2
   -- 3. "From an empty store, after any calls, links lost at any byte and clocks running backwards included: each storage block is free or belongs to
   -- one file; no file number is given twice; a complete file is the bytes accepted under its number, in order, with only the four server-set fields

@@ -1,10 +1,9 @@
 -- What a call did to the files, told by the packet that was heard and the packet that was sent, and not by what is stored. Assumes nothing.
 use mathlib.Core.Bool.{cond}
-use mathlib.Core.List.{List, []}
+use mathlib.Core.List.{List}
 use Prim.Native.Nat.{ℕ, _-_}
 use lib.Dec.{eqb}
-use lib.ListN.{getD, take}
-use Rattle.packet.specs.Packet.{kindIn}
+use lib.ListN.{take}
 use Rattle.packet.specs.declared.frame.Frame.{Frame}
 use Rattle.packet.specs.declared.frame.Frame.the-variants.{Open, TooLong, Whole, Refused}
 use Rattle.packet.specs.declared.frame.Framed.{Framed}
@@ -19,6 +18,8 @@ use Rattle.server.specs.declared.Server.{Server}
 use Rattle.server.specs.State.{Lent, Outcome, linkOf, tablePart}
 use Rattle.server.specs.Turns.{hearOf}
 use Rattle.history.specs.Calls.{Call, login, receive, request, lose, callOf}
+unfoldable pub use Rattle.steps.specs.Parts.{sentBy}
+pub use Rattle.steps.specs.Parts.{typeOf}
 
 -- ---- events
 
@@ -48,17 +49,6 @@ abbrev pub heardOf : Server → Lent → ℕ → List ℕ → Framed
 heardOf sv l i input = hearOf (l .held) i (linkOf sv i .held) input .framed
 
 -- ---- what was sent
-
--- the packet that a call sent, no byte where it sent none
-unfoldable pub sentBy : Answer → List ℕ → List ℕ
-sentBy (answer.Quiet taken) out = []
-sentBy (answer.Sent taken size) out = take size out
-sentBy (answer.Closed taken) out = []
-sentBy (answer.Refused r) out = []
-
--- the type of a packet
-abbrev pub typeOf : List ℕ → ℕ
-typeOf packet = kindIn (getD packet 1 0)
 
 -- DATA (0) of a session that uploads file n: its information is accepted
 unfoldable pub onQuiet : ℕ → Frame → List ℕ → Event

@@ -1,11 +1,9 @@
 pub mod Parts
 pub mod Demand1
 pub mod Closing
-pub mod Unique
 pub mod Cut
 pub mod Uncut
 pub mod Feeding
-pub mod Replies
 pub mod Downloads
 pub mod Demand2
 pub mod Events

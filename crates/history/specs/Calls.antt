@@ -9,19 +9,9 @@ use Rattle.server.specs.State.{Lent, lent, Outcome, outcome}
 use Rattle.server.specs.Check.{fits}
 use Rattle.server.specs.Making.{newServer, Makes, makeOf}
 use Rattle.server.specs.Calls.{loginOf, receiveOf, requestOf, loseOf}
+pub use Rattle.calls.specs.Call.{Call, login, receive, request, lose}
 
 -- ---- a call
-
--- Any session number, any clock reading, any bytes and any output lent, also a short one. Sessions are numbered from 1.
---   login session clock output
---   receive session clock bytes output
---   request session output
---   lose session
-pub data Call : Type 0 where
-  login : ℕ → ℕ → List ℕ → Call
-  receive : ℕ → ℕ → List ℕ → List ℕ → Call
-  request : ℕ → List ℕ → Call
-  lose : ℕ → Call
 
 -- the server and what is lent to each call
 pub record State : Type 0 where

@@ -1,0 +1,6 @@
+pub mod Script
+pub mod Numbered
+pub mod Lost
+pub mod Pages
+pub mod Downloads
+pub mod Refusals

@@ -1,0 +1,13 @@
+pub mod Plain
+pub mod Requests
+pub mod Turns
+pub mod Hearing
+pub mod Packets
+pub mod Downlink
+pub mod Uplink
+pub mod Uploads
+pub mod Beginning
+pub mod Select
+pub mod Expecting
+pub mod Receiving
+pub mod Refining

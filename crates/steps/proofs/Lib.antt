@@ -1,0 +1,8 @@
+pub mod Cutting
+pub mod Changes
+pub mod Naming
+pub mod Own
+pub mod Neighbour
+pub mod Downloads
+pub mod Begins
+pub mod Start

@@ -1,0 +1,7 @@
+pub mod Parts
+pub mod Change
+pub mod Sound
+pub mod Naming
+pub mod Cut
+pub mod Neighbour
+pub mod Downloads

@@ -1,0 +1,6 @@
+pub mod Lists
+pub mod Views
+pub mod Bytes
+pub mod Stores
+pub mod Counting
+pub mod Order
