@@ -92,22 +92,8 @@ listed-split c x cs l =
 
 -- ---- sums
 
--- one entry changes
-pub sum-moves : (n : ℕ) (f g : ℕ → ℕ) (p : ℕ) → p < n → ((q : ℕ) → (q ≡ p → ⊥) → g q ≡ f q) → sumTo n g + f p ≡ sumTo n f + g p
-unfolding sumTo
-sum-moves zero f g p h e = absurd (omega arith)
-sum-moves (suc n) f g zero h e =
-    omega (arith, count-ext n (λ i. g (suc i)) (λ i. f (suc i)) (λ i l. e (suc i) (λ z. omega arith)))
-sum-moves (suc n) f g (suc p) h e =
-    omega (arith, e 0 (λ z. omega arith), sum-moves n (λ i. f (suc i)) (λ i. g (suc i)) p (omega arith) (λ q z. e (suc q) (λ y. z (omega arith))))
-
 pub sum-same : (n : ℕ) (f g : ℕ → ℕ) → ((q : ℕ) → g q ≡ f q) → sumTo n g ≡ sumTo n f
 sum-same n f g e = count-ext n g f (λ i l. e i)
-
-pub sum-zero : (n : ℕ) (f : ℕ → ℕ) → ((q : ℕ) → f q ≡ 0) → sumTo n f ≡ 0
-unfolding sumTo
-sum-zero zero f e = refl
-sum-zero (suc n) f e = omega (arith, e 0, sum-zero n (λ i. f (suc i)) (λ q. e (suc q)))
 
 pub total-same : (n : ℕ) (f g : ℕ → ℕ) → ((k : ℕ) → k ≤ n → g k ≡ f k) → total n g ≡ total n f
 unfolding total

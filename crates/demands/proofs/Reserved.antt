@@ -15,7 +15,8 @@ use Rattle.demands.specs.Effect.{Effect, Gives, Drops}
 use Rattle.demands.specs.Accepted.{reservedBy, total}
 use Rattle.demands.specs.Demand3.{Live}
 use Rattle.demands.proofs.Orderly.{Orderly}
-use Rattle.demands.proofs.Lists.{sum-moves, sum-same, total-same, total-moves}
+use Rattle.views.proofs.Sums.{sum-moves}
+use Rattle.demands.proofs.Lists.{sum-same, total-same, total-moves}
 
 -- the blocks of a file's announced length, none where there is no file
 abbrev pub weight : View → ℕ

@@ -17,7 +17,7 @@ use Rattle.demands.proofs.Orderly.{Orderly, good-orderly}
 use Rattle.demands.proofs.Calls.{call-after}
 use Rattle.demands.proofs.Naming.{made-server, bound-after, event-same}
 use Rattle.demands.proofs.Steps.{contents-step}
-use Rattle.demands.proofs.Lists.{sum-zero}
+use Rattle.views.proofs.Sums.{sum-zero}
 use Rattle.demands.proofs.Numbers.{Timed, Own, Kept, fresh-step, numbers-step, times-step, own-step, kept-step}
 use Rattle.demands.proofs.Reserved.{weight, no-weight, Reserves, reserves-step}
 
