@@ -2,7 +2,7 @@
 use mathlib.Core.List.{List, [], _∷_, _++_}
 use Prim.Native.Nat.{ℕ, _+_}
 use lib.ListN.{length}
-use Rattle.packet.specs.Numbers.{two, four}
+use Rattle.numbers.specs.Numbers.{two, four}
 use Rattle.packet.specs.Packet.{packetOf}
 
 -- ---- files

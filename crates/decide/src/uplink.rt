@@ -1,6 +1,6 @@
 // The packets of the uplink: UPLOAD_CMD, DATA, DATA_END.
 use crate::act::Act;
-use packet::numbers::number32;
+use numbers::number32;
 use session::reply::Reply;
 use session::state::Session;
 use session::state::Uplink;

@@ -8,7 +8,7 @@ use borrow.Author.Tests.{le-ltb, lt-ltb, ltb-true, ltb-false, eqb-true, eqb-fals
 use lib.Dec.{eqb, ltb}
 use lib.ListN.{length, drop, set, getD, replicate, length-append, length-drop, length-replicate}
 use lib.Seq.{getD-set-same, set-out}
-use Rattle.packet.specs.Numbers.{two, four}
+use Rattle.numbers.specs.Numbers.{two, four}
 use Rattle.packet.specs.Packet.{packetOf}
 use Rattle.blocks.specs.Answers.{readOut, windowNumber}
 use Rattle.blocks.proofs.Laws.{read-gives, read-refused}

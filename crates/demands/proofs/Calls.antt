@@ -8,9 +8,9 @@ use lib.Dec.{eqb, ltb}
 use lib.ListN.{length, take, drop}
 use borrow.Author.Tests.{le-ltb, ne-eqb, ltb-false, eqb-false}
 use Rattle.packet.specs.declared.frame.Frame.{Frame}
-use Rattle.packet.specs.Numbers.{number, four}
+use Rattle.numbers.specs.Numbers.{number, four}
 use Rattle.packet.specs.Packet.{packetOf}
-use Rattle.packet.proofs.NumberLaws.{number-four}
+use Rattle.numbers.proofs.NumberLaws.{number-four}
 use Rattle.session.specs.declared.reply.Reply.{Reply}
 use Rattle.session.specs.declared.reply.Reply.the-variants as reply
 use Rattle.session.specs.State.{withHeld}

@@ -11,7 +11,7 @@ use lib.Seq.{length-take-le}
 use mathlib.Core.Option.{Option, none, some}
 use Rattle.header.specs.Items.{marked, walk, fieldsOf}
 use Rattle.header.specs.Header.{checkItems, checkValues, verdict, proper, complete, bytesOf, headerLength, headerSum, bodySum}
-use Rattle.packet.specs.Numbers.{number}
+use Rattle.numbers.specs.Numbers.{number}
 use Rattle.equation.specs.Answer.{refusal, validityOf}
 use Rattle.equation.specs.Tree.{Tree, parse}
 use Rattle.blocks.specs.FreeMap.{freeCount}

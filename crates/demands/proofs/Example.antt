@@ -37,7 +37,7 @@ use Rattle.demands.specs.Downloads.{isDue}
 use Rattle.demands.specs.Demand3.{serverAt, lentAt, filesAt, sentAt, infoAt, Outside}
 use Rattle.packet.specs.Frame as packet-frame
 use Rattle.packet.specs.Machine as packet-machine
-use Rattle.packet.specs.Numbers as packet-numbers
+use Rattle.numbers.specs.Numbers as byte-numbers
 use Rattle.packet.specs.Packet as packet-packet
 use Rattle.session.specs.Expected as session-expected
 use Rattle.session.specs.Reply as session-reply
@@ -447,7 +447,7 @@ unfolding
     small opened halfway beforeUpload continued lostOnce tooEarly pair uploads both smallest ones trailingZeros links-sound.downlinkSound
     demands-events.sentBy demands-accepted.namedBy demands-accepted.noneBy demands-accepted.uploadOf packet-frame.judged packet-frame.byte
     packet-frame.withoutPacket packet-frame.answerBy packet-frame.answerOf packet-frame.receiveOf packet-machine.called packet-machine.call
-    packet-numbers.number packet-packet.packetOf session-expected.expectedUp session-expected.expected session-reply.tell session-reply.answered
+    byte-numbers.number packet-packet.packetOf session-expected.expectedUp session-expected.expected session-reply.tell session-reply.answered
     table-table.files table-table.putTable table-table.firstFrom table-fit.fileFits table-fit.recordFits table-fit.recordsFitFrom table-fit.among
     table-fit.apart table-fit.distinctOf blocks-freemap.freeCount blocks-freemap.lowest blocks-freemap.reservedMap blocks-owners.blocks
     blocks-owners.countsFrom blocks-owners.nth blocks-owners.reservedOwner blocks-owners.releasedOwner blocks-owners.releasedMap

@@ -8,9 +8,9 @@ use lib.Dec.{ltb}
 use lib.ListN.{length, getD, set, take, drop, replicate}
 use lib.Seq.{getD-set-same, getD-set-other}
 use borrow.Author.Tests.{le-ltb, eq-eqb, ne-eqb}
-use Rattle.packet.specs.Numbers.{number}
+use Rattle.numbers.specs.Numbers.{number}
 use Rattle.packet.specs.Packet.{packetOf}
-use Rattle.packet.proofs.NumberLaws.{number-four}
+use Rattle.numbers.proofs.NumberLaws.{number-four}
 use Rattle.blocks.proofs.Bits.{by-eq, by-lt}
 use Rattle.session.specs.declared.state.Session.{Session}
 use Rattle.session.specs.declared.state.Uplink.{Uplink}

@@ -7,9 +7,9 @@ use native.Mathlib.Omega.{arith}
 use lib.ListN.{length}
 use lib.Seq.{length-take-le}
 use borrow.Author.Tests.{le-ltb}
-use Rattle.packet.specs.Numbers.{number, four}
+use Rattle.numbers.specs.Numbers.{number, four}
 use Rattle.packet.specs.Packet.{packetOf}
-use Rattle.packet.proofs.NumberLaws.{number-four}
+use Rattle.numbers.proofs.NumberLaws.{number-four}
 use Rattle.blocks.specs.Contents.{held}
 use Rattle.blocks.proofs.Held.{length-held}
 use Rattle.blocks.proofs.Owners.{blocks-le}

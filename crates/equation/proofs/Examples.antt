@@ -3,7 +3,7 @@ use mathlib.Core.Path.{_≡_, refl}
 use mathlib.Core.Bool.{Bool, true, false}
 use mathlib.Core.List.{List, [], _∷_, _++_}
 use Prim.Native.Nat.{ℕ, zero, suc}
-use Rattle.packet.specs.Numbers.{number}
+use Rattle.numbers.specs.Numbers.{number}
 use Rattle.text.specs.Match.{lower, fits, anyTail, one, matches}
 use Rattle.header.specs.Items.{headOf, after, walk, marked, fieldsOf}
 use Rattle.equation.specs.Relation.{width, compare, textMeets, numberMeets, meets}

@@ -4,8 +4,8 @@ use mathlib.Core.Bool.{Bool, true, false, cond}
 use mathlib.Core.List.{List, [], _∷_}
 use Prim.Native.Nat.{ℕ, _<_}
 use lib.Dec.{eqb, ltb}
-use Rattle.packet.specs.Numbers.{four}
-use Rattle.packet.proofs.NumberLaws.{number-four}
+use Rattle.numbers.specs.Numbers.{four}
+use Rattle.numbers.proofs.NumberLaws.{number-four}
 use Rattle.header.specs.Items.{Field}
 use Rattle.equation.specs.Relation.{width, compare, numberMeets, meets}
 use Rattle.equation.specs.Holds.{Relation, holds, bytesOf}

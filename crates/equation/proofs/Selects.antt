@@ -7,7 +7,7 @@ use Prim.Native.Nat.{ℕ, _+_, _≤_, _<_}
 use native.Mathlib.Omega.{arith}
 use lib.Dec.{ltb}
 use lib.ListN.{length}
-use Rattle.packet.specs.Numbers.{four}
+use Rattle.numbers.specs.Numbers.{four}
 use Rattle.header.specs.Items.{Field}
 use Rattle.equation.specs.Holds.{holds, bytesOf}
 use Rattle.equation.specs.Tree.{Tree, leaf, both, parse, truth, truthOn}

@@ -9,7 +9,7 @@ use lib.Dec.{leb, ltb}
 use lib.ListN.{length, getD, set, take, drop, length-set, length-drop, drop-of-length-le}
 use lib.Seq.{sets, drop-drop, getD-drop, take-all, take-nil}
 use borrow.Author.Tests.{lt-ltb}
-use Rattle.packet.specs.Numbers.{number}
+use Rattle.numbers.specs.Numbers.{number}
 use Rattle.equation.specs.Holds.{Relation, relationOf}
 use Rattle.equation.specs.Symbols.{good, connectiveOf, relationAt, tokenOf, Symbol, rel, and, or, follow, symbolsPast, symbols, relations}
 use Rattle.equation.specs.Marks.{relationsOf}

@@ -9,7 +9,7 @@ use lib.Dec.{eqb, leb, ltb}
 use lib.ListN.{length, getD, take, drop, length-drop, drop-of-length-le}
 use lib.Seq.{drop-cons}
 use borrow.Author.Tests.{ltb-true, ltb-false, leb-true, lt-leb, le-leb, eq-eqb, ne-eqb}
-use Rattle.packet.specs.Numbers.{number}
+use Rattle.numbers.specs.Numbers.{number}
 use Rattle.equation.specs.Symbols.{starsIn, good, connectiveOf, relationAt, tokenOf}
 use Rattle.equation.specs.declared.tokens.Token.the-variants.{Bad, End, And, Or, Rel}
 

@@ -2,7 +2,7 @@
 -- equation that has room for that condition"). Assumes nothing.
 use mathlib.Core.List.{List, [], _∷_, _++_}
 use Prim.Native.Nat.{ℕ, zero, suc, _+_}
-use Rattle.packet.specs.Numbers.{four}
+use Rattle.numbers.specs.Numbers.{four}
 use Rattle.equation.specs.Holds.{Relation, relationOf}
 use Rattle.equation.specs.Symbols.{tokenOf}
 use Rattle.equation.specs.declared.tokens.Token.{Token}

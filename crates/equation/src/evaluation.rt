@@ -58,7 +58,7 @@ fn mark(m: u8, eq: &[u8], at: usize, id: u16, item: &[u8]) -> u8
     ensures { λ r. ⌜ r ≡ markAfter (relationFrom (now (eq .entry)) at) (fieldOf id (now (item .entry))) m ⌝ }
 {
     if m == 0 {
-        let named = packet::numbers::number16(byte_of(eq, at + 1), byte_of(eq, at + 2));
+        let named = numbers::number16(byte_of(eq, at + 1), byte_of(eq, at + 2));
         if id == named {
             if meets_at(eq, at, item) {
                 return 2;

@@ -2,7 +2,7 @@
 ghost use mathlib.Core.Path.{_≡_};
 ghost use Prim.Native.Nat.{_≤_};
 ghost use lib.ListN.{length};
-ghost use Rattle.packet.specs.Numbers.{number};
+ghost use Rattle.numbers.specs.Numbers.{number};
 ghost use Rattle.equation.specs.Relation.{width, compare, textMeets, numberMeets, meets};
 
 // The number of up to four bytes.

@@ -94,7 +94,7 @@ fn read_relation(eq: &[u8], at: usize) -> Token
         return Token::Bad;
     }
     let code = eq[at];
-    let id = packet::numbers::number16(eq[at + 1], eq[at + 2]);
+    let id = numbers::number16(eq[at + 1], eq[at + 2]);
     let n = eq[at + 3] as usize;
     let start = at + 4;
     if eq.len() - start < n {

@@ -3,7 +3,7 @@ use mathlib.Core.Path.{_≡_, refl}
 use mathlib.Core.List.{List, [], _∷_}
 use Prim.Native.Nat.{ℕ}
 use lib.ListN.{take}
-use Rattle.packet.specs.Numbers.{number}
+use Rattle.numbers.specs.Numbers.{number}
 use Rattle.header.specs.Items.{headOf, after, walk, marked, fieldsOf}
 use Rattle.header.specs.Header.{listed, every, countIf, bytesOf, lengthIn, lengthFits, ordered, proper, complete, sumOf, checkItems, checkValues, verdict, placeFrom}
 use Rattle.header.specs.Fields.{withFields, withSum, fieldsSet}

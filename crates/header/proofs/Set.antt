@@ -9,8 +9,8 @@ use lib.Dec.{ltb, eqb}
 use lib.ListN.{length, getD, set, take, drop, length-append}
 use lib.Seq.{sets, length-sets, getD-set-other}
 use borrow.Author.Tests.{eq-eqb, ne-eqb, eqb-true, eqb-false}
-use Rattle.packet.specs.Numbers.{number, two, four, storedAt}
-use Rattle.packet.proofs.NumberLaws.{number-two, number-four, stored-at}
+use Rattle.numbers.specs.Numbers.{number, two, four, storedAt}
+use Rattle.numbers.proofs.NumberLaws.{number-two, number-four, stored-at}
 use Rattle.header.specs.Items.{Field, fieldsOf}
 use Rattle.header.specs.Header.{listed, times, bytesOf, lengthIn, listedLength, proper, complete, sumOf, headerLength, headerSum, checkItems, checkValues, verdict, placeFrom, placeOf, headerOf, refusedWith}
 use Rattle.header.specs.Fields.{serverSet, withFields, withSum, fieldsSet}

@@ -6,7 +6,7 @@ use Prim.Native.Nat.{ℕ, _+_, _*_, _/_, _%_, _≤_, _<_}
 use native.Mathlib.Omega.{arith}
 use lib.Dec.{ltb, leb, eqb}
 use lib.ListN.{length}
-use Rattle.packet.specs.Numbers.{number}
+use Rattle.numbers.specs.Numbers.{number}
 use Rattle.header.specs.Items.{Field}
 use Rattle.header.specs.Header.{every, countIf, times, bytesOf, lengthFits, fits, ordered, sumOf}
 use Rattle.header.specs.Scan.{bumped, passedOne, okAfter, lastAfter, withHead, withData}

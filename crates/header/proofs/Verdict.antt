@@ -8,7 +8,7 @@ use lib.Dec.{ltb, leb, eqb}
 use lib.ListN.{length, take, drop, length-append}
 use lib.Seq.{take-append-seam, drop-append-seam}
 use borrow.Author.Tests.{eqb-true, leb-true}
-use Rattle.packet.specs.Numbers.{number}
+use Rattle.numbers.specs.Numbers.{number}
 use Rattle.header.specs.Items.{Field, walk, marked, fieldsOf}
 use Rattle.header.specs.Header.{listed, every, countIf, times, bytesOf, lengthIn, fits, ordered, proper, complete, sumOf, headerLength, headerSum, bodySum, checkItems, checkValues, verdict, nowhere, placeFrom, placeOf, refusedWith, headerOf}
 use Rattle.header.specs.Scan.{inHeader, inBody, unmarked, passedOne, placeAfter, withHead, withData, startOf, stepOf, scanFrom, headerFrom, seenRefusal, itemRefusal, scanSum, valueRefusal, scanVerdict, scanHeader}

@@ -8,7 +8,7 @@ use lib.Dec.{eqb, leb}
 use lib.ListN.{length, getD, take, drop, length-drop}
 use lib.Seq.{drop-cons, drop-drop}
 use borrow.Author.Tests.{leb-true, le-leb, lt-leb, eq-eqb, ne-eqb}
-use Rattle.packet.specs.Numbers.{number}
+use Rattle.numbers.specs.Numbers.{number}
 use Rattle.header.specs.Items.{headOf, after, walk}
 use Rattle.header.specs.declared.items.Head.{Head}
 use Rattle.header.specs.declared.items.Head.the-variants.{Broken, End, Item}

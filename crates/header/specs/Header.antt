@@ -4,7 +4,7 @@ use mathlib.Core.List.{List, [], _∷_}
 use Prim.Native.Nat.{ℕ, _+_, _-_, _%_}
 use lib.Dec.{ltb, leb, eqb}
 use lib.ListN.{length, take, drop}
-use Rattle.packet.specs.Numbers.{number}
+use Rattle.numbers.specs.Numbers.{number}
 use Rattle.header.specs.Items.{Field, walk, marked, fieldsOf}
 use Rattle.header.specs.declared.scan.Place.{Place}
 use Rattle.header.specs.declared.scan.Header.{Header}

@@ -20,7 +20,7 @@ pub fn read_head(bytes: &[u8], at: usize) -> Head
     if bytes.len() - 3 < at {
         return Head::Broken;
     }
-    let id = packet::numbers::number16(bytes[at], bytes[at + 1]);
+    let id = numbers::number16(bytes[at], bytes[at + 1]);
     let n = bytes[at + 2] as usize;
     if id == 0 {
         if n == 0 {

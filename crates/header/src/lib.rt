@@ -33,11 +33,11 @@ pub fn set_fields(file: &mut [u8], number: u32, time: u32) -> u8
     let header = read_header(file, 18);
     if header.refusal == 0 {
         let at = header.place.at;
-        packet::numbers::write32(file, 5, number);
-        packet::numbers::write32(file, 43, time);
-        packet::numbers::write32(file, at, time);
+        numbers::write32(file, 5, number);
+        numbers::write32(file, 43, time);
+        numbers::write32(file, at, time);
         let sum = read_header(file, 10).sum;
-        packet::numbers::write16(file, 63, sum);
+        numbers::write16(file, 63, sum);
         return 0;
     }
     header.refusal

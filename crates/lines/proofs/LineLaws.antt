@@ -11,8 +11,8 @@ use lib.ListN.{length, set, drop, take, getD, replicate, length-append, length-d
 use lib.Seq.{sets, length-sets, take-append-seam, take-all}
 use Rattle.packet.specs.declared.names.Name.{Name}
 use Rattle.packet.specs.Names.{bytesOf, names, nameOf, named}
-use Rattle.packet.specs.Numbers.{storedAt}
-use Rattle.packet.proofs.NumberLaws.{stored-at}
+use Rattle.numbers.specs.Numbers.{storedAt}
+use Rattle.numbers.proofs.NumberLaws.{stored-at}
 use Rattle.lines.specs.Text.{decimalOf, hexOf}
 use Rattle.lines.specs.Lines.{printed, printedIn, sentLine, packetLine, closedLine, refusedLine, errorLine, blocksLine}
 use Rattle.lines.proofs.TextLaws.{hex-length, digits-most, digits-most-32, digits-most-8}

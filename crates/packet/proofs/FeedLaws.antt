@@ -12,8 +12,8 @@ use lib.ListN.{length, set, take, drop, drop-of-length-le, length-drop}
 use lib.Seq.{sets, getD-set-other, length-take-le, drop-drop}
 use Rattle.packet.specs.declared.frame.Mark.{Mark}
 use Rattle.packet.specs.declared.frame.Mark.the-variants.{More, Long, End}
-use Rattle.packet.specs.Numbers.{storedAt}
-use Rattle.packet.proofs.NumberLaws.{stored-at}
+use Rattle.numbers.specs.Numbers.{storedAt}
+use Rattle.numbers.proofs.NumberLaws.{stored-at}
 use Rattle.packet.specs.Frame.{announcedIn}
 use Rattle.packet.specs.Feed.{markOf, wantedOf, leastOf, Part, fedIn, fedMore, afterByte, feedOf}
 

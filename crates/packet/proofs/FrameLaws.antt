@@ -15,8 +15,8 @@ use Rattle.packet.specs.declared.frame.Mark.{Mark}
 use Rattle.packet.specs.declared.frame.Mark.the-variants.{More, Long, End}
 use Rattle.packet.specs.declared.frame.Fed.{Fed}
 use Rattle.packet.specs.declared.frame.Frame.the-variants.{Open, TooLong, Whole, Refused}
-use Rattle.packet.specs.Numbers.{storedAt}
-use Rattle.packet.proofs.NumberLaws.{stored-at}
+use Rattle.numbers.specs.Numbers.{storedAt}
+use Rattle.numbers.proofs.NumberLaws.{stored-at}
 use Rattle.packet.specs.Packet.{kindIn}
 use Rattle.packet.specs.Machine.{Step, more, ends, Call, call, called, further}
 use Rattle.packet.specs.Frame.{Held, Event, too-long, none-held, announcedIn, packetIn, judged, byte, padded, heard, withoutPacket, answerBy, answerOf, receiveOf}

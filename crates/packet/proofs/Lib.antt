@@ -1,4 +1,3 @@
-pub mod NumberLaws
 pub mod NameLaws
 pub mod PacketLaws
 pub mod FeedLaws

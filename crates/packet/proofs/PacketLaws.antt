@@ -11,8 +11,8 @@ use lib.ListN.{length, take, drop, getD, set, length-append}
 use lib.Seq.{sets-eq, drop-drop, take-append-seam, take-add, length-take-le}
 use Rattle.packet.specs.declared.plain.Written.the-variants.{Refused, Packet}
 use Rattle.packet.specs.declared.plain.Plain.the-variants as plain
-use Rattle.packet.specs.Numbers.{storedAt}
-use Rattle.packet.proofs.NumberLaws.{stored-at}
+use Rattle.numbers.specs.Numbers.{storedAt}
+use Rattle.numbers.proofs.NumberLaws.{stored-at}
 use Rattle.packet.specs.Packet.{packetOf, announced, kindIn, writeAnswer, leftIn, readAnswer}
 
 -- ---- the reader, by the first two bytes

@@ -1,4 +1,3 @@
-pub mod Numbers
 pub mod Names
 pub mod Packet
 pub mod Machine

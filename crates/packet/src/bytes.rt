@@ -1,7 +1,7 @@
 // Bytes stored at a place of a slice.
 ghost use mathlib.Core.Path.{_≡_};
 ghost use lib.ListN.{length};
-ghost use Rattle.packet.specs.Numbers.{fitsAt, storedAt};
+ghost use Rattle.numbers.specs.Numbers.{fitsAt, storedAt};
 
 // Stores all of `from` in `to` from byte `at` on: 0, or 33 and nothing stored where it does not fit.
 pub fn store(to: &mut [u8], at: usize, from: &[u8]) -> u8

@@ -1,6 +1,5 @@
-// Bytes on a link, before any server: packets and the numbers in them.
+// Bytes on a link, before any server: packets.
 pub mod bytes;
 pub mod frame;
 pub mod names;
-pub mod numbers;
 pub mod plain;

@@ -9,7 +9,7 @@ use native.Mathlib.Nat.{suc-mul, mul-le-mul-right}
 use lib.ListN.{length, take, drop, replicate, length-drop}
 use lib.Seq.{length-take-le}
 use borrow.Author.Tests.{eq-eqb, ne-eqb, le-ltb, le-leb}
-use Rattle.packet.specs.Numbers.{two}
+use Rattle.numbers.specs.Numbers.{two}
 use Rattle.packet.specs.Packet.{packetOf}
 use Rattle.packet.specs.declared.frame.Frame.the-variants.{Whole}
 use Rattle.packet.specs.Frame.{padded}

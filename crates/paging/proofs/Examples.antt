@@ -1,7 +1,7 @@
 -- The examples P1 to P12 of document 01, "proved together, by one statement": by computation. Assumes nothing.
 use mathlib.Core.Path.{_≡_, refl}
 use mathlib.Core.List.{map}
-use Rattle.packet.specs.Numbers.{number}
+use Rattle.numbers.specs.Numbers.{number}
 use Rattle.packet.specs.Packet.{packetOf}
 use Rattle.packet.specs.Machine.{called, call}
 use Rattle.packet.specs.Frame.{judged, byte, withoutPacket, answerBy, answerOf, receiveOf}

@@ -7,9 +7,9 @@ use native.Mathlib.Omega.{arith}
 use lib.Dec.{ltb}
 use lib.ListN.{length, getD, take, drop, replicate, length-map, take-append-drop}
 use lib.Seq.{take-take, take-at, drop-at, getD-set-same, length-take-le}
-use Rattle.packet.specs.Numbers.{number, two, four}
+use Rattle.numbers.specs.Numbers.{number, two, four}
 use Rattle.packet.specs.Packet.{packetOf}
-use Rattle.packet.proofs.NumberLaws.{number-four}
+use Rattle.numbers.proofs.NumberLaws.{number-four}
 use Rattle.header.specs.Items.{fieldsOf}
 use Rattle.header.specs.Header.{bytesOf}
 use Rattle.equation.specs.declared.evaluation.Truth.{Truth}

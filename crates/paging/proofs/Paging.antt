@@ -10,7 +10,7 @@ use native.Mathlib.Omega.{arith}
 use lib.Dec.{leb}
 use lib.ListN.{length, getD, take, length-map}
 use borrow.Author.Tests.{leb-true, leb-false}
-use Rattle.packet.specs.Numbers.{number}
+use Rattle.numbers.specs.Numbers.{number}
 use Rattle.header.specs.Items.{fieldsOf}
 use Rattle.header.specs.Header.{bytesOf}
 use Rattle.equation.specs.Answer.{validityOf}

@@ -8,7 +8,7 @@ use lib.Dec.{eqb, leb}
 use lib.ListN.{length, take, drop, length-drop, length-append, take-append-drop}
 use lib.Seq.{sets, length-take-le, take-at, drop-at}
 use borrow.Author.Tests.{eqb-false, leb-true, le-leb}
-use Rattle.packet.specs.Numbers.{two, four}
+use Rattle.numbers.specs.Numbers.{two, four}
 use Rattle.header.specs.Items.{Field, Walk, headOf, walk, marked, fieldsOf}
 use Rattle.header.specs.Header.{listed, countIf, times, bytesOf, lengthIn, listedLength, proper, complete, headerSum, checkItems, placeFrom, placeOf}
 use Rattle.header.specs.Fields.{withFields, withSum, fieldsSet}

@@ -9,8 +9,8 @@ use Rattle.packet.specs.Packet.{packetOf}
 use Rattle.packet.specs.Machine.{called, call}
 use Rattle.packet.specs.Frame.{judged, byte, withoutPacket, answerBy, answerOf}
 use Rattle.packet.specs.Frame as packet
-use Rattle.packet.specs.Numbers.{number, two}
-use Rattle.packet.specs.Numbers as numbers
+use Rattle.numbers.specs.Numbers.{number, two}
+use Rattle.numbers.specs.Numbers as numbers
 use Rattle.header.specs.Items.{headOf, walk, marked, fieldsOf}
 use Rattle.header.specs.Items as header
 use Rattle.header.specs.Header.{listed, every, countIf, lengthIn, lengthFits, ordered, proper, complete, sumOf, checkItems, checkValues, verdict}

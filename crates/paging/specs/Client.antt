@@ -5,7 +5,7 @@ use mathlib.Core.Bool.{Bool, true}
 use mathlib.Core.List.{List, _++_}
 use Prim.Native.Nat.{ℕ, _-_, _*_, _≤_, _<_}
 use lib.ListN.{length, take, drop}
-use Rattle.packet.specs.Numbers.{two}
+use Rattle.numbers.specs.Numbers.{two}
 use Rattle.packet.specs.Packet.{packetOf}
 use Rattle.header.specs.Items.{fieldsOf}
 use Rattle.equation.specs.Newer.{narrowed}

@@ -7,7 +7,7 @@ use mathlib.Core.List.{List, [], _∷_, _++_, map, List·Memᴰ}
 use Prim.Native.Nat.{ℕ, _+_, _≤_, _<_}
 use lib.Dec.{ltb}
 use lib.ListN.{length}
-use Rattle.packet.specs.Numbers as numbers
+use Rattle.numbers.specs.Numbers as numbers
 use Rattle.header.specs.Items.{fieldsOf}
 use Rattle.header.specs.Header.{bytesOf}
 use Rattle.equation.specs.Answer.{validityOf}

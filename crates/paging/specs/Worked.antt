@@ -4,7 +4,7 @@ use mathlib.Core.Bool.{true}
 use mathlib.Core.List.{List, [], _∷_, _++_}
 use Prim.Native.Nat.{ℕ, _+_, _≤_}
 use lib.ListN.{length, replicate}
-use Rattle.packet.specs.Numbers.{four}
+use Rattle.numbers.specs.Numbers.{four}
 use Rattle.packet.specs.Packet.{packetOf}
 use Rattle.equation.specs.Answer.{validityOf}
 use Rattle.server.specs.State.{lent}

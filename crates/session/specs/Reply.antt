@@ -4,7 +4,7 @@ use mathlib.Core.List.{List, [], _∷_, _++_}
 use Prim.Native.Nat.{ℕ, _+_}
 use lib.Dec.{ltb}
 use lib.ListN.{length, drop}
-use Rattle.packet.specs.Numbers.{two, four}
+use Rattle.numbers.specs.Numbers.{two, four}
 use Rattle.packet.specs.Packet.{packetOf}
 use Rattle.session.specs.declared.reply.Reply.{Reply}
 use Rattle.session.specs.declared.reply.Reply.the-variants as reply

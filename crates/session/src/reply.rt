@@ -1,10 +1,10 @@
 // The packets that the server sends, but for DATA, and the answer of a call.
-use packet::numbers::write32;
+use numbers::write32;
 ghost use mathlib.Core.Path.{_≡_};
 ghost use mathlib.Core.List.{[], _∷_, _++_};
 ghost use Prim.Native.Nat.{_≤_};
 ghost use lib.ListN.{length};
-ghost use Rattle.packet.specs.Numbers.{two, four};
+ghost use Rattle.numbers.specs.Numbers.{two, four};
 ghost use Rattle.session.specs.Reply.{sentInfo, answered, told};
 
 // What a packet or a request is answered with.

@@ -9,8 +9,8 @@ use lib.Dec.{eqb}
 use lib.ListN.{length, set, take, drop, length-drop, take-append-drop}
 use lib.Seq.{length-take-le, take-at, drop-at, drop-drop, drop-set-lt, sets}
 use borrow.Author.Tests.{eq-eqb, eqb-true, eqb-false, le-leb}
-use Rattle.packet.specs.Numbers.{storedAt}
-use Rattle.packet.proofs.NumberLaws.{stored-at}
+use Rattle.numbers.specs.Numbers.{storedAt}
+use Rattle.numbers.proofs.NumberLaws.{stored-at}
 use Rattle.blocks.specs.Owners.{blocks}
 use Rattle.blocks.specs.Contents.{held, contents, stored}
 use Rattle.blocks.specs.Answers.{diskFits, windowNumber, writeDisk}

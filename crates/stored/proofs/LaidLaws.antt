@@ -10,7 +10,7 @@ use lib.Dec.{ltb, leb, eqb}
 use lib.ListN.{length, getD, set, take, drop, length-set, length-drop}
 use lib.Seq.{length-take-le, getD-take, getD-drop, getD-set-same, getD-set-other, ext-getD, drop-drop}
 use borrow.Author.Tests.{ltb-true, ltb-false, eq-eqb, ne-eqb}
-use Rattle.packet.specs.Numbers.{number}
+use Rattle.numbers.specs.Numbers.{number}
 use Rattle.blocks.specs.Owners.{blocks, nth, nextOf}
 use Rattle.blocks.specs.Contents.{held, contents}
 use Rattle.blocks.proofs.Owners.{blocks-le, nth-in, nth-next, nth-zero}

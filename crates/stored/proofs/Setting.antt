@@ -6,7 +6,7 @@ use Prim.Native.Nat.{ℕ, _+_, _*_, _≤_, _<_}
 use native.Mathlib.Omega.{arith}
 use lib.ListN.{length}
 use borrow.Author.Tests.{eq-eqb, ne-eqb, le-leb, lt-leb}
-use Rattle.packet.specs.Numbers.{two, four, storedAt}
+use Rattle.numbers.specs.Numbers.{two, four, storedAt}
 use Rattle.blocks.specs.Owners.{blocks}
 use Rattle.blocks.specs.Contents.{stored}
 use Rattle.blocks.specs.Answers.{writeDisk}

@@ -12,7 +12,7 @@ use header::scan::Scan;
 ghost use mathlib.Core.Path.{_≡_};
 ghost use Prim.Native.Nat.{_+_, _*_, _≤_, _<_};
 ghost use lib.ListN.{length, take, drop};
-ghost use Rattle.packet.specs.Numbers.{two, four};
+ghost use Rattle.numbers.specs.Numbers.{two, four};
 ghost use Rattle.blocks.specs.Contents.{stored};
 ghost use Rattle.blocks.specs.Answers.{diskFits, writeDisk};
 ghost use Rattle.header.specs.Items.{headOf, walk, fieldsOf};
@@ -250,7 +250,7 @@ fn head_at(disk: &[u8], row: &[u16], n: usize, at: usize) -> Head
     if n - 3 < at {
         return Head::Broken;
     }
-    let id = packet::numbers::number16(byte_at(disk, row, n, at), byte_at(disk, row, n, at + 1));
+    let id = numbers::number16(byte_at(disk, row, n, at), byte_at(disk, row, n, at + 1));
     let size = byte_at(disk, row, n, at + 2) as usize;
     if id == 0 {
         if size == 0 {

@@ -9,7 +9,7 @@ use borrow.Author.Tests.{le-leb, ltb-true, ltb-false}
 use lib.Dec.{eqb, leb, ltb}
 use lib.ListN.{length, getD, take, drop, replicate, length-drop, length-replicate, take-append-drop, List·getD-append}
 use lib.Seq.{length-take-le, take-all, take-length, take-append-seam, take-append-le, drop-append-le}
-use Rattle.packet.specs.Numbers.{number}
+use Rattle.numbers.specs.Numbers.{number}
 use Rattle.packet.specs.Frame.{padded}
 use Rattle.header.specs.Header.{checkItems, headerOf}
 use Rattle.header.specs.declared.scan.Header.{Header}

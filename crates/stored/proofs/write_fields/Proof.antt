@@ -2,7 +2,7 @@
 use mathlib.Core.Path.{ap, _∙_}
 use native.Mathlib.Omega.{arith}
 use lib.ListN.{length}
-use Rattle.packet.specs.Numbers.{four}
+use Rattle.numbers.specs.Numbers.{four}
 use Rattle.blocks.proofs.Answers.{disk-fits}
 use Rattle.header.proofs.Written.{bytes-all}
 use Rattle.stored.proofs.Disks.{length-written}

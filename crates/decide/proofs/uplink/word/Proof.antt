@@ -1,6 +1,6 @@
 -- `decide::uplink::word` meets its contract. Assumes nothing.
 use native.Mathlib.Omega.{arith}
-use Rattle.packet.proofs.NumberLaws.{taken4}
+use Rattle.numbers.proofs.NumberLaws.{taken4}
 use borrow.Author.Needs.{needs}
 use Rattle.decide.proofs.uplink.word.Statement.{statement}
 use Rattle.decide.proofs.uplink.word.Tie as tie

@@ -3,7 +3,7 @@ use mathlib.Core.Path.{_≡_}
 use Prim.Native.Nat.{_+_, _-_, _≤_, _<_}
 use native.Mathlib.Omega.{arith}
 use lib.ListN.{length, drop}
-use Rattle.packet.specs.Numbers.{number}
+use Rattle.numbers.specs.Numbers.{number}
 use Rattle.equation.proofs.RelationLaws as numbers
 use Rattle.equation.proofs.relation.value.Statement.{statement}
 use Rattle.equation.proofs.relation.value.Tie as tie

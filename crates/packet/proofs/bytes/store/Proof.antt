@@ -4,7 +4,7 @@ use mathlib.Core.Path.{_≡_}
 use lib.ListN.{length, length-set}
 use lib.Seq.{paste}
 use borrow.Author.Needs.{needs}
-use Rattle.packet.proofs.NumberLaws.{refused-at, accepted-at, unstored-at, stored-none, stored-next, stored-all}
+use Rattle.numbers.proofs.NumberLaws.{refused-at, accepted-at, unstored-at, stored-none, stored-next, stored-all}
 use Rattle.packet.proofs.bytes.store.Statement.{statement}
 use Rattle.packet.proofs.bytes.store.Tie as tie
 use Rattle.packet.proofs.bytes.store.Reads as reads

@@ -1,8 +1,10 @@
-// Numbers of 16 and 32 bits in bytes, least significant byte first.
+// Numbers of 16 and 32 bits in bytes, least significant byte first: what headers, equations and packets are made of.
+// The layer promises that a number read is the one that its bytes stand for, that a number written reads back, and that a place that is too near the end
+// is refused by 33 and changes nothing.
 ghost use mathlib.Core.Path.{_≡_};
 ghost use mathlib.Core.List.{[], _∷_};
 ghost use Prim.Native.Nat.{_+_, _*_};
-ghost use Rattle.packet.specs.Numbers.{number, two, four, numberAt, fitsAt, storedAt};
+ghost use Rattle.numbers.specs.Numbers.{number, two, four, numberAt, fitsAt, storedAt};
 
 // A number that was read; Short where its bytes are not all there (refusal 33).
 pub enum Number {

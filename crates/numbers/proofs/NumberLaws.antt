@@ -8,8 +8,8 @@ use native.Mathlib.Omega.{arith}
 use borrow.Author.Tests.{le-leb, lt-leb}
 use lib.ListN.{length, take, drop, getD, set}
 use lib.Seq.{drop-cons, sets, sets-eq, paste, paste-zero, paste-suc, take-length}
-use Rattle.packet.specs.Numbers.{number, two, four, numberAt, fitsAt, storedAt}
-use Rattle.packet.specs.declared.numbers.Number.the-variants.{Short, Value}
+use Rattle.numbers.specs.Numbers.{number, two, four, numberAt, fitsAt, storedAt}
+use Rattle.numbers.specs.declared.Number.the-variants.{Short, Value}
 
 -- two and four elements from a place on, one by one
 pub taken2 : (l : List ℕ) (at : ℕ) → at + 2 ≤ length l → take 2 (drop at l) ≡ getD l at 0 ∷ getD l (at + 1) 0 ∷ []

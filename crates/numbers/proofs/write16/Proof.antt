@@ -1,11 +1,11 @@
 use native.Mathlib.Omega.{arith}
 use lib.ListN.{length-set}
-use Rattle.packet.proofs.NumberLaws.{refused-at, accepted-at, unstored-at, stored2}
+use Rattle.numbers.proofs.NumberLaws.{refused-at, accepted-at, unstored-at, stored2}
 use borrow.Author.Needs.{needs}
-use Rattle.packet.proofs.numbers.write16.Statement.{statement}
-use Rattle.packet.proofs.numbers.write16.Tie as tie
-use Rattle.packet.proofs.numbers.write16.Reads as reads
-use Rattle.packet.proofs.numbers.write16.Lts as lts
+use Rattle.numbers.proofs.write16.Statement.{statement}
+use Rattle.numbers.proofs.write16.Tie as tie
+use Rattle.numbers.proofs.write16.Reads as reads
+use Rattle.numbers.proofs.write16.Lts as lts
 
 returns : tie.Need-returns
 returns c = (refused-at 2 _ _ (omega arith), unstored-at _ _ _ (omega arith))

@@ -1,11 +1,11 @@
 use native.Mathlib.Omega.{arith}
 use lib.ListN.{length-set}
-use Rattle.packet.proofs.NumberLaws.{refused-at, accepted-at, unstored-at, stored4}
+use Rattle.numbers.proofs.NumberLaws.{refused-at, accepted-at, unstored-at, stored4}
 use borrow.Author.Needs.{needs}
-use Rattle.packet.proofs.numbers.write32.Statement.{statement}
-use Rattle.packet.proofs.numbers.write32.Tie as tie
-use Rattle.packet.proofs.numbers.write32.Reads as reads
-use Rattle.packet.proofs.numbers.write32.Lts as lts
+use Rattle.numbers.proofs.write32.Statement.{statement}
+use Rattle.numbers.proofs.write32.Tie as tie
+use Rattle.numbers.proofs.write32.Reads as reads
+use Rattle.numbers.proofs.write32.Lts as lts
 
 returns : tie.Need-returns
 returns c = (refused-at 4 _ _ (omega arith), unstored-at _ _ _ (omega arith))

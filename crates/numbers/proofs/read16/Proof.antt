@@ -1,14 +1,14 @@
-use Rattle.packet.specs.Numbers.{number}
-use Rattle.packet.specs.declared.numbers.Number.the-variants.{Value}
+use Rattle.numbers.specs.Numbers.{number}
+use Rattle.numbers.specs.declared.Number.the-variants.{Value}
 use native.Mathlib.Omega.{arith}
 use mathlib.Core.Path.{sym, ap, _∙_}
-use Rattle.packet.proofs.NumberLaws.{short-at, value-at, taken2}
+use Rattle.numbers.proofs.NumberLaws.{short-at, value-at, taken2}
 use borrow.Author.Needs.{needs}
-use Rattle.packet.proofs.numbers.read16.Statement.{statement}
-use Rattle.packet.proofs.numbers.read16.Tie as tie
-use Rattle.packet.proofs.numbers.read16.Reads as reads
-use Rattle.packet.proofs.numbers.read16.Lts as lts
-use Rattle.packet.proofs.numbers.number16.Reads as number16-reads
+use Rattle.numbers.proofs.read16.Statement.{statement}
+use Rattle.numbers.proofs.read16.Tie as tie
+use Rattle.numbers.proofs.read16.Reads as reads
+use Rattle.numbers.proofs.read16.Lts as lts
+use Rattle.numbers.proofs.number16.Reads as number16-reads
 
 returns : tie.Need-returns
 returns c = short-at 2 _ _ (omega arith)

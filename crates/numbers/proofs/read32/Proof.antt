@@ -1,14 +1,14 @@
-use Rattle.packet.specs.Numbers.{number}
-use Rattle.packet.specs.declared.numbers.Number.the-variants.{Value}
+use Rattle.numbers.specs.Numbers.{number}
+use Rattle.numbers.specs.declared.Number.the-variants.{Value}
 use native.Mathlib.Omega.{arith}
 use mathlib.Core.Path.{sym, ap, _∙_}
-use Rattle.packet.proofs.NumberLaws.{short-at, value-at, taken4}
+use Rattle.numbers.proofs.NumberLaws.{short-at, value-at, taken4}
 use borrow.Author.Needs.{needs}
-use Rattle.packet.proofs.numbers.read32.Statement.{statement}
-use Rattle.packet.proofs.numbers.read32.Tie as tie
-use Rattle.packet.proofs.numbers.read32.Reads as reads
-use Rattle.packet.proofs.numbers.read32.Lts as lts
-use Rattle.packet.proofs.numbers.number32.Reads as number32-reads
+use Rattle.numbers.proofs.read32.Statement.{statement}
+use Rattle.numbers.proofs.read32.Tie as tie
+use Rattle.numbers.proofs.read32.Reads as reads
+use Rattle.numbers.proofs.read32.Lts as lts
+use Rattle.numbers.proofs.number32.Reads as number32-reads
 
 returns : tie.Need-returns
 returns c = short-at 4 _ _ (omega arith)

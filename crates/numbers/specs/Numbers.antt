@@ -5,8 +5,8 @@ use Prim.Native.Nat.{ℕ, _+_, _*_, _/_, _%_}
 use lib.Dec.{leb}
 use lib.ListN.{length, take, drop}
 use lib.Seq.{sets}
-use Rattle.packet.specs.declared.numbers.Number.{Number}
-use Rattle.packet.specs.declared.numbers.Number.the-variants.{Short, Value}
+use Rattle.numbers.specs.declared.Number.{Number}
+use Rattle.numbers.specs.declared.Number.the-variants.{Short, Value}
 
 -- the number that bytes stand for
 unfoldable pub number : List ℕ → ℕ
