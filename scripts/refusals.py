@@ -8,7 +8,7 @@ CONSEQUENCE = [
 
 # The proof no longer fits the code or the definitions; whether a fact fails is not seen.
 SHAPE = [
-    r"`rw`: no occurrence of the path's left endpoint",
+    r"`rw`: no occurrence of the path's (?:left|right) endpoint",
     r"`simp`: no equation of the list has an instance in the goal",
     r"has no `[^`]*` that can be named from here",
     r"projects from a `×` type or a record, but this has type",
