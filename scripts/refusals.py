@@ -20,6 +20,7 @@ FACT = [
     r"`omega`: the (?:goal|part `[^`]*` of the goal) does not follow from what it read",
     r"`omega` found no proof",
     r"`search`: no proof of",
+    r"list the missing equation with its arguments, or rewrite by",
     r"the two (?:types|sides) (?:first |only )?differ",
     r": expected type `",
     r"the two types are `",
