@@ -87,20 +87,23 @@ def definitions_of(crate):
 
 class Edit:
     """One wrong answer: replacements of texts in the sources of a crate. A `file:` line names a file of the crate's own src/, specs/ or proofs/, or,
-    from the repository's root, one of a crate that this one stands on (`crates/NAME/..`)."""
+    from the repository's root, one of a crate that this one stands on (`crates/NAME/..`). `old:` lines that follow each other are the lines of one text,
+    and so are `new:` lines."""
 
     def __init__(self, crate, path):
         self.crate, self.path = crate, path
         self.label = os.path.basename(path)[: -len(".edit")]
         self.in_gate_of_kit = os.path.basename(os.path.dirname(path)) == "must-fail"
-        self.changes, file, old = [], None, None
+        self.changes, file, old, kind = [], None, None, None
         for line in read(path).split("\n"):
+            before, kind = kind, line[:4]
             if line.startswith("file: "):
                 file = line[6:] if line[6:].startswith("crates/") else f"crates/{crate}/{line[6:]}"
             elif line.startswith("old: "):
-                old = line[5:]
+                old = f"{old}\n{line[5:]}" if before == kind else line[5:]
             elif line.startswith("new:"):
-                self.changes.append((file, old, line[5:]))
+                new = f"{self.changes.pop()[2]}\n{line[5:]}" if before == kind else line[5:]
+                self.changes.append((file, old, new))
 
     @property
     def name(self):

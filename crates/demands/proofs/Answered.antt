@@ -29,8 +29,8 @@ use Rattle.server.specs.declared.check.Check.{Check}
 use Rattle.server.specs.declared.check.Check.the-variants.{Go, Refuse}
 use Rattle.server.specs.State.{Lent, lent, Outcome, outcome, doneWith, linkOf, withLink, withTurn, withPart, ownerPart, tablePart}
 use Rattle.server.specs.Check.{fits, checkOf}
-use Rattle.server.specs.Sending.{Due, leastOf, bytesFrom, dataOf, sendingOf, dueOf}
-use Rattle.server.specs.Calls.{onLogin, loginOf, onLose, loseOf, dueAs, onRequest, requestOf, onCheck, receiveOf}
+use Rattle.sending.specs.Sending.{Due, leastOf, bytesFrom, dataOf, sendingOf, dueOf}
+use Rattle.server.specs.Calls.{onLogin, loginOf, onLose, loseOf, dueAs, onRequest, requestOf, onCheck, receiveOf, loginBy, requestBy, receiveBy, loseBy}
 use Rattle.server.specs.Making.{newServer, makeOf}
 use Rattle.server.proofs.Answering.{isRefused, tell-not, answered-not, due-not}
 use Rattle.history.specs.Calls.{Call, login, receive, request, lose, callOf}
@@ -119,7 +119,7 @@ told-room r taken out h = rw (le-ltb (length out) 258 h)
 
 pub refused-call : (sv : Server) (l : Lent) (c : Call) (n : ℕ) → checkIn sv l c ≡ Refuse n
     → callOf sv l c ≡ outcome (doneWith sv (answer.Refused n)) l (outIn c)
-unfolding receiveOf onCheck loginOf onLogin requestOf onRequest loseOf onLose
+unfolding receiveOf receiveBy onCheck loginOf loginBy onLogin requestOf requestBy onRequest loseOf loseBy onLose
 refused-call sv l (login session clock out) n e = rw e
 refused-call sv l (receive session clock input out) n e = rw e
 refused-call sv l (request session out) n e = rw e
@@ -188,7 +188,7 @@ received sv l session clock input out = go (steps.receives sv l session clock in
 
 logged-in : (sv : Server) (l : Lent) (session clock : ℕ) (out : List ℕ)
     → Answers sv l (login session clock out) (callOf sv l (login session clock out))
-unfolding loginOf onLogin
+unfolding loginOf loginBy onLogin
 logged-in sv l session clock out = go (checkOf sv l session false (length out)) refl
   where
     go : (k : Check) → checkOf sv l session false (length out) ≡ k
@@ -204,7 +204,7 @@ logged-in sv l session clock out = go (checkOf sv l session false (length out)) 
 -- ---- lose
 
 lost : (sv : Server) (l : Lent) (session : ℕ) → Answers sv l (lose session) (callOf sv l (lose session))
-unfolding loseOf onLose
+unfolding loseOf loseBy onLose
 lost sv l session = go (checkOf sv l session true 258) refl
   where
     go : (k : Check) → checkOf sv l session true 258 ≡ k
@@ -283,7 +283,7 @@ module _ (sv : Server) (l : Lent) (session : ℕ) (out : List ℕ) (room : 258 �
   due sv′ (down.Aborting place) s disk owner fs = due-told sv′ s reply.Aborted (λ z. let y : _≡_ {A = ℕ} 0 1 = cc in omega arith)
 
 requested : (sv : Server) (l : Lent) (session : ℕ) (out : List ℕ) → Answers sv l (request session out) (callOf sv l (request session out))
-unfolding requestOf onRequest dueAs Fine
+unfolding requestOf requestBy onRequest dueAs Fine
 requested sv l session out = go (checkOf sv l session true (length out)) refl
   where
     go : (k : Check) → checkOf sv l session true (length out) ≡ k
@@ -304,7 +304,7 @@ every-call-answers sv l (lose session) = lost sv l session
 -- ---- a call that goes through is not refused
 
 not-refused : (sv : Server) (l : Lent) (c : Call) (i : ℕ) → checkIn sv l c ≡ Go i → 258 ≤ roomIn c → isRefused (callOf sv l c .done .answer) ≡ false
-unfolding loginOf onLogin requestOf onRequest dueAs loseOf onLose
+unfolding loginOf loginBy onLogin requestOf requestBy onRequest dueAs loseOf loseBy onLose
 not-refused sv l (login session clock out) i e h = rw e (answered-not (reply.Login clock) 0 out h)
 not-refused sv l (receive session clock input out) i e h = go (steps.receives sv l session clock input out)
   where

@@ -36,7 +36,7 @@ use Rattle.server.specs.declared.check.Check.the-variants.{Go, Refuse}
 use Rattle.server.specs.State.{Lent, lent, Outcome, linkOf, withLink, part, withPart}
 use Rattle.server.specs.Check as check
 use Rattle.server.specs.Turns.{putBack, actOf}
-use Rattle.server.specs.Calls.{onLogin, loginOf, onLose, loseOf, receiveOf}
+use Rattle.server.specs.Calls.{onLogin, loginOf, onLose, loseOf, receiveOf, loginBy, loseBy}
 use Rattle.history.specs.Calls as history
 use Rattle.history.specs.Calls.{login, receive, request, lose, callOf}
 use Rattle.history.specs.Good.{Good}
@@ -188,7 +188,7 @@ module _ (sv : Server) (l : Lent) (good : Good sv l) (i : ℕ) (below : i < sv .
       let t = check-through sv l session wanted room j e in omega (arith, t .index, t .from-one)
 
   pub bare-login : (session clock : ℕ) (out : List ℕ) → Left (login session clock out)
-  unfolding loginOf onLogin
+  unfolding loginOf loginBy onLogin
   bare-login session clock out = by-session (login session clock out) (λ own. go own (check.checkOf sv l session false (length out)) refl)
     where
       go : session ≡ i + 1 → (k : Check) → check.checkOf sv l session false (length out) ≡ k → Bare (onLogin k sv out clock .done .server) l i
@@ -204,7 +204,7 @@ module _ (sv : Server) (l : Lent) (good : Good sv l) (i : ℕ) (below : i < sv .
   bare-request session out = by-session (request session out) (λ own. free-bare (request session out) (request-free sv l good i session out own))
 
   pub bare-lose : (session : ℕ) → Left (lose session)
-  unfolding loseOf onLose
+  unfolding loseOf loseBy onLose
   bare-lose session = by-session (lose session) (λ own. go own (check.checkOf sv l session true 258) refl)
     where
       go : session ≡ i + 1 → (k : Check) → check.checkOf sv l session true 258 ≡ k

@@ -24,7 +24,7 @@ use Rattle.server.specs.State.{Lent, linkOf, withPart}
 use Rattle.server.specs.Check.{checkOf}
 use Rattle.server.specs.Turns.{hearOf}
 use Rattle.server.specs.Making.{makeOf, emptyOf}
-use Rattle.server.specs.Calls.{answeredBy, heardBy, stepOf, onCheck, receiveOf as receiveCall, onLose, loseOf}
+use Rattle.server.specs.Calls.{answeredBy, heardBy, stepOf, onCheck, receiveOf as receiveCall, onLose, loseOf, loseBy}
 use Rattle.history.specs.Calls as calls
 use Rattle.history.specs.Calls.{login, receive, request, lose, callOf, Start, legal, made, History, start, _▸_, after}
 use Rattle.demands.specs.Events as events
@@ -183,7 +183,7 @@ module _ (sv : Server) (l : Lent) (v : Bytes (l .held)) where
   lose-held (Go i) = part-bytes (i * 258) 258 (replicate 258 0) (l .held) (zeros 258) v
 
   call-held : (c : calls.Call) → BringsBytes c → Bytes (callOf sv l c .lent .held)
-  unfolding receiveCall loseOf
+  unfolding receiveCall loseOf loseBy
   call-held (login session clock out) b = v
   call-held (receive session clock input out) b = step-held (checkOf sv l session true (length out)) out clock input (are-bytes input b)
   call-held (request session out) b = v

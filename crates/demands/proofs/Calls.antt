@@ -29,7 +29,7 @@ use Rattle.server.specs.declared.check.Check.the-variants.{Go, Refuse}
 use Rattle.server.specs.State.{Lent, lent, linkOf, withTurn}
 use Rattle.server.specs.Check.{inState, sessionCheck, checkOf}
 use Rattle.server.specs.Turns.{hearOf, sizeIn, partsOf, putBack, actOf}
-use Rattle.server.specs.Calls.{answeredBy, heardBy, stepOf, onCheck, receiveOf, onLogin, loginOf, onLose, loseOf, onRequest, requestOf, dueAs}
+use Rattle.server.specs.Calls.{answeredBy, heardBy, stepOf, onCheck, receiveOf, onLogin, loginOf, onLose, loseOf, onRequest, requestOf, dueAs, loginBy, requestBy, receiveBy, loseBy}
 use Rattle.history.specs.Calls.{Call, login, receive, request, lose, callOf}
 use Rattle.history.specs.Good.{Good}
 use Rattle.history.specs.Stored.{filesOf}
@@ -164,7 +164,7 @@ module _ (sv : Server) (l : Lent) (g : Good sv l) (bound : sv .last .number ≤ 
   receive-after : (session clock : ℕ) (input out : List ℕ)
       → After (eventOf sv l (receive session clock input out)) sv l (receiveOf sv l out session clock input .done .server)
       (receiveOf sv l out session clock input .lent)
-  unfolding receiveOf onCheck onAnswer
+  unfolding receiveOf receiveBy onCheck onAnswer
   receive-after session clock input out =
       by-check sv l g session true (length out)
       (λ (c : Check). After (receiveEvent (uploading sv l (session - 1)) sv l (session - 1) clock input (onCheck c sv l out clock input)) sv l
@@ -190,7 +190,7 @@ module _ (sv : Server) (l : Lent) (g : Good sv l) (bound : sv .last .number ≤ 
 
   -- THE LAW of a call
   pub call-after : (c : Call) → After (eventOf sv l c) sv l (callOf sv l c .done .server) (callOf sv l c .lent)
-  unfolding loginOf requestOf loseOf
+  unfolding loginOf loginBy requestOf requestBy loseOf loseBy
   call-after (login session clock out) = login-after session clock out (checkOf sv l session false (length out))
   call-after (receive session clock input out) = receive-after session clock input out
   call-after (request session out) = request-after out (checkOf sv l session true (length out))

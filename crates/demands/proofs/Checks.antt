@@ -19,7 +19,7 @@ use Rattle.links.proofs.Facts as links
 use Rattle.server.specs.declared.Server.{Server}
 use Rattle.server.specs.declared.check.Check.the-variants.{Go, Refuse}
 use Rattle.server.specs.State.{Lent, linkOf, mapPart, ownerPart, tablePart, part}
-use Rattle.server.specs.Check.{sizesFit, fits, soundParts, inState, sessionCheck, checkParts, checkOf}
+use Rattle.server.specs.Check.{sizesFit, fits, soundParts, inState, sessionCheck, checkBy, checkOf}
 use Rattle.server.proofs.CheckLaws as laws
 use Rattle.demands.specs.Parts.{oneOf}
 use Rattle.demands.specs.Demand1.{Fits, IsSound}
@@ -63,7 +63,7 @@ pub record Through (sv : Server) (l : Lent) (session : ℕ) (wanted : Bool) (out
 module _ (sv : Server) (l : Lent) (session : ℕ) (wanted : Bool) (room : ℕ) where
   -- 33
   pub check-33 : (Fits sv l → ⊥) → checkOf sv l session wanted room ≡ Refuse 33
-  unfolding checkParts
+  unfolding checkBy
   check-33 h =
       ap (λ (t : Bool). cond t
       (cond (soundParts sv (l .map) (l .owner) (l .table) (l .selected) (l .held)) (sessionCheck sv session wanted room) (Refuse 35)) (Refuse 33))
@@ -73,7 +73,7 @@ module _ (sv : Server) (l : Lent) (session : ℕ) (wanted : Bool) (room : ℕ) w
   fitted : Fits sv l
       → checkOf sv l session wanted room
       ≡ cond (soundParts sv (l .map) (l .owner) (l .table) (l .selected) (l .held)) (sessionCheck sv session wanted room) (Refuse 35)
-  unfolding checkParts
+  unfolding checkBy
   fitted h =
       ap (λ (t : Bool). cond t
       (cond (soundParts sv (l .map) (l .owner) (l .table) (l .selected) (l .held)) (sessionCheck sv session wanted room) (Refuse 35)) (Refuse 33))
@@ -159,7 +159,7 @@ module _ (sv : Server) (l : Lent) (session : ℕ) (wanted : Bool) (room : ℕ) w
       go false false true false e = absurd (refused-clash n (session - 1) (sym e))
 
   pub check-through : (i : ℕ) → checkOf sv l session wanted room ≡ Go i → Through sv l session wanted room i
-  unfolding checkParts
+  unfolding checkBy
   check-through i e =
       go (fits sv (length (l .disk)) (l .map) (l .owner) (l .table) (l .selected) (l .held)) refl
       (soundParts sv (l .map) (l .owner) (l .table) (l .selected) (l .held)) refl e
@@ -174,7 +174,7 @@ module _ (sv : Server) (l : Lent) (session : ℕ) (wanted : Bool) (room : ℕ) w
       go true p true q e = session-go i e p q
 
   pub check-refuses : (n : ℕ) → checkOf sv l session wanted room ≡ Refuse n → oneOf n (32 ∷ 33 ∷ 34 ∷ 35 ∷ []) ≡ true
-  unfolding checkParts
+  unfolding checkBy
   check-refuses n e =
       go (fits sv (length (l .disk)) (l .map) (l .owner) (l .table) (l .selected) (l .held))
       (soundParts sv (l .map) (l .owner) (l .table) (l .selected) (l .held)) e

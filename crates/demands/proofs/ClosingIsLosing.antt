@@ -23,7 +23,7 @@ use Rattle.server.specs.declared.Server.{Server}
 use Rattle.server.specs.declared.check.Check.the-variants.{Go}
 use Rattle.server.specs.State.{Lent, lent, Outcome, outcome, doneWith, linkOf, withLink, withTurn, part, withPart}
 use Rattle.server.specs.Check.{checkOf}
-use Rattle.server.specs.Calls.{onLose, loseOf, stepOf, onCheck, receiveOf}
+use Rattle.server.specs.Calls.{onLose, loseOf, stepOf, onCheck, receiveOf, receiveBy, loseBy}
 use Rattle.history.specs.Calls.{lose, callOf}
 use Rattle.demands.specs.Closing.{ClosesBy, SameAsLost, ClosingIsLosing, Unwelcome, long, unexpected, ClosesExactly, EveryClosing}
 use Rattle.demands.proofs.Checks.{Through, check-sound, check-through, through-again}
@@ -98,7 +98,7 @@ lost-call : (sv : Server) (l : Lent) (session room i : ℕ) → Through sv l ses
     (lent (l .disk) (l .map) (l .owner) (l .table) (withPart (i * sv .most) (sv .most) (replicate (sv .most) 0) (l .selected))
     (withPart (i * 258) 258 (replicate 258 0) (l .held)))
     []
-unfolding loseOf onLose
+unfolding loseOf loseBy onLose
 lost-call sv l session room i t =
     rw (check-sound sv l session true 258 (t .fit) (t .is-sound), through-again sv l session true room i 258 t (omega arith))
 
@@ -151,7 +151,7 @@ closes-frame s taken too-long e = long
 module _ (sv : Server) (l : Lent) (session clock : ℕ) (input out : List ℕ) (i : ℕ) (t : Through sv l session true (length out) i)
     (go-on : checkOf sv l session true (length out) ≡ Go i) where
   step-is : receiveOf sv l out session clock input ≡ stepOf sv i clock input l out
-  unfolding receiveOf onCheck
+  unfolding receiveOf receiveBy onCheck
   step-is = rw go-on
 
   act-closes : (h : Ended (part (i * 258) 258 (l .held)) (linkOf sv i .held) input)

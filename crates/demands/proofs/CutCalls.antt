@@ -19,7 +19,7 @@ use Rattle.server.specs.declared.Server.{Server}
 use Rattle.server.specs.declared.check.Check.the-variants.{Go, Refuse}
 use Rattle.server.specs.State.{Lent, lent, Outcome, outcome, doneWith, linkOf, part}
 use Rattle.server.specs.Check.{sessionCheck, checkOf}
-use Rattle.server.specs.Calls.{stepOf, onCheck, receiveOf}
+use Rattle.server.specs.Calls.{stepOf, onCheck, receiveOf, receiveBy}
 use Rattle.history.specs.Calls as history
 use Rattle.history.specs.Calls.{receive, request, callOf, State, state, next, Start, legal, History, _▸_, after}
 use Rattle.history.specs.Good.{Good}
@@ -42,12 +42,12 @@ use Rattle.demands.proofs.Receiving as steps
 
 pub refused-receive : (sv : Server) (l : Lent) (session clock : ℕ) (input out : List ℕ) (n : ℕ) → checkOf sv l session true (length out) ≡ Refuse n
     → receiveOf sv l out session clock input ≡ outcome (doneWith sv (answer.Refused n)) l out
-unfolding receiveOf onCheck
+unfolding receiveOf receiveBy onCheck
 refused-receive sv l session clock input out n e = rw e
 
 pub gone-on : (sv : Server) (l : Lent) (session clock : ℕ) (input out : List ℕ) (i : ℕ) → checkOf sv l session true (length out) ≡ Go i
     → receiveOf sv l out session clock input ≡ stepOf sv i clock input l out
-unfolding receiveOf onCheck
+unfolding receiveOf receiveBy onCheck
 gone-on sv l session clock input out i e = rw e
 
 session-rooms : (sv : Server) (session : ℕ) (wanted : Bool) (a b : ℕ) → 258 ≤ a → 258 ≤ b

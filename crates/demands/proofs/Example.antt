@@ -72,7 +72,7 @@ use Rattle.links.specs.Sound as links-sound
 use Rattle.server.specs.Check as server-check
 use Rattle.server.specs.Calls as server-calls
 use Rattle.server.specs.Turns as server-turns
-use Rattle.server.specs.Sending as server-sending
+use Rattle.sending.specs.Sending as server-sending
 use Rattle.server.specs.Making as server-making
 use Rattle.history.specs.Calls as history-calls
 use Rattle.demands.specs.Cut as demands-cut
@@ -466,7 +466,7 @@ unfolding
     carry-upload.acceptedAs carry-upload.acceptTurn carry-upload.withDisk carry-upload.withBlocks carry-upload.finishAs carry-carry.onFrees
     carry-carry.onWrites carry-carry.onMoves carry-carry.carryOut links-sound.uplinkSound links-sound.namesSound links-sound.selectionSound
     links-sound.packetSound links-sound.linkSound links-sound.linkIn links-sound.apartFrom links-sound.allApart links-sound.linksSound
-    server-check.sizesFit server-check.roomFits server-check.soundParts server-check.inState server-check.sessionCheck server-check.checkParts
+    server-check.sizesFit server-check.roomFits server-check.soundParts server-check.inState server-check.sessionCheck server-check.checkBy
     server-calls.answeredBy server-calls.heardBy server-calls.stepOf server-calls.onCheck server-calls.receiveOf server-calls.onLogin
     server-calls.loginOf server-calls.onLose server-calls.loseOf server-turns.hearOf server-turns.sizeIn server-turns.putBack server-turns.actOf
     server-making.emptyOf server-making.makeOf history-calls.made history-calls.after demands-cut.seenIn demands-cut.seen demands-feeding.onward

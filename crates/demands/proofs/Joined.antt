@@ -27,7 +27,7 @@ use Rattle.server.specs.declared.check.Check.the-variants.{Go, Refuse}
 use Rattle.server.specs.State.{Lent, lent, Outcome, outcome, doneWith, linkOf, part, withPart}
 use Rattle.server.specs.Check.{checkOf}
 use Rattle.server.specs.Turns.{hearOf, actOf}
-use Rattle.server.specs.Calls.{answeredBy, heardBy, stepOf, onCheck, receiveOf}
+use Rattle.server.specs.Calls.{answeredBy, heardBy, stepOf, onCheck, receiveOf, receiveBy}
 use Rattle.demands.specs.Closing.{eventAt}
 use Rattle.demands.proofs.Checks.{Through, check-through, state-facts}
 use Rattle.demands.proofs.Hearing.{Unended}
@@ -120,7 +120,7 @@ heard-end p n xs ys e q =
 pub rest-untouched : (sv : Server) (l : Lent) (session clock : ℕ) (xs ys out : List ℕ) (e : Event)
     → eventAt sv l (session - 1) xs ≡ some e
     → receiveOf sv l out session clock (xs ++ ys) ≡ receiveOf sv l out session clock xs
-unfolding receiveOf onCheck
+unfolding receiveOf receiveBy onCheck
 rest-untouched sv l session clock xs ys out e q = go (checkOf sv l session true (length out)) refl
   where
     go : (k : Check) → checkOf sv l session true (length out) ≡ k → onCheck k sv l out clock (xs ++ ys) ≡ onCheck k sv l out clock xs

@@ -31,9 +31,9 @@ use Rattle.server.specs.declared.check.Check.{Check}
 use Rattle.server.specs.declared.check.Check.the-variants.{Go}
 use Rattle.server.specs.State.{Lent, Outcome, linkOf, tablePart}
 use Rattle.server.specs.Making.{newServer, makeOf}
-use Rattle.server.specs.Sending.{Due, dataOf, sendingOf, dueOf}
+use Rattle.sending.specs.Sending.{Due, dataOf, sendingOf, dueOf}
 use Rattle.server.specs.Turns.{actOf, putBack}
-use Rattle.server.specs.Calls.{answeredBy, heardBy, stepOf, onCheck, receiveOf, onLogin, loginOf, onLose, loseOf, dueAs, onRequest, requestOf}
+use Rattle.server.specs.Calls.{answeredBy, heardBy, stepOf, onCheck, receiveOf, onLogin, loginOf, onLose, loseOf, dueAs, onRequest, requestOf, loginBy, requestBy, receiveBy, loseBy}
 use Rattle.history.specs.Calls.{Call, login, receive, request, lose, callOf, Start, legal, made, History, start, _▸_, after}
 use Rattle.history.specs.Good.{Good}
 use Rattle.history.specs.Stored.{filesOf}
@@ -147,7 +147,7 @@ module _ (sv : Server) (l : Lent) (g : Good sv l) (bound : sv .last .number ≤ 
   -- the calls, each by its check
   receive-own : (session clock : ℕ) (input out : List ℕ) (was : ℕ) → (linkOf sv (session - 1) .linked ≡ true → uploading sv l (session - 1) ≡ was)
       → Named (receive session clock input out) was (callOf sv l (receive session clock input out))
-  unfolding receiveOf onCheck namedBy
+  unfolding receiveOf receiveBy onCheck namedBy
   receive-own session clock input out was ih =
       by-check sv l g session true (length out)
       (λ (c : Check). uploading (onCheck c sv l out clock input .done .server) (onCheck c sv l out clock input .lent) (session - 1) < 4294967296
@@ -158,7 +158,7 @@ module _ (sv : Server) (l : Lent) (g : Good sv l) (bound : sv .last .number ≤ 
 
   login-own : (session clock : ℕ) (out : List ℕ) (was : ℕ) → (linkOf sv (session - 1) .linked ≡ true → uploading sv l (session - 1) ≡ was)
       → Named (login session clock out) was (callOf sv l (login session clock out))
-  unfolding loginOf onLogin noneBy
+  unfolding loginOf loginBy onLogin noneBy
   login-own session clock out was ih =
       by-check sv l g session false (length out)
       (λ (c : Check). linkOf (onLogin c sv out clock .done .server) (session - 1) .linked ≡ true
@@ -169,7 +169,7 @@ module _ (sv : Server) (l : Lent) (g : Good sv l) (bound : sv .last .number ≤ 
 
   request-own : (session : ℕ) (out : List ℕ) (was : ℕ) → (linkOf sv (session - 1) .linked ≡ true → uploading sv l (session - 1) ≡ was)
       → Named (request session out) was (callOf sv l (request session out))
-  unfolding requestOf onRequest dueAs
+  unfolding requestOf requestBy onRequest dueAs
   request-own session out was ih =
       by-check sv l g session true (length out)
       (λ (c : Check). linkOf (onRequest c sv l out .done .server) (session - 1) .linked ≡ true
@@ -182,7 +182,7 @@ module _ (sv : Server) (l : Lent) (g : Good sv l) (bound : sv .last .number ≤ 
 
   lose-own : (session was : ℕ) → (linkOf sv (session - 1) .linked ≡ true → uploading sv l (session - 1) ≡ was)
       → Named (lose session) was (callOf sv l (lose session))
-  unfolding loseOf onLose noneBy
+  unfolding loseOf loseBy onLose noneBy
   lose-own session was ih =
       by-check sv l g session true 258
       (λ (c : Check). linkOf (onLose c sv (l .selected) (l .held) .done .server) (session - 1) .linked ≡ true
@@ -200,7 +200,7 @@ module _ (sv : Server) (l : Lent) (g : Good sv l) (bound : sv .last .number ≤ 
 
   -- the other sessions
   other-link : (c : Call) (i : ℕ) → (i ≡ sessionOf c → ⊥) → linkOf (callOf sv l c .done .server) i ≡ linkOf sv i
-  unfolding receiveOf onCheck stepOf heardBy answeredBy actOf putBack loginOf onLogin requestOf onRequest dueAs loseOf onLose
+  unfolding receiveOf receiveBy onCheck stepOf heardBy answeredBy actOf putBack loginOf loginBy onLogin requestOf requestBy onRequest dueAs loseOf loseBy onLose
   other-link (login session clock out) i n =
       by-check sv l g session false (length out) (λ (c : Check). linkOf (onLogin c sv out clock .done .server) i ≡ linkOf sv i)
       (λ r. refl) (λ inside linked h. link-else (session - 1) i _ n)
@@ -256,7 +256,7 @@ module _ (sv : Server) (l : Lent) (g : Good sv l) (bound : sv .last .number ≤ 
 
   other-keeps : (c : Call) (i : ℕ) → (i ≡ sessionOf c → ⊥) → linkOf sv i .linked ≡ true → (u : Uplink) → linkOf sv i .up ≡ u
       → numberIn u (files (tablePart (callOf sv l c .done .server) (callOf sv l c .lent))) ≡ numberIn u (files (tablePart sv l))
-  unfolding receiveOf onCheck loginOf onLogin requestOf onRequest dueAs loseOf onLose
+  unfolding receiveOf receiveBy onCheck loginOf loginBy onLogin requestOf requestBy onRequest dueAs loseOf loseBy onLose
   other-keeps (login session clock out) i n linked-here u e =
       by-check sv l g session false (length out)
       (λ (c : Check). numberIn u (files (tablePart (onLogin c sv out clock .done .server) l)) ≡ numberIn u (files (tablePart sv l)))
@@ -334,7 +334,7 @@ module _ (s : Start) (ok : legal s ≡ true) where
 
   -- so the event by the packets is the event with the number that the server's state has
   pub event-same : (h : History) (c : Call) → eventAt s h c ≡ eventOf (serverAt s h) (lentAt s h) c
-  unfolding receiveOf onCheck onAnswer
+  unfolding receiveOf receiveBy onCheck onAnswer
   event-same h (login session clock out) = refl
   event-same h (receive session clock input out) =
       let sv = serverAt s h in

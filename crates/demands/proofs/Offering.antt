@@ -23,7 +23,7 @@ use Rattle.server.specs.declared.Server.{Server}
 use Rattle.server.specs.declared.check.Check.{Check}
 use Rattle.server.specs.State.{Lent, Outcome, linkOf, mapPart, ownerPart, tablePart}
 use Rattle.server.specs.Turns.{actOf, putBack}
-use Rattle.server.specs.Calls.{answeredBy, heardBy, stepOf, onCheck, receiveOf}
+use Rattle.server.specs.Calls.{answeredBy, heardBy, stepOf, onCheck, receiveOf, receiveBy}
 use Rattle.history.specs.Calls.{Call, login, receive, request, lose, Start, legal, History}
 use Rattle.history.specs.Change.{Files}
 use Rattle.history.specs.Good.{Good}
@@ -102,7 +102,7 @@ module _ (sv : Server) (l : Lent) (g : Good sv l) (bound : sv .last .number ≤ 
       (step-turns sv l g bound i clock input inside linked .offer)
 
   receive-offer : (session clock : ℕ) (input out : List ℕ) → InOutcome (session - 1) input (receiveOf sv l out session clock input)
-  unfolding receiveOf onCheck sentBy
+  unfolding receiveOf receiveBy onCheck sentBy
   receive-offer session clock input out =
       by-check sv l g session true (length out) (λ (c : Check). InOutcome (session - 1) input (onCheck c sv l out clock input))
       (λ r. other-type 0 (λ e. omega arith)) (λ inside linked h. step-offer (session - 1) clock input out inside linked h)

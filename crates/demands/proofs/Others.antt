@@ -20,8 +20,8 @@ use Rattle.server.specs.declared.check.Check.the-variants.{Go, Refuse}
 use Rattle.server.specs.State.{Lent, lent, Outcome, outcome, doneWith, linkOf, withLink, withTurn, part, ownerPart, tablePart}
 use Rattle.server.specs.Check.{inState, sessionCheck, checkOf}
 use Rattle.server.specs.Turns.{actOf}
-use Rattle.server.specs.Sending.{Due, dueOf}
-use Rattle.server.specs.Calls.{answeredBy, onCheck, receiveOf, onLogin, loginOf, onLose, loseOf, dueAs, onRequest, requestOf}
+use Rattle.sending.specs.Sending.{Due, dueOf}
+use Rattle.server.specs.Calls.{answeredBy, onCheck, receiveOf, onLogin, loginOf, onLose, loseOf, dueAs, onRequest, requestOf, loginBy, requestBy, receiveBy, loseBy}
 use Rattle.history.specs.Calls.{Call, login, receive, request, lose, callOf}
 use Rattle.history.specs.Good.{Good}
 use Rattle.history.proofs.GoodFacts.{good-check}
@@ -81,7 +81,7 @@ through-room sv l session wanted room j t =
 
 -- the number of sessions stays
 pub others-sessions : (sv : Server) (l : Lent) (c : Call) → callOf sv l c .done .server .sessions ≡ sv .sessions
-unfolding loginOf onLogin receiveOf onCheck requestOf onRequest dueAs loseOf onLose
+unfolding loginOf loginBy onLogin receiveOf receiveBy onCheck requestOf requestBy onRequest dueAs loseOf loseBy onLose
 others-sessions sv l (login session clock out) = go (checkOf sv l session false (length out))
   where
     go : (k : Check) → onLogin k sv out clock .done .server .sessions ≡ sv .sessions
@@ -105,7 +105,7 @@ others-sessions sv l (lose session) = go (checkOf sv l session true 258)
 
 -- the other sessions stay
 pub others-link : (sv : Server) (l : Lent) (c : Call) (k : ℕ) → (sessionIn c ≡ k + 1 → ⊥) → linkOf (callOf sv l c .done .server) k ≡ linkOf sv k
-unfolding loginOf onLogin receiveOf onCheck requestOf onRequest dueAs loseOf onLose
+unfolding loginOf loginBy onLogin receiveOf receiveBy onCheck requestOf requestBy onRequest dueAs loseOf loseBy onLose
 others-link sv l (login session clock out) k d = go (checkOf sv l session false (length out)) refl
   where
     go : (a : Check) → checkOf sv l session false (length out) ≡ a → linkOf (onLogin a sv out clock .done .server) k ≡ linkOf sv k
@@ -133,7 +133,7 @@ others-link sv l (lose session) k d = go (checkOf sv l session true 258) refl
 -- their unfinished packets stay
 pub others-part : (sv : Server) (l : Lent) (c : Call) (k : ℕ) → (sessionIn c ≡ k + 1 → ⊥)
     → part (k * 258) 258 (callOf sv l c .lent .held) ≡ part (k * 258) 258 (l .held)
-unfolding receiveOf onCheck loseOf onLose stepWith answeredBy
+unfolding receiveOf receiveBy onCheck loseOf loseBy onLose stepWith answeredBy
 others-part sv l (login session clock out) k d = refl
 others-part sv l (receive session clock input out) k d = go (checkOf sv l session true (length out)) refl
   where
@@ -266,7 +266,7 @@ module _ (sv : Server) (l : Lent) (i n : ℕ) (p : List ℕ) (good : Good sv l) 
 
   -- a call for another session does the same
   pub apart-call : (c : Call) → (sessionIn c ≡ i + 1 → ⊥) → callOf (hold sv i n) (keep l i p) c ≡ moved i n p (callOf sv l c)
-  unfolding loginOf receiveOf requestOf loseOf
+  unfolding loginOf loginBy receiveOf receiveBy requestOf requestBy loseOf loseBy
   apart-call (login session clock out) d =
       ap (λ (k : Check). outcome (onLogin k (hold sv i n) out clock .done) (keep l i p) (onLogin k (hold sv i n) out clock .out))
       (check-same session false (length out))

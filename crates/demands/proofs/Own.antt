@@ -19,8 +19,8 @@ use Rattle.server.specs.declared.check.Check.{Check}
 use Rattle.server.specs.declared.check.Check.the-variants.{Go, Refuse}
 use Rattle.server.specs.State.{Lent, outcome, doneWith, linkOf, withLink, part, ownerPart, tablePart}
 use Rattle.server.specs.Check.{checkOf}
-use Rattle.server.specs.Sending.{Due, asked, askedOf, dataOf, sendingOf, dueOf}
-use Rattle.server.specs.Calls.{onLose, loseOf, dueAs, onRequest, requestOf}
+use Rattle.sending.specs.Sending.{Due, asked, askedOf, dataOf, sendingOf, dueOf}
+use Rattle.server.specs.Calls.{onLose, loseOf, dueAs, onRequest, requestOf, requestBy, loseBy}
 use Rattle.history.specs.Calls.{Call, request, lose, callOf}
 use Rattle.history.specs.Good.{Good}
 use Rattle.demands.specs.Parts.{sessionIn}
@@ -143,7 +143,7 @@ module _ (sv : Server) (l : Lent) (good : Good sv l) (i : ℕ) where
           (own-comm n (due out (linkOf sv i) .asked .session) below)
 
   pub request-free : (session : ℕ) (out : List ℕ) → session ≡ i + 1 → Free sv l (request session out) i
-  unfolding requestOf
+  unfolding requestOf requestBy
   request-free session out own =
       let k = checkOf sv l session true (length out) in
       let s = request-stays k out (λ j. goes session (length out) j own) in
@@ -164,7 +164,7 @@ module _ (sv : Server) (l : Lent) (good : Good sv l) (i : ℕ) where
   pub lose-over : (session n : ℕ) (p : List ℕ) → Good (hold sv i n) (keep l i p) → i < sv .sessions → length p ≡ 258
       → checkOf sv l session true 258 ≡ Go i
       → callOf (hold sv i n) (keep l i p) (lose session) ≡ callOf sv l (lose session)
-  unfolding loseOf onLose
+  unfolding loseOf loseBy onLose
   lose-over session n p good′ below whole e =
       rw (
         check-same sv l i n p good good′ below whole session true 258,

@@ -31,7 +31,7 @@ use Rattle.server.specs.declared.check.Check.the-variants.{Go, Refuse}
 use Rattle.server.specs.State.{Lent, lent, outcome, doneWith, linkOf, withLink, withTurn, words, part, withPart}
 use Rattle.server.specs.Check.{checkOf}
 use Rattle.server.specs.Turns.{hearOf, sizeIn, partsOf, putBack, actOf}
-use Rattle.server.specs.Calls.{answeredBy, heardBy, stepOf, onCheck, receiveOf}
+use Rattle.server.specs.Calls.{answeredBy, heardBy, stepOf, onCheck, receiveOf, receiveBy}
 use Rattle.demands.specs.Parts.{oneOf}
 use Rattle.demands.specs.Demand1.{uploadErrors, downloadErrors, naks, UploadOver}
 use Rattle.demands.proofs.Checks.{Through, StateFacts, check-through, check-refuses, state-facts, part-length, held-few}
@@ -255,7 +255,7 @@ pub data Receives (sv : Server) (l : Lent) (session clock : ℕ) (input out : Li
   ends-packet : EndsPacket sv l session clock input out → Receives sv l session clock input out
 
 pub receives : (sv : Server) (l : Lent) (session clock : ℕ) (input out : List ℕ) → Receives sv l session clock input out
-unfolding receiveOf onCheck
+unfolding receiveOf receiveBy onCheck
 receives sv l session clock input out = go (checkOf sv l session true (length out)) refl
   where
     go : (k : Check) → checkOf sv l session true (length out) ≡ k → Receives sv l session clock input out

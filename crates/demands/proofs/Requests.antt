@@ -12,10 +12,10 @@ use Rattle.session.specs.declared.reply.Answer.the-variants as answer
 use Rattle.session.specs.State.{closedSession}
 use Rattle.table.specs.declared.File as table
 use Rattle.server.specs.State.{linkOf, ownerPart, tablePart}
-use Rattle.server.specs.Sending.{dueOf}
-use Rattle.server.specs.Sending as sending
+use Rattle.sending.specs.Sending.{dueOf}
+use Rattle.sending.specs.Sending as sending
 use Rattle.server.specs.Calls as server
-use Rattle.server.specs.Calls.{dueAs, requestOf}
+use Rattle.server.specs.Calls.{dueAs, requestOf, requestBy}
 use Rattle.table.specs.Table.{files}
 use Rattle.demands.specs.Downloads.{isDue, NothingDue}
 
@@ -29,6 +29,6 @@ not-due (down.Aborting place) s disk owner fs out e = let z : _≡_ {A = ℕ} 0 
 
 -- THEOREM: with nothing due a request changes nothing
 pub nothing-due : NothingDue
-unfolding requestOf server.onRequest dueAs
+unfolding requestOf requestBy server.onRequest dueAs
 nothing-due sv l session out i e q =
     rw (e, not-due (linkOf sv i .down) (linkOf sv i) (l .disk) (ownerPart sv l) (files (tablePart sv l)) out q, set-getD (sv .links) i closedSession)

@@ -22,8 +22,8 @@ use Rattle.server.specs.declared.check.Check.{Check}
 use Rattle.server.specs.declared.check.Check.the-variants as check
 use Rattle.server.specs.State.{Lent, linkOf, Outcome}
 use Rattle.server.specs.Check.{checkOf}
-use Rattle.server.specs.Sending.{Due, leastOf, dataOf, sendingOf, dueOf}
-use Rattle.server.specs.Calls.{answeredBy, heardBy, stepOf, onCheck, receiveOf, Opened, onLogin, loginOf, dueAs, onRequest, requestOf}
+use Rattle.sending.specs.Sending.{Due, leastOf, dataOf, sendingOf, dueOf}
+use Rattle.server.specs.Calls.{answeredBy, heardBy, stepOf, onCheck, receiveOf, Opened, onLogin, loginOf, dueAs, onRequest, requestOf, loginBy, requestBy, receiveBy}
 use Rattle.server.proofs.Answering.{isRefused}
 use Rattle.embed.specs.declared.words.Ready.{Ready}
 use Rattle.embed.specs.declared.words.Ready.the-variants as ready
@@ -142,7 +142,7 @@ by-ready codeOf sizeIn state counts f kept gone = go (readyOf state counts) (rea
 module _ (state counts : List ℕ) (l : Lent) (session : ℕ) (out : List ℕ) where
   pub receive-length : (clock : ℕ) (input : List ℕ) → calls.receiveBy state counts l out session clock input .told .code ≤ 2
       → getD (calls.receiveBy state counts l out session clock input .told .counts) 1 0 ≤ 258
-  unfolding calls.receiveBy calls.onReceive receiveOf
+  unfolding calls.receiveBy calls.onReceive receiveOf receiveBy
   receive-length clock input =
       by-ready (λ (r : calls.Received). r .told .code) (λ (r : calls.Received). getD (r .told .counts) 1 0) state (length counts)
       (λ (k : Ready). calls.onReceive k state counts l out session clock input) (λ n. refl)
@@ -152,7 +152,7 @@ module _ (state counts : List ℕ) (l : Lent) (session : ℕ) (out : List ℕ) w
 
   pub open-length : (clock : ℕ) → calls.openBy state counts l out session clock .told .code ≤ 2
       → getD (calls.openBy state counts l out session clock .told .counts) 1 0 ≤ 258
-  unfolding calls.openBy calls.onOpen loginOf
+  unfolding calls.openBy calls.onOpen loginOf loginBy
   open-length clock =
       by-ready (λ (r : calls.Sent). r .told .code) (λ (r : calls.Sent). getD (r .told .counts) 1 0) state (length counts)
       (λ (k : Ready). calls.onOpen k state counts l out session clock) (λ n. refl)
@@ -161,7 +161,7 @@ module _ (state counts : List ℕ) (l : Lent) (session : ℕ) (out : List ℕ) w
 
   pub request-length : calls.requestBy state counts l out session .told .code ≤ 2
       → getD (calls.requestBy state counts l out session .told .counts) 1 0 ≤ 258
-  unfolding calls.requestBy calls.onRequest requestOf
+  unfolding calls.requestBy calls.onRequest requestOf requestBy
   request-length =
       by-ready (λ (r : calls.Sent). r .told .code) (λ (r : calls.Sent). getD (r .told .counts) 1 0) state (length counts)
       (λ (k : Ready). calls.onRequest k state counts l out session) (λ n. refl)

@@ -25,9 +25,9 @@ use Rattle.server.specs.declared.Server.{Server}
 use Rattle.server.specs.declared.check.Check.{Check}
 use Rattle.server.specs.declared.check.Check.the-variants as check
 use Rattle.server.specs.State.{Lent, linkOf, words, part}
-use Rattle.server.specs.Check.{fits, soundParts, inState, sessionCheck, checkParts, checkOf}
+use Rattle.server.specs.Check.{fits, soundParts, inState, sessionCheck, checkBy, checkOf}
 use Rattle.server.specs.Turns.{hearOf}
-use Rattle.server.specs.Calls.{answeredBy, heardBy, stepOf, onCheck, receiveOf}
+use Rattle.server.specs.Calls.{answeredBy, heardBy, stepOf, onCheck, receiveOf, receiveBy}
 use Rattle.server.proofs.CheckLaws.{check-go, both-true}
 use Rattle.server.proofs.Answering.{isRefused, step-not}
 use Rattle.embed.specs.declared.words.Ready.{Ready}
@@ -119,7 +119,7 @@ session-linked sv session out i e =
     go false false true p false e = let s : session - 1 ≡ i = cc in subst (λ (k : ℕ). linkOf sv k .linked ≡ true) s p
 
 check-seen : (sv : Server) (l : Lent) (session out i : ℕ) → checkOf sv l session true out ≡ check.Go i → Seen sv l i
-unfolding checkParts
+unfolding checkBy
 check-seen sv l session out i e =
     go (fits sv (length (l .disk)) (l .map) (l .owner) (l .table) (l .selected) (l .held))
     (soundParts sv (l .map) (l .owner) (l .table) (l .selected) (l .held)) refl e
@@ -158,7 +158,7 @@ step-takes : (sv : Server) (session i clock : ℕ) (input : List ℕ) (l : Lent)
     → checkOf sv l session true (length out) ≡ check.Go i
     → Takes (length input) (takenOf (stepOf sv i clock input l out .done .answer))
 step-takes sv session i clock input l out e =
-    let p = check-go sv session true (length out) (length (l .disk)) (l .map) (l .owner) (l .table) (l .selected) (l .held) i e in
+    let p = check-go _ sv session true (length out) (length (l .disk)) (l .map) (l .owner) (l .table) (l .selected) (l .held) i e in
     subst (λ (n : ℕ). Takes (length input) n) (sym (step-taken sv i clock input l out (p .out)))
     (frame-takes (part (i * 258) 258 (l .held)) (linkOf sv i .held) input (part-length (l .held) i (sv .sessions) (p .index) (p .room .held))
     (held-below sv l i (check-seen sv l session (length out) i e) (p .index)))
@@ -185,7 +185,7 @@ module _ (state counts : List ℕ) (l : Lent) (out : List ℕ) (session clock : 
   checked-takes (check.Refuse n) e h c = absurd (refused-by n h c)
   checked-takes (check.Go i) e h c =
       let sv = serverAt state in
-      let p = check-go sv session true (length out) (length (l .disk)) (l .map) (l .owner) (l .table) (l .selected) (l .held) i e in
+      let p = check-go _ sv session true (length out) (length (l .disk)) (l .map) (l .owner) (l .table) (l .selected) (l .held) i e in
       subst (λ (n : ℕ). Takes (length input) n)
       (sym (tell-counts (stepOf sv i clock input l out .done .answer) (stepOf sv i clock input l out .done .server) state counts
       (step-not sv i clock input l out (p .out))))
@@ -194,11 +194,11 @@ module _ (state counts : List ℕ) (l : Lent) (out : List ℕ) (session clock : 
   ready-takes : (k : Ready) → Local (readyNumber k)
       → calls.onReceive k state counts l out session clock input .told .code ≤ 2
       → Takes (length input) (getD (calls.onReceive k state counts l out session clock input .told .counts) 0 0)
-  unfolding calls.onReceive receiveOf
+  unfolding calls.onReceive receiveOf receiveBy
   ready-takes (ready.Refuse n) h c = absurd (refused-by n h c)
   ready-takes ready.Go h c =
       checked-takes (checkOf (serverAt state) l session true (length out)) refl
-      (check-number (serverAt state) session true (length out) (length (l .disk)) (l .map) (l .owner) (l .table) (l .selected) (l .held)) c
+      (check-number (serverAt state) l session true (length out)) c
 
   pub receive-takes : calls.receiveBy state counts l out session clock input .told .code ≤ 2
       → Takes (length input) (getD (calls.receiveBy state counts l out session clock input .told .counts) 0 0)

@@ -17,9 +17,9 @@ use Rattle.server.specs.declared.Server.{Server}
 use Rattle.server.specs.declared.check.Check.{Check}
 use Rattle.server.specs.declared.check.Check.the-variants as check
 use Rattle.server.specs.State.{Lent, words, linkOf, Outcome, outcome, doneWith}
-use Rattle.server.specs.Check.{sizesFit, soundParts, fits, inState, sessionCheck, checkParts, checkOf}
-use Rattle.server.specs.Calls.{onCheck, receiveOf, Opened, opened, onLogin}
-use Rattle.server.specs.Calls.{loginOf, Lost, lost, onLose, loseOf, dueAs, onRequest, requestOf}
+use Rattle.server.specs.Check.{sizesFit, soundIn, fits, inState, sessionCheck, checkBy, checkOf}
+use Rattle.server.specs.Calls.{onCheck, receiveBy, receiveOf, Opened, opened, onLogin}
+use Rattle.server.specs.Calls.{loginBy, loginOf, Lost, lost, onLose, loseBy, loseOf, dueAs, onRequest, requestBy, requestOf}
 use Rattle.server.specs.Making.{Emptied, emptied, newServer, emptyOf, makes, makeOf}
 use Rattle.server.proofs.CheckLaws.{check-go}
 use Rattle.server.proofs.Answering.{isRefused, answered-not, step-not, due-not}
@@ -49,11 +49,10 @@ session-number sv session wanted out =
     go false false true true = (omega arith, omega arith)
     go false false true false = (omega arith, omega arith)
 
-pub check-number : (sv : Server) (session : ℕ) (wanted : Bool) (out disk : ℕ) (map owner table selected held : List ℕ)
-    → Local (checkNumber (checkParts sv session wanted out disk map owner table selected held))
-unfolding checkParts
-check-number sv session wanted out disk map owner table selected held =
-    go (fits sv disk map owner table selected held) (soundParts sv map owner table selected held)
+pub check-number : (sv : Server) (l : Lent) (session : ℕ) (wanted : Bool) (out : ℕ) → Local (checkNumber (checkOf sv l session wanted out))
+unfolding checkBy
+check-number sv l session wanted out =
+    go (fits sv (length (l .disk)) (l .map) (l .owner) (l .table) (l .selected) (l .held)) (soundIn sv l)
   where
     go : (a b : Bool) → Local (checkNumber (cond a (cond b (sessionCheck sv session wanted out) (check.Refuse 35)) (check.Refuse 33)))
     go false b = (omega arith, omega arith)
@@ -87,36 +86,35 @@ module _ (sv : Server) (l : Lent) (session : ℕ) where
       → ((n : ℕ) → f (check.Refuse n) ≡ same n) → ((i : ℕ) → 258 ≤ out → isRefused (answerOf (f (check.Go i))) ≡ false)
       → Ended answerOf same (f (checkOf sv l session wanted out))
   by-check answerOf same wanted out f kept gone =
-      go (checkOf sv l session wanted out) refl (check-number sv session wanted out (length (l .disk)) (l .map) (l .owner) (l .table) (l .selected)
-      (l .held))
+      go (checkOf sv l session wanted out) refl (check-number sv l session wanted out)
     where
       go : (k : Check) → checkOf sv l session wanted out ≡ k → Local (checkNumber (checkOf sv l session wanted out)) → Ended answerOf same (f k)
       go (check.Refuse n) e h = refused n (subst (λ (c : Check). Local (checkNumber c)) e h) (kept n)
       go (check.Go i) e h =
-          through (gone i (check-go sv session wanted out (length (l .disk)) (l .map) (l .owner) (l .table) (l .selected) (l .held) i e .out))
+          through (gone i (check-go _ sv session wanted out (length (l .disk)) (l .map) (l .owner) (l .table) (l .selected) (l .held) i e .out))
 
   pub receive-ended : (out : List ℕ) (clock : ℕ) (input : List ℕ)
       → Ended (λ (o : Outcome). o .done .answer) (λ (n : ℕ). outcome (doneWith sv (answer.Refused n)) l out) (receiveOf sv l out session clock input)
-  unfolding receiveOf onCheck
+  unfolding receiveOf receiveBy onCheck
   receive-ended out clock input =
       by-check _ _ true (length out) (λ (k : Check). onCheck k sv l out clock input) (λ n. refl) (λ i h. step-not sv i clock input l out h)
 
   pub login-ended : (out : List ℕ) (clock : ℕ)
       → Ended (λ (o : Opened). o .done .answer) (λ (n : ℕ). opened (doneWith sv (answer.Refused n)) out) (loginOf sv l out session clock)
-  unfolding loginOf onLogin
+  unfolding loginOf loginBy onLogin
   login-ended out clock =
       by-check _ _ false (length out) (λ (k : Check). onLogin k sv out clock) (λ n. refl) (λ i h. answered-not (reply.Login clock) 0 out h)
 
   pub request-ended : (out : List ℕ)
       → Ended (λ (o : Opened). o .done .answer) (λ (n : ℕ). opened (doneWith sv (answer.Refused n)) out) (requestOf sv l out session)
-  unfolding requestOf onRequest dueAs
+  unfolding requestOf requestBy onRequest dueAs
   request-ended out =
       by-check _ _ true (length out) (λ (k : Check). onRequest k sv l out) (λ n. refl)
       (λ i h. due-not (linkOf sv i .down) (linkOf sv i) (l .disk) _ _ out h)
 
   pub lose-ended : Ended (λ (o : Lost). o .done .answer) (λ (n : ℕ). lost (doneWith sv (answer.Refused n)) (l .selected) (l .held))
       (loseOf sv l session)
-  unfolding loseOf onLose
+  unfolding loseOf loseBy onLose
   lose-ended = by-check _ _ true 258 (λ (k : Check). onLose k sv (l .selected) (l .held)) (λ n. refl) (λ i h. refl)
 
 -- ---- the calls

@@ -128,7 +128,7 @@ pub extern "C" fn figmorella_make(
     if state.len() < 54 {
         return 33;
     }
-    let made = server::make(
+    let made = making::make(
         blocks,
         files,
         sessions,
@@ -168,7 +168,7 @@ pub extern "C" fn figmorella_open(
         Ready::Refuse(n) => n,
         Ready::Go => {
             let server = words::server_at(&*state);
-            let done = server::login(
+            let done = tested::login(
                 server,
                 disk,
                 map,
@@ -212,7 +212,7 @@ pub extern "C" fn figmorella_receive(
         Ready::Refuse(n) => n,
         Ready::Go => {
             let server = words::server_at(&*state);
-            let done = server::receive(
+            let done = tested::receive(
                 server,
                 disk,
                 map,
@@ -255,7 +255,7 @@ pub extern "C" fn figmorella_request(
         Ready::Refuse(n) => n,
         Ready::Go => {
             let server = words::server_at(&*state);
-            let done = server::request(
+            let done = tested::request(
                 server,
                 disk,
                 map,
@@ -295,7 +295,7 @@ pub extern "C" fn figmorella_lose(
         Ready::Refuse(n) => n,
         Ready::Go => {
             let server = words::server_at(&*state);
-            let done = server::lose(server, disk, map, owner, table, selected, held, session);
+            let done = tested::lose(server, disk, map, owner, table, selected, held, session);
             let closed = done.server;
             let answer = done.answer;
             tell(answer, closed, state, counts)

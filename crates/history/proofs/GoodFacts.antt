@@ -17,7 +17,7 @@ use Rattle.server.specs.declared.Server.{Server}
 use Rattle.server.specs.declared.check.Check.{Check}
 use Rattle.server.specs.declared.check.Check.the-variants.{Go, Refuse}
 use Rattle.server.specs.State.{Lent, linkOf, mapPart, ownerPart, tablePart}
-use Rattle.server.specs.Check.{sizesFit, roomFits, fits, soundParts, inState, sessionCheck, checkParts, checkOf}
+use Rattle.server.specs.Check.{sizesFit, roomFits, fits, soundParts, inState, sessionCheck, checkBy, checkOf}
 use Rattle.server.proofs.CheckLaws.{sizes-true, Room, room-true, both-true}
 use Rattle.server.proofs.CheckLaws as check
 use Rattle.history.specs.Good.{Good}
@@ -97,7 +97,7 @@ module _ (sv : Server) (l : Lent) where
   -- ---- the check of a call: 33 and 35 are not given
 
   pub good-check : Good sv l → (session : ℕ) (wanted : Bool) (out : ℕ) → checkOf sv l session wanted out ≡ sessionCheck sv session wanted out
-  unfolding checkParts
+  unfolding checkBy
   good-check g session wanted out = rw (g .fits, g .sound)
 
   -- what holds of 34, of 32 and of a session that is there and as wanted, holds of the check

@@ -13,8 +13,8 @@ use Rattle.server.specs.declared.check.Check.{Check}
 use Rattle.server.specs.declared.check.Check.the-variants.{Go}
 use Rattle.server.specs.State.{Lent, lent, linkOf, withPart, ownerPart, tablePart}
 use Rattle.server.specs.Turns.{partsOf}
-use Rattle.server.specs.Sending.{dueOf}
-use Rattle.server.specs.Calls.{Lost, onCheck, receiveOf, onLogin, loginOf, onLose, loseOf, dueAs, onRequest, requestOf}
+use Rattle.sending.specs.Sending.{dueOf}
+use Rattle.server.specs.Calls.{Lost, onCheck, receiveOf, onLogin, loginOf, onLose, loseOf, dueAs, onRequest, requestOf, loginBy, requestBy, receiveBy, loseBy}
 use Rattle.history.specs.Calls.{Call, login, receive, request, lose, callOf}
 use Rattle.history.specs.Change.{Change}
 use Rattle.history.specs.Good.{Good}
@@ -65,7 +65,7 @@ module _ (sv : Server) (l : Lent) (g : Good sv l) (i : ℕ) (inside : i < sv .se
 
 module _ (sv : Server) (l : Lent) (g : Good sv l) where
   login-call : (session clock : ℕ) (out : List ℕ) → Leaves sv l (loginOf sv l out session clock .done .server) l
-  unfolding loginOf onLogin
+  unfolding loginOf loginBy onLogin
   login-call session clock out =
       checked sv l g session false (length out) (λ (k : Check). Leaves sv l (onLogin k sv out clock .done .server) l)
       (leaves-all sv l g) (leaves-all sv l g)
@@ -73,7 +73,7 @@ module _ (sv : Server) (l : Lent) (g : Good sv l) where
 
   receive-call : (session clock : ℕ) (input out : List ℕ)
       → Leaves sv l (receiveOf sv l out session clock input .done .server) (receiveOf sv l out session clock input .lent)
-  unfolding receiveOf onCheck
+  unfolding receiveOf receiveBy onCheck
   receive-call session clock input out =
       checked sv l g session true (length out)
       (λ (k : Check). Leaves sv l (onCheck k sv l out clock input .done .server) (onCheck k sv l out clock input .lent))
@@ -81,14 +81,14 @@ module _ (sv : Server) (l : Lent) (g : Good sv l) where
       (λ i inside linked room. step-leaves sv l g i inside linked clock input out)
 
   request-call : (session : ℕ) (out : List ℕ) → Leaves sv l (requestOf sv l out session .done .server) l
-  unfolding requestOf onRequest
+  unfolding requestOf requestBy onRequest
   request-call session out =
       checked sv l g session true (length out) (λ (k : Check). Leaves sv l (onRequest k sv l out .done .server) l)
       (leaves-all sv l g) (leaves-all sv l g)
       (λ i inside linked room. request-leaves sv l g i inside linked out)
 
   lose-call : (session : ℕ) → Leaves sv l (loseOf sv l session .done .server) (lentLost l (loseOf sv l session))
-  unfolding loseOf onLose
+  unfolding loseOf loseBy onLose
   lose-call session =
       checked sv l g session true 258
       (λ (k : Check). Leaves sv l (onLose k sv (l .selected) (l .held) .done .server) (lentLost l (onLose k sv (l .selected) (l .held))))

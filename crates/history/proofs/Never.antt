@@ -23,8 +23,8 @@ use Rattle.server.specs.declared.check.Check.{Check}
 use Rattle.server.specs.declared.check.Check.the-variants.{Go}
 use Rattle.server.specs.State.{Lent, linkOf, ownerPart, tablePart}
 use Rattle.server.specs.Turns.{hearOf}
-use Rattle.server.specs.Sending.{told, leastOf, dataOf, sendingOf, dueOf}
-use Rattle.server.specs.Calls.{answeredBy, heardBy, stepOf, onCheck, receiveOf, onLogin, loginOf, onLose, loseOf, dueAs, onRequest, requestOf}
+use Rattle.sending.specs.Sending.{told, leastOf, dataOf, sendingOf, dueOf}
+use Rattle.server.specs.Calls.{answeredBy, heardBy, stepOf, onCheck, receiveOf, onLogin, loginOf, onLose, loseOf, dueAs, onRequest, requestOf, loginBy, requestBy, receiveBy, loseBy}
 use Rattle.history.specs.Calls.{Call, login, receive, request, lose, callOf}
 use Rattle.history.specs.Good.{Good}
 use Rattle.history.proofs.GoodFacts.{checked}
@@ -106,26 +106,26 @@ none-local a u n e = absurd (u n e)
 
 module _ (sv : Server) (l : Lent) (g : Good sv l) where
   login-local : (session clock : ℕ) (out : List ℕ) → LocalOnly (loginOf sv l out session clock .done .answer)
-  unfolding loginOf onLogin
+  unfolding loginOf loginBy onLogin
   login-local session clock out =
       checked sv l g session false (length out) (λ (k : Check). LocalOnly (onLogin k sv out clock .done .answer)) by-34 by-32
       (λ i inside linked room. none-local _ (reply-unrefused (reply.Login clock) 0 out room))
 
   receive-local : (session clock : ℕ) (input out : List ℕ) → LocalOnly (receiveOf sv l out session clock input .done .answer)
-  unfolding receiveOf onCheck stepOf heardBy answeredBy
+  unfolding receiveOf receiveBy onCheck stepOf heardBy answeredBy
   receive-local session clock input out =
       checked sv l g session true (length out) (λ (k : Check). LocalOnly (onCheck k sv l out clock input .done .answer)) by-34 by-32
       (λ i inside linked room. none-local _ (reply-unrefused _ (hearOf (l .held) i (linkOf sv i .held) input .framed .taken) out room))
 
   request-local : (session : ℕ) (out : List ℕ) → LocalOnly (requestOf sv l out session .done .answer)
-  unfolding requestOf onRequest dueAs
+  unfolding requestOf requestBy onRequest dueAs
   request-local session out =
       checked sv l g session true (length out) (λ (k : Check). LocalOnly (onRequest k sv l out .done .answer)) by-34 by-32
       (λ i inside linked room.
       none-local _ (due-unrefused (linkOf sv i .down) (linkOf sv i) (l .disk) (ownerPart sv l) (files (tablePart sv l)) out room))
 
   lose-local : (session : ℕ) → LocalOnly (loseOf sv l session .done .answer)
-  unfolding loseOf onLose
+  unfolding loseOf loseBy onLose
   lose-local session =
       checked sv l g session true 258 (λ (k : Check). LocalOnly (onLose k sv (l .selected) (l .held) .done .answer)) by-34 by-32
       (λ i inside linked room. none-local _ (quiet 0))

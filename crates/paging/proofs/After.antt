@@ -13,7 +13,7 @@ use Rattle.server.specs.declared.check.Check.the-variants.{Go, Refuse}
 use Rattle.server.specs.State.{Lent}
 use Rattle.server.specs.Check.{checkOf}
 use Rattle.server.specs.Making.{makeOf}
-use Rattle.server.specs.Calls.{answeredBy, heardBy, stepOf, onCheck, receiveOf, onLogin, loginOf, onLose, loseOf, dueAs, onRequest, requestOf}
+use Rattle.server.specs.Calls.{answeredBy, heardBy, stepOf, onCheck, receiveOf, onLogin, loginOf, onLose, loseOf, dueAs, onRequest, requestOf, loginBy, requestBy, receiveBy, loseBy}
 use Rattle.history.specs.Calls.{Call, login, receive, request, lose, callOf, Start, legal, made, History, start, _▸_, after}
 use Rattle.history.specs.Good.{Good}
 use Rattle.history.specs.Change.{Change}
@@ -49,7 +49,7 @@ module _ (sv : Server) (l : Lent) where
   request-most (Go i) out = refl
 
   call-most : (c : Call) → callOf sv l c .done .server .most ≡ sv .most
-  unfolding receiveOf loginOf loseOf requestOf
+  unfolding receiveOf receiveBy loginOf loginBy loseOf loseBy requestOf requestBy
   call-most (login session clock out) = login-most (checkOf sv l session false (length out)) out clock
   call-most (receive session clock input out) = receive-most (checkOf sv l session true (length out)) clock input out
   call-most (request session out) = request-most (checkOf sv l session true (length out)) out

@@ -35,7 +35,7 @@ use Rattle.carry.specs.Carry.{onChooses, carryOut}
 use Rattle.server.specs.declared.Server.{Server}
 use Rattle.server.specs.declared.check.Check.the-variants.{Go}
 use Rattle.server.specs.State.{Lent, lent, outcome, doneWith, linkOf, withTurn, words, ownerPart, tablePart, part, withPart}
-use Rattle.server.specs.Check.{inState, sessionCheck, checkParts, checkOf}
+use Rattle.server.specs.Check.{inState, sessionCheck, checkBy, checkOf}
 use Rattle.server.specs.Turns.{heardIn, hearOf, sizeIn, partsOf, putBack, actOf}
 use Rattle.server.specs.Calls.{answeredBy, heardBy, stepOf}
 use Rattle.history.specs.Good.{Good}
@@ -47,7 +47,7 @@ use Rattle.paging.proofs.Hearing.{packet-heard}
 -- none of 33, 35, 34 and 32 is given
 pub goes : (sv : Server) (l : Lent) (session : ℕ) (out : List ℕ) → Good sv l → MayAsk sv session out
     → checkOf sv l session true (length out) ≡ Go (session - 1)
-unfolding checkParts sessionCheck inState
+unfolding checkBy sessionCheck inState
 goes sv l session out g m =
     rw (
       g .fits,

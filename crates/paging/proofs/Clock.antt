@@ -30,7 +30,7 @@ use Rattle.server.specs.declared.check.Check.the-variants.{Go, Refuse}
 use Rattle.server.specs.State.{Lent}
 use Rattle.server.specs.Check as check
 use Rattle.server.specs.Turns.{putBack, actOf}
-use Rattle.server.specs.Calls.{answeredBy, heardBy, stepOf, onCheck, receiveOf, onLogin, loginOf, onLose, loseOf, dueAs, onRequest, requestOf}
+use Rattle.server.specs.Calls.{answeredBy, heardBy, stepOf, onCheck, receiveOf, onLogin, loginOf, onLose, loseOf, dueAs, onRequest, requestOf, loginBy, requestBy, receiveBy, loseBy}
 use Rattle.history.specs.Calls.{Call, login, receive, request, lose, callOf}
 use Rattle.paging.specs.Paging.{Clocked}
 
@@ -173,7 +173,7 @@ module _ (sv : Server) (l : Lent) (small : sv .last .time < 4294967296) where
 
   -- THE LAW: a call with a 32-bit clock leaves a 32-bit time
   pub call-small : (c : Call) → Clocked c → callOf sv l c .done .server .last .time < 4294967296
-  unfolding receiveOf loginOf loseOf requestOf
+  unfolding receiveOf receiveBy loginOf loginBy loseOf loseBy requestOf requestBy
   call-small (login session clock out) k = login-small (check.checkOf sv l session false (length out)) out clock
   call-small (receive session clock input out) k = receive-small (check.checkOf sv l session true (length out)) clock input out k
   call-small (request session out) k = request-small (check.checkOf sv l session true (length out)) out

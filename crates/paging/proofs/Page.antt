@@ -37,7 +37,7 @@ use Rattle.session.specs.declared.reply.Reply.the-variants.{Selected}
 use Rattle.carry.specs.declared.turn.Turn.{Turn}
 use Rattle.carry.specs.Turn.{turnOf}
 use Rattle.server.specs.State.{Lent, outcome, Outcome, doneWith, withTurn, linkOf, mapPart, ownerPart, tablePart, part, withPart}
-use Rattle.server.specs.Calls.{onCheck, receiveOf}
+use Rattle.server.specs.Calls.{onCheck, receiveOf, receiveBy}
 use Rattle.history.specs.Calls.{callOf}
 use Rattle.history.specs.Good.{Good}
 use Rattle.history.specs.Change.{Files}
@@ -156,7 +156,7 @@ module _ (sv : Server) (l : Lent) (good : Good sv l) (st : AllStamped (filesOf s
 
   whole : callOf sv l (asking eq t session clock out)
       ≡ outcome (doneWith (withTurn sv i turned) (answer.Sent (2 + length q) 4)) slices (packetOf 17 (two (length places)) ++ drop 4 out)
-  unfolding receiveOf onCheck
+  unfolding receiveOf receiveBy onCheck
   whole =
       rw (goes sv l session out good may)
       (steps sv l i clock q out some few names packets short accepted (may .idle) (may .nothing-held) (may .room))

@@ -52,10 +52,10 @@ use Rattle.carry.specs.Upload.{withBlocks, finishAs}
 use Rattle.carry.specs.Upload as carry
 use Rattle.carry.specs.Download.{closeTurn, selectedAs, selectTurn, beginTurn, confirmTurn}
 use Rattle.carry.specs.Carry.{onFrees, onWrites, onMoves, onChooses, carryOut}
-use Rattle.server.specs.Check.{sizesFit, roomFits, soundParts, inState, sessionCheck, checkParts}
+use Rattle.server.specs.Check.{sizesFit, roomFits, soundParts, inState, sessionCheck, checkBy}
 use Rattle.server.specs.Turns.{hearOf, sizeIn, putBack, actOf}
 use Rattle.server.specs.Making.{emptyOf, makeOf}
-use Rattle.server.specs.Calls.{answeredBy, heardBy, stepOf, onCheck, onLogin, loginOf, onLose, loseOf, dueAs, onRequest, requestOf}
+use Rattle.server.specs.Calls.{answeredBy, heardBy, stepOf, onCheck, onLogin, loginOf, onLose, loseOf, dueAs, onRequest, requestOf, loginBy, requestBy, loseBy}
 use Rattle.server.specs.Calls as server
 use Rattle.history.specs.Calls.{made}
 use Rattle.history.specs.Calls as history
@@ -91,8 +91,8 @@ unfolding
     onEnd onUplink onFound onNumbered onDownload onAck onNak onDownlink onPacket onFrame decideOf uplinkSound downlinkSound namedAt namesSound
     selectionSound packetSound linkSound linkIn apartFrom allApart linksSound begunTurn begunAs storedAs appendedAs storeTurn discardTurn timed
     judgedAt acceptedAs acceptTurn withDisk withBlocks finishAs carry.beginWith closeTurn selectedAs selectTurn beginTurn confirmTurn onFrees
-    onWrites onMoves onChooses carryOut sizesFit roomFits soundParts inState sessionCheck checkParts hearOf sizeIn putBack actOf emptyOf makeOf
-    answeredBy heardBy stepOf onCheck onLogin loginOf onLose loseOf dueAs onRequest requestOf server.receiveOf made history.after
+    onWrites onMoves onChooses carryOut sizesFit roomFits soundParts inState sessionCheck checkBy hearOf sizeIn putBack actOf emptyOf makeOf
+    answeredBy heardBy stepOf onCheck onLogin loginOf loginBy onLose loseOf loseBy dueAs onRequest requestOf requestBy server.receiveOf made history.after
 met =
     record {
       sizes = refl;

@@ -12,13 +12,13 @@ use borrow.Author.Tests.{ltb-false, le-ltb}
 use Rattle.history.specs.Calls.{Start, made}
 use Rattle.history.specs.Good.{Good}
 use Rattle.script.specs.declared.doing.Doing.the-variants as doing
-use Rattle.script.specs.declared.input.Found.the-variants as found
+use Rattle.input.specs.declared.Found.the-variants as found
 use Rattle.script.specs.Doing.{restsOf, sessionOf}
-use Rattle.script.specs.Input.{findOf}
+use Rattle.input.specs.Input.{findOf}
 use Rattle.script.specs.Day.{dayOf, Stepping, stepOf}
 use Rattle.script.specs.Sheet.{firstLine, lastLine, errorThenLast, linesFrom, sheetOf}
 use Rattle.script.proofs.Agreeing.{good-step, step-session}
-use Rattle.script.proofs.Finding.{find-long, find-nothing, nothing-found}
+use Rattle.input.proofs.Finding.{find-long, find-nothing, nothing-found}
 use Rattle.script.proofs.SheetLaws.{toCome, come-rests, come-step, step-text, step-written, lines-none, lines-long}
 use Rattle.passday.specs.declared.pass.Pass.{Pass}
 use Rattle.passday.specs.declared.pass.Stage.{Stage}

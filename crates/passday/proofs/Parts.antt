@@ -13,8 +13,8 @@ use Rattle.lines.specs.declared.commands.Command.the-variants as command
 use Rattle.lines.specs.Commands.{reads, readOf}
 use Rattle.script.specs.declared.Day.{Day}
 use Rattle.script.specs.declared.Stepped.{Stepped}
-use Rattle.script.specs.Parts.{bytesFrom}
-use Rattle.script.specs.Input.{shifted, shiftOf}
+use Rattle.input.specs.Parts.{bytesFrom}
+use Rattle.input.specs.Input.{shifted, shiftOf}
 use Rattle.script.specs.Day.{beginOf, stepping, stepOf}
 use Rattle.passday.specs.declared.pass.Pass.{Pass}
 use Rattle.passday.specs.declared.pass.Stage.the-variants as stage

@@ -17,16 +17,16 @@ use Rattle.lines.specs.declared.commands.Command.the-variants as command
 use Rattle.lines.specs.Commands.{commandOf, rxBytes, readOf}
 use Rattle.script.specs.declared.doing.Doing.{Doing}
 use Rattle.script.specs.declared.doing.Doing.the-variants as doing
-use Rattle.script.specs.declared.input.Found.the-variants as found
-use Rattle.script.specs.Parts.{bytesFrom}
+use Rattle.input.specs.declared.Found.the-variants as found
+use Rattle.input.specs.Parts.{bytesFrom}
 use Rattle.script.specs.Doing.{restsOf}
-use Rattle.script.specs.Input.{findOf, shiftOf}
+use Rattle.input.specs.Input.{findOf, shiftOf}
 use Rattle.script.specs.Day.{beginOf}
 use Rattle.script.specs.Sheet.{firstLine, errorThenLast, sheetOf}
 use Rattle.script.proofs.Reaching.{begin-server}
 use Rattle.script.proofs.Agreeing.{Agree, drop-take}
 use Rattle.script.proofs.Commands.{begin-session, ReadsLine, reads-line}
-use Rattle.script.proofs.Finding.{LineFound, find-line, find-part}
+use Rattle.input.proofs.Finding.{LineFound, find-line, find-part}
 use Rattle.script.proofs.SheetLaws.{toCome, readable, not-readable, lines-unreadable, lines-begin-in}
 use Rattle.passday.specs.declared.pass.Pass.{Pass}
 use Rattle.passday.specs.declared.pass.Stage.the-variants as stage

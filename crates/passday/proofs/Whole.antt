@@ -9,11 +9,11 @@ use lib.ListN.{length, take, length-append}
 use borrow.Author.Tests.{ltb-false}
 use Rattle.history.specs.Calls.{Start, legal, made}
 use Rattle.history.proofs.Made.{made-good}
-use Rattle.script.specs.declared.input.Found.{Found}
-use Rattle.script.specs.declared.input.Found.the-variants as found
-use Rattle.script.specs.Parts.{restOf}
+use Rattle.input.specs.declared.Found.{Found}
+use Rattle.input.specs.declared.Found.the-variants as found
+use Rattle.input.specs.Parts.{restOf}
 use Rattle.script.specs.Doing.{restsOf}
-use Rattle.script.specs.Input.{findOf}
+use Rattle.input.specs.Input.{findOf}
 use Rattle.passday.specs.declared.pass.Pass.{Pass}
 use Rattle.passday.specs.declared.pass.Stage.{Stage}
 use Rattle.passday.specs.declared.pass.Stage.the-variants as stage

@@ -13,11 +13,11 @@ use Rattle.lines.specs.declared.commands.Command.the-variants as command
 use Rattle.lines.specs.Commands.{Reads, readOf}
 use Rattle.script.specs.declared.Day.{Day}
 use Rattle.script.specs.declared.doing.Doing.the-variants as doing
-use Rattle.script.specs.declared.input.Found.{Found}
-use Rattle.script.specs.declared.input.Found.the-variants as found
-use Rattle.script.specs.Parts.{bytesFrom, restOf}
+use Rattle.input.specs.declared.Found.{Found}
+use Rattle.input.specs.declared.Found.the-variants as found
+use Rattle.input.specs.Parts.{bytesFrom, restOf}
 use Rattle.script.specs.Doing.{restsOf}
-use Rattle.script.specs.Input.{findOf, shiftOf}
+use Rattle.input.specs.Input.{findOf, shiftOf}
 use Rattle.script.specs.Day.{dayOf, beginOf, Stepping, stepOf}
 use Rattle.passday.specs.declared.pass.Pass.{Pass}
 use Rattle.passday.specs.declared.pass.Stage.{Stage}

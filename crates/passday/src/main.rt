@@ -79,7 +79,7 @@ fn run(
         (lent (now (disk .exit)) (now (map .exit)) (now (owner .exit)) (now (table .exit)) (now (selected .exit)) (now (held .exit)))
         (now (input .exit)) (now (bytes .exit)) (now (text .exit)))) ⌝ }
 {
-    let made = server::make(128, 32, 4, 50, &*disk, map, owner, table, selected, held);
+    let made = making::make(128, 32, 4, 50, &*disk, map, owner, table, selected, held);
     let server = made.server;
     play(
         pass::new_pass(server),

@@ -1,11 +1,11 @@
 // The program between two turns, and a turn of it: a step of the line that is being run, the next line, more input, or output written.
+use input::Found;
+use input::parts::least;
 use libc::STDIN_FILENO;
 use libc::STDOUT_FILENO;
 use lines::Command;
 use script::Day;
 use script::doing::Doing;
-use script::input::Found;
-use script::parts::least;
 use server::Server;
 use std::num::wrapping_add_usize;
 ghost use mathlib.Core.Path.{_≡_};
@@ -17,7 +17,7 @@ ghost use Rattle.blocks.specs.FreeMap.{freeCount};
 ghost use Rattle.blocks.specs.Owners.{heldCount};
 ghost use Rattle.server.specs.State.{Lent, lent};
 ghost use Rattle.lines.specs.Lines.{printedIn, errorLine, blocksLine};
-ghost use Rattle.script.specs.Input.{findOf};
+ghost use Rattle.input.specs.Input.{findOf};
 ghost use Rattle.passday.specs.declared.pass.Stage.the-variants as stage;
 ghost use Rattle.passday.specs.Pass.{memory, passing, newOf, overOf, withStage, wrapped, flushOrFill, onFound, unread, decideOf, steppedOf};
 ghost use Rattle.passday.specs.Pass.{begunOf, Turned};
@@ -112,7 +112,7 @@ fn flush_or_fill(pass: Pass) -> Next
 fn next_line(pass: Pass, input: &[u8]) -> Next
     ensures { λ r. ⌜ r ≡ onFound (findOf (unread pass (now (input .entry))) (pass .ended)) (pass .filled) ⌝ }
 {
-    match script::input::find_line(input, pass.from, pass.end, pass.ended) {
+    match input::find_line(input, pass.from, pass.end, pass.ended) {
         Found::Part => flush_or_fill(pass),
         Found::Line(n) => Next::Line(n),
         Found::TooLong => Next::Stop(Stage::Unreadable),
@@ -129,7 +129,7 @@ fn decide(pass: Pass, input: &[u8], size: usize) -> Next
     if script::doing::rests(doing) {
         return next_line(pass, input);
     }
-    if script::parts::rest(pass.filled, size, size) < script::ROOM {
+    if input::parts::rest(pass.filled, size, size) < script::ROOM {
         return Next::Flush;
     }
     Next::Step
@@ -200,7 +200,7 @@ fn begin_line(pass: Pass, n: usize, input: &[u8], bytes: &mut [u8]) -> Pass
     let day = pass.day;
     let stage = pass.stage;
     let to = wrapping_add_usize(pass.from, n);
-    let command = script::input::read_line(input, pass.from, to, bytes);
+    let command = input::read_line(input, pass.from, to, bytes);
     if is_readable(command) {
         let next = script::begin(day, command);
         return Pass {
@@ -248,7 +248,7 @@ fn fill(pass: Pass, input: &mut [u8]) -> Pass
 {
     let day = pass.day;
     let stage = pass.stage;
-    let left = script::input::shift(input, pass.from, pass.end);
+    let left = input::shift(input, pass.from, pass.end);
     let kept = least(left, input.len());
     let got = libc::read(STDIN_FILENO, &mut input[kept..]);
     let n = io::count(got, &input[kept..]);

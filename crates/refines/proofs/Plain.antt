@@ -15,7 +15,7 @@ use Rattle.server.specs.declared.Server.{Server}
 use Rattle.server.specs.declared.check.Check.{Check}
 use Rattle.server.specs.declared.check.Check.the-variants.{Go, Refuse}
 use Rattle.server.specs.State.{Lent, lent, Outcome, withPart}
-use Rattle.server.specs.Calls.{onLogin, loginOf, onLose, loseOf}
+use Rattle.server.specs.Calls.{onLogin, loginOf, onLose, loseOf, loginBy, loseBy}
 use Rattle.history.specs.Good.{Good}
 use Rattle.history.specs.Calls as history
 use Rattle.history.proofs.Sessions.{part-stays, packet-stays}
@@ -61,7 +61,7 @@ module _ (sv : Server) (l : Lent) (g : Good sv l) where
       (link-moved sv l g (session - 1) (t .inside) freshSession (l .selected) (l .held) (λ j n. refl) (λ j n. refl))
 
   pub login-refines : (session clock : ℕ) (out : List ℕ) → Refines sv l (history.login session clock out)
-  unfolding loginOf onLogin step
+  unfolding loginOf loginBy onLogin step
   login-refines session clock out =
       refined sv l (history.login session clock out)
       (ap (loggedIn out clock) (check-is sv l g session false (length out))
@@ -88,7 +88,7 @@ module _ (sv : Server) (l : Lent) (g : Good sv l) where
       (packet-stays (sv .sessions) (session - 1) (replicate 258 0) (l .held) (t .inside) (facts sv l g .sessions .packets) (length-replicate {A = ℕ} 258 0)))
 
   pub lose-refines : (session : ℕ) → Refines sv l (history.lose session)
-  unfolding loseOf onLose step
+  unfolding loseOf loseBy onLose step
   lose-refines session =
       refined sv l (history.lose session)
       (ap lostBy (check-is sv l g session true 258)

@@ -37,7 +37,7 @@ use Rattle.server.specs.declared.Server.{Server}
 use Rattle.server.specs.declared.check.Check.{Check}
 use Rattle.server.specs.State.{Lent, linkOf, withPart, part}
 use Rattle.server.specs.Turns.{HeardIn, heardIn, hearOf, sizeIn, putBack, actOf}
-use Rattle.server.specs.Calls.{answeredBy, heardBy, stepOf, onCheck, receiveOf}
+use Rattle.server.specs.Calls.{answeredBy, heardBy, stepOf, onCheck, receiveOf, receiveBy}
 use Rattle.history.specs.Good.{Good}
 use Rattle.history.specs.Stored.{filesOf}
 use Rattle.history.specs.Calls as history
@@ -361,7 +361,7 @@ module _ (sv : Server) (l : Lent) (g : Good sv l) where
   receives out clock input k = seen (onCheck k sv l out clock input)
 
   pub receive-refines : (session clock : ℕ) (input out : List ℕ) → Refines sv l (history.receive session clock input out)
-  unfolding receiveOf onCheck step
+  unfolding receiveOf receiveBy onCheck step
   receive-refines session clock input out =
       refined sv l (history.receive session clock input out)
       (ap (receives out clock input) (check-is sv l g session true (length out))

@@ -25,10 +25,10 @@ use Rattle.server.specs.declared.Server.{Server}
 use Rattle.server.specs.declared.check.Check.{Check}
 use Rattle.server.specs.declared.check.Check.the-variants.{Go}
 use Rattle.server.specs.State.{Lent, linkOf, withLink, ownerPart, tablePart}
-use Rattle.server.specs.Sending.{Due, leastOf, dataOf, sendingOf, dueOf}
-use Rattle.server.specs.Sending as sending
+use Rattle.sending.specs.Sending.{Due, leastOf, dataOf, sendingOf, dueOf}
+use Rattle.sending.specs.Sending as sending
 use Rattle.server.specs.Calls as server
-use Rattle.server.specs.Calls.{dueAs, requestOf}
+use Rattle.server.specs.Calls.{dueAs, requestOf, requestBy}
 use Rattle.history.specs.Change.{Files}
 use Rattle.history.specs.Good.{Good}
 use Rattle.history.specs.Stored.{filesOf}
@@ -135,7 +135,7 @@ module _ (sv : Server) (l : Lent) (g : Good sv l) where
       ∙ ap (λ (k : model.Session). onRequest (k .down) (view sv l) (session - 1) out) (sym (open-view sv l g (session - 1) (t .inside) (t .linked)))
 
   pub request-refines : (session : ℕ) (out : List ℕ) → Refines sv l (history.request session out)
-  unfolding requestOf server.onRequest step
+  unfolding requestOf requestBy server.onRequest step
   request-refines session out =
       refined sv l (history.request session out)
       (ap (asks out) (check-is sv l g session true (length out))

@@ -14,13 +14,13 @@ use Rattle.session.specs.declared.reply.Answer.{Answer}
 use Rattle.session.specs.declared.reply.Answer.the-variants as answer
 use Rattle.server.specs.declared.Server.{Server}
 use Rattle.server.specs.State.{Lent, Outcome}
-use Rattle.server.specs.Kept.{receiveKept}
+use Rattle.server.specs.Calls.{receiveBy}
 use Rattle.history.specs.Good.{Good}
 use Rattle.history.proofs.Kept.{good-kept}
 use Rattle.script.specs.declared.doing.Doing.{Doing}
 use Rattle.script.specs.declared.doing.Doing.the-variants as doing
 use Rattle.script.specs.declared.Day.{Day}
-use Rattle.script.specs.Parts.{restOf, bytesFrom}
+use Rattle.input.specs.Parts.{restOf, bytesFrom}
 use Rattle.script.specs.Doing.{restsOf, sessionOf, goesOn, heardOn, pumpedOn, afterOf}
 use Rattle.script.specs.Calling.{hearOf, callOf}
 use Rattle.script.specs.Day.{stepping, steppedTo, printsOf, answeredOf, turnOf, stepOf}
@@ -129,7 +129,7 @@ call-agrees doing.Rest sv clock a b l out w = refl
 call-agrees (doing.Opening session) sv clock a b l out w = refl
 call-agrees (doing.Dropping session) sv clock a b l out w = refl
 call-agrees (doing.Hearing session at n) sv clock a b l out w =
-    ap (λ (bytes : List ℕ). receiveKept sv l out session clock bytes) (part-alike at n a b w)
+    ap (λ (bytes : List ℕ). receiveBy true sv l out session clock bytes) (part-alike at n a b w)
 call-agrees (doing.Pumping session) sv clock a b l out w = refl
 
 goes-agrees : (session at n taken : ℕ) (a b : List ℕ) → Alike n a b

@@ -9,13 +9,20 @@ use lib.ListN.{length, take, drop}
 use borrow.Author.Tests.{ltb-true, ltb-false}
 use Rattle.server.specs.declared.Server.{Server}
 use Rattle.server.specs.State.{Lent, Outcome}
-use Rattle.server.specs.Kept.{receiveKept}
+use Rattle.server.specs.Calls.{receiveBy}
 use Rattle.script.specs.declared.doing.Doing.{Doing}
 use Rattle.script.specs.declared.doing.Doing.the-variants as doing
 use Rattle.script.specs.declared.calling.Heard.{Heard}
 use Rattle.script.specs.declared.calling.Heard.the-variants as heard
-use Rattle.script.specs.Calling.{heardTo, heardOf, stillOf, callOf}
-use Rattle.script.proofs.PartLaws.{hear-part}
+use Rattle.script.specs.Calling.{hearOf, heardTo, heardOf, stillOf, callOf}
+use Rattle.input.proofs.PartLaws.{bytes-part}
+
+-- a call over a part of the line is the call for the line's bytes
+hear-part : (sv : Server) (clock session at n : ℕ) (bytes : List ℕ) (l : Lent) (out : List ℕ) (e a : ℕ)
+    → e ≡ cond (ltb n (length bytes)) n (length bytes) → a ≡ cond (ltb at e) at e
+    → receiveBy true sv l out session clock (take (e - a) (drop a bytes)) ≡ hearOf sv clock session at n bytes l out
+unfolding hearOf
+hear-part sv clock session at n bytes l out e a p q = ap (λ (b : List ℕ). receiveBy true sv l out session clock b) (bytes-part bytes at n e a p q)
 
 cut-fits : (a b : ℕ) → cond (ltb a b) a b ≤ b
 cut-fits a b = go (ltb a b) refl
@@ -45,7 +52,7 @@ heard-fits h (doing.Pumping session) size s a e p q = let z : _≡_ {A = ℕ} 0 
 -- handing over that part is the call
 module _ (sv : Server) (clock : ℕ) (bytes : List ℕ) (l : Lent) (out : List ℕ) where
   pub heard-call : (h : Heard) (d : Doing) (s a e : ℕ) → h ≡ heardOf d (length bytes) → h ≡ heard.Part s a e
-      → receiveKept sv l out s clock (take (e - a) (drop a bytes)) ≡ callOf sv clock d bytes l out
+      → receiveBy true sv l out s clock (take (e - a) (drop a bytes)) ≡ callOf sv clock d bytes l out
   unfolding heardOf callOf
   heard-call h doing.Rest s a e p q = let z : _≡_ {A = ℕ} 0 1 = cc in cc
   heard-call h (doing.Opening session) s a e p q = let z : _≡_ {A = ℕ} 0 1 = cc in cc

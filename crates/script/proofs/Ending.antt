@@ -15,18 +15,19 @@ use Rattle.server.specs.declared.check.Check.{Check}
 use Rattle.server.specs.declared.check.Check.the-variants.{Go, Refuse}
 use Rattle.server.specs.State.{Lent, Outcome}
 use Rattle.server.specs.Calls.{Opened, onRequest}
-use Rattle.server.specs.Kept.{keptCheck, receiveKept, requestKept}
+use Rattle.server.specs.Calls.{receiveBy, requestBy}
+use Rattle.server.specs.Check.{checkFor}
 use Rattle.server.proofs.KeptLaws.{kept-check, kept-receive}
 use Rattle.history.specs.Good.{Good}
 use Rattle.script.specs.declared.doing.Doing.{Doing}
 use Rattle.script.specs.declared.doing.Doing.the-variants as doing
 use Rattle.script.specs.declared.Day.{Day}
-use Rattle.script.specs.Parts.{restOf, bytesFrom}
+use Rattle.input.specs.Parts.{restOf, bytesFrom}
 use Rattle.script.specs.Doing.{restsOf, goesOn, heardOn, pumpedOn, afterOf}
 use Rattle.script.specs.Calling.{hearOf, callOf}
 use Rattle.script.specs.Day.{dayOf, printsOf, answeredOf, turnOf, stepOf}
 use Rattle.script.specs.Line.{Ran, ran, printing, room, lineOf}
-use Rattle.script.proofs.PartLaws.{rest-length}
+use Rattle.input.proofs.PartLaws.{rest-length}
 use Rattle.script.proofs.Own.{good-receive, good-request}
 use Rattle.script.proofs.Pumping.{leftIn, request-less, left-most}
 use Rattle.script.proofs.Taking.{tookOf, refusal, receive-takes}
@@ -97,7 +98,7 @@ pumped k sv clock session l bytes (answer.Refused n) h = at-rest k sv clock l by
 
 pump : (k : ℕ) (sv : Server) (clock session : ℕ) (l : Lent) (bytes : List ℕ) → Good sv l → leftIn sv l session < k
     → RestsIn k (dayOf sv clock (doing.Pumping session)) l bytes
-unfolding callOf afterOf requestKept
+unfolding callOf afterOf requestBy
 pump zero sv clock session l bytes g p = absurd (omega (arith, p))
 pump (suc k) sv clock session l bytes g p =
     rests-next k (dayOf sv clock (doing.Pumping session)) l bytes
@@ -106,22 +107,22 @@ pump (suc k) sv clock session l bytes g p =
     (omega (
       arith,
       p,
-      request-less sv l (replicate 258 0) session (keptCheck sv l session true 258) (sym (kept-check sv l (g .sound) session true 258)) t n e,
+      request-less sv l (replicate 258 0) session (checkFor true sv l session true 258) (sym (kept-check sv l (g .sound) session true 258)) t n e,
     ))))
   where
     r : Opened
-    r = requestKept sv l (replicate 258 0) session
+    r = requestBy true sv l (replicate 258 0) session
 
 -- a request that is refused ends it at once
-refused-answer : (sv : Server) (l : Lent) (session n : ℕ) → keptCheck sv l session true 258 ≡ Refuse n
-    → requestKept sv l (replicate 258 0) session .done .answer ≡ answer.Refused n
-unfolding requestKept onRequest
+refused-answer : (sv : Server) (l : Lent) (session n : ℕ) → checkFor true sv l session true 258 ≡ Refuse n
+    → requestBy true sv l (replicate 258 0) session .done .answer ≡ answer.Refused n
+unfolding requestBy onRequest
 refused-answer sv l session n e = rw e
 
 not-sent : (n t m : ℕ) → answer.Refused n ≡ answer.Sent t m → ⊥
 not-sent n t m e = let z : _≡_ {A = ℕ} 0 1 = cc in omega arith
 
-pump-refused : (k : ℕ) (sv : Server) (clock session n : ℕ) (l : Lent) (bytes : List ℕ) → keptCheck sv l session true 258 ≡ Refuse n
+pump-refused : (k : ℕ) (sv : Server) (clock session n : ℕ) (l : Lent) (bytes : List ℕ) → checkFor true sv l session true 258 ≡ Refuse n
     → RestsIn (suc k) (dayOf sv clock (doing.Pumping session)) l bytes
 unfolding callOf afterOf
 pump-refused k sv clock session n l bytes e =
@@ -129,14 +130,14 @@ pump-refused k sv clock session n l bytes e =
     (pumped k (r .done .server) clock session l bytes (r .done .answer) (λ t m f. absurd (not-sent n t m (sym (refused-answer sv l session n e) ∙ f))))
   where
     r : Opened
-    r = requestKept sv l (replicate 258 0) session
+    r = requestBy true sv l (replicate 258 0) session
 
 pump-most : (k : ℕ) (sv : Server) (clock session : ℕ) (l : Lent) (bytes : List ℕ) → Good sv l → 1048579 ≤ k
     → RestsIn k (dayOf sv clock (doing.Pumping session)) l bytes
 pump-most zero sv clock session l bytes g p = absurd (omega (arith, p))
-pump-most (suc k) sv clock session l bytes g p = go (keptCheck sv l session true 258) refl
+pump-most (suc k) sv clock session l bytes g p = go (checkFor true sv l session true 258) refl
   where
-    go : (c : Check) → keptCheck sv l session true 258 ≡ c → RestsIn (suc k) (dayOf sv clock (doing.Pumping session)) l bytes
+    go : (c : Check) → checkFor true sv l session true 258 ≡ c → RestsIn (suc k) (dayOf sv clock (doing.Pumping session)) l bytes
     go (Refuse n) e = pump-refused k sv clock session n l bytes e
     go (Go i) e =
         pump (suc k) sv clock session l bytes g
@@ -186,7 +187,7 @@ hear zero (suc k) sv clock session at n l bytes g p q =
     (heard k (o .done .server) clock session at n (o .lent) bytes (o .done .answer) good (omega (arith, q)) (λ r f. absurd (omega (arith, p, f))))
   where
     o : Outcome
-    o = receiveKept sv l (replicate 258 0) session clock (bytesFrom at n bytes)
+    o = receiveBy true sv l (replicate 258 0) session clock (bytesFrom at n bytes)
 
     good : Good (o .done .server) (o .lent)
     good = good-receive sv l g (replicate 258 0) session clock (bytesFrom at n bytes)
@@ -204,7 +205,7 @@ hear (suc m) (suc k) sv clock session at n l bytes g p q =
     (omega (arith, q))))
   where
     o : Outcome
-    o = receiveKept sv l (replicate 258 0) session clock (bytesFrom at n bytes)
+    o = receiveBy true sv l (replicate 258 0) session clock (bytesFrom at n bytes)
 
     good : Good (o .done .server) (o .lent)
     good = good-receive sv l g (replicate 258 0) session clock (bytesFrom at n bytes)

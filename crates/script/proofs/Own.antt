@@ -11,15 +11,15 @@ use Rattle.server.specs.declared.check.Check.{Check}
 use Rattle.server.specs.declared.check.Check.the-variants.{Go, Refuse}
 use Rattle.server.specs.State.{Lent, Outcome, outcome, doneWith}
 use Rattle.server.specs.Check.{checkOf}
-use Rattle.server.specs.Calls.{onLose, loseOf}
-use Rattle.server.specs.Kept.{loginKept, receiveKept, requestKept, loseKept}
+use Rattle.server.specs.Calls.{onLose, loseOf, loseBy}
+use Rattle.server.specs.Calls.{loginBy, receiveBy, requestBy, loseBy}
 use Rattle.server.proofs.KeptLaws.{kept-receive, kept-login, kept-lose, kept-request}
 use Rattle.history.specs.Calls.{Call, login, receive, request, lose}
 use Rattle.history.specs.Good.{Good}
 use Rattle.history.proofs.Kept.{good-kept}
 use Rattle.script.specs.declared.doing.Doing.{Doing}
 use Rattle.script.specs.declared.doing.Doing.the-variants as doing
-use Rattle.script.specs.Parts.{bytesFrom}
+use Rattle.input.specs.Parts.{bytesFrom}
 use Rattle.script.specs.Calling.{hearOf, onlyOut, onlyLinks, callOf}
 use Rattle.script.specs.Printing.{lineFor}
 use Rattle.script.specs.Reached.{ownCall, Own}
@@ -32,23 +32,23 @@ lose-line (Go i) sv selected held session a b = refl
 lose-line (Refuse n) sv selected held session a b = refl
 
 module _ (sv : Server) (l : Lent) (g : Good sv l) where
-  own-login : (out : List ℕ) (session clock : ℕ) → Own sv l (login session clock out) (onlyOut l (loginKept sv l out session clock))
+  own-login : (out : List ℕ) (session clock : ℕ) → Own sv l (login session clock out) (onlyOut l (loginBy true sv l out session clock))
   own-login out session clock =
       rw (kept-login sv l (g .sound) out session clock) (record { done = refl; lent = refl; line = λ k. refl })
 
   own-receive : (out : List ℕ) (session clock : ℕ) (input : List ℕ)
-      → Own sv l (receive session clock input out) (receiveKept sv l out session clock input)
+      → Own sv l (receive session clock input out) (receiveBy true sv l out session clock input)
   own-receive out session clock input =
       rw (kept-receive sv l (g .sound) out session clock input) (record { done = refl; lent = refl; line = λ k. refl })
 
-  own-request : (out : List ℕ) (session : ℕ) → Own sv l (request session out) (onlyOut l (requestKept sv l out session))
+  own-request : (out : List ℕ) (session : ℕ) → Own sv l (request session out) (onlyOut l (requestBy true sv l out session))
   own-request out session = rw (kept-request sv l (g .sound) out session) (record { done = refl; lent = refl; line = λ k. refl })
 
   lost-line : (session k : ℕ) (a b : List ℕ) → lineFor k (loseOf sv l session .done .answer) a ≡ lineFor k (loseOf sv l session .done .answer) b
-  unfolding loseOf
+  unfolding loseOf loseBy
   lost-line session k a b = lose-line (checkOf sv l session true 258) sv (l .selected) (l .held) k a b
 
-  own-lose : (out : List ℕ) (session : ℕ) → Own sv l (lose session) (onlyLinks l out (loseKept sv l session))
+  own-lose : (out : List ℕ) (session : ℕ) → Own sv l (lose session) (onlyLinks l out (loseBy true sv l session))
   own-lose out session =
       rw (kept-lose sv l (g .sound) session) (record { done = refl; lent = refl; line = λ k. lost-line session k out _ })
 
@@ -66,9 +66,9 @@ module _ (sv : Server) (l : Lent) (g : Good sv l) where
   -- ---- a good state stays good
 
   pub good-receive : (out : List ℕ) (session clock : ℕ) (input : List ℕ)
-      → Good (receiveKept sv l out session clock input .done .server) (receiveKept sv l out session clock input .lent)
+      → Good (receiveBy true sv l out session clock input .done .server) (receiveBy true sv l out session clock input .lent)
   good-receive out session clock input =
       rw (kept-receive sv l (g .sound) out session clock input) (good-kept sv l g (receive session clock input out))
 
-  pub good-request : (out : List ℕ) (session : ℕ) → Good (requestKept sv l out session .done .server) l
+  pub good-request : (out : List ℕ) (session : ℕ) → Good (requestBy true sv l out session .done .server) l
   good-request out session = rw (kept-request sv l (g .sound) out session) (good-kept sv l g (request session out))

@@ -24,14 +24,15 @@ use Rattle.server.specs.declared.check.Check.{Check}
 use Rattle.server.specs.declared.check.Check.the-variants.{Go, Refuse}
 use Rattle.server.specs.State.{Lent, Outcome, linkOf, ownerPart, tablePart}
 use Rattle.server.specs.Check.{fits, inState, sessionCheck}
-use Rattle.server.specs.Sending.{told, leastOf, dataOf, sendingOf, dueOf}
+use Rattle.sending.specs.Sending.{told, leastOf, dataOf, sendingOf, dueOf}
 use Rattle.server.specs.Calls.{answeredBy, heardBy, stepOf, onCheck, onLogin, onLose, dueAs, onRequest}
-use Rattle.server.specs.Kept.{keptParts, keptCheck, receiveKept, loginKept, loseKept, requestKept}
+use Rattle.server.specs.Calls.{receiveBy, loginBy, loseBy, requestBy}
+use Rattle.server.specs.Check.{checkFor, checkBy}
 use Rattle.lines.specs.Lines.{Printed, printed}
 use Rattle.script.specs.declared.doing.Doing.{Doing}
 use Rattle.script.specs.declared.doing.Doing.the-variants as doing
 use Rattle.script.specs.declared.Day.{Day}
-use Rattle.script.specs.Parts.{bytesFrom}
+use Rattle.input.specs.Parts.{bytesFrom}
 use Rattle.script.specs.Doing.{sessionOf}
 use Rattle.script.specs.Calling.{hearOf, callOf}
 use Rattle.script.specs.Printing.{lineFor, showOf}
@@ -65,8 +66,8 @@ session-small sv session wanted out =
     go false false true true = omega arith
     go false false true false = tt
 
-check-small : (sv : Server) (l : Lent) (session : ℕ) (wanted : Bool) (out : ℕ) → SmallCheck (keptCheck sv l session wanted out)
-unfolding keptParts SmallCheck
+check-small : (sv : Server) (l : Lent) (session : ℕ) (wanted : Bool) (out : ℕ) → SmallCheck (checkFor true sv l session wanted out)
+unfolding checkBy SmallCheck
 check-small sv l session wanted out = go (fits sv (length (l .disk)) (l .map) (l .owner) (l .table) (l .selected) (l .held))
   where
     go : (a : Bool) → SmallCheck (cond a (sessionCheck sv session wanted out) (Refuse 33))
@@ -137,16 +138,16 @@ request-small (Refuse n) sv l out p = p
 request-small (Go i) sv l out p = due-small (linkOf sv i .down) (linkOf sv i) (l .disk) (ownerPart sv l) out (files (tablePart sv l))
 
 pub call-small : (d : Doing) (sv : Server) (clock : ℕ) (bytes : List ℕ) (l : Lent) (out : List ℕ) → Small (callOf sv clock d bytes l out .done .answer)
-unfolding callOf hearOf loginKept loseKept receiveKept requestKept Small
+unfolding callOf hearOf loginBy loseBy receiveBy requestBy Small
 call-small doing.Rest sv clock bytes l out = tt
 call-small (doing.Opening session) sv clock bytes l out =
-    login-small (keptCheck sv l session false (length out)) sv out clock (check-small sv l session false (length out))
+    login-small (checkFor true sv l session false (length out)) sv out clock (check-small sv l session false (length out))
 call-small (doing.Dropping session) sv clock bytes l out =
-    lose-small (keptCheck sv l session true 258) sv (l .selected) (l .held) (check-small sv l session true 258)
+    lose-small (checkFor true sv l session true 258) sv (l .selected) (l .held) (check-small sv l session true 258)
 call-small (doing.Hearing session at n) sv clock bytes l out =
-    receive-small (keptCheck sv l session true (length out)) sv l out clock (bytesFrom at n bytes) (check-small sv l session true (length out))
+    receive-small (checkFor true sv l session true (length out)) sv l out clock (bytesFrom at n bytes) (check-small sv l session true (length out))
 call-small (doing.Pumping session) sv clock bytes l out =
-    request-small (keptCheck sv l session true (length out)) sv l out (check-small sv l session true (length out))
+    request-small (checkFor true sv l session true (length out)) sv l out (check-small sv l session true (length out))
 
 -- ---- a step
 

@@ -30,8 +30,8 @@ use Rattle.server.specs.declared.Server.{Server}
 use Rattle.server.specs.declared.check.Check.{Check}
 use Rattle.server.specs.declared.check.Check.the-variants.{Go, Refuse}
 use Rattle.server.specs.State.{Lent, linkOf, withLink, words, ownerPart, tablePart}
-use Rattle.server.specs.Check.{sizesFit, roomFits, soundParts, inState, sessionCheck, checkParts, checkOf}
-use Rattle.server.specs.Sending.{leastOf, told, dataOf, sendingOf, dueOf}
+use Rattle.server.specs.Check.{sizesFit, roomFits, soundParts, inState, sessionCheck, checkBy, checkOf}
+use Rattle.sending.specs.Sending.{leastOf, told, dataOf, sendingOf, dueOf}
 use Rattle.server.specs.Calls.{onRequest, dueAs}
 use Rattle.server.proofs.CheckLaws.{check-go}
 
@@ -60,7 +60,7 @@ session-through sv session wanted out i e =
         (s, ap (λ (k : ℕ). inState wanted (linkOf sv k .linked)) s ∙ p)
 
 pub through : (sv : Server) (l : Lent) (session out i : ℕ) (wanted : Bool) → checkOf sv l session wanted out ≡ Go i → Through sv l session i wanted
-unfolding checkParts
+unfolding checkBy
 through sv l session out i wanted e =
     go (cond (sizesFit (sv .blocks) (sv .files) (sv .sessions) (sv .most))
     (roomFits (sv .blocks) (sv .files) (sv .sessions) (sv .most) (length (l .disk)) (length (l .map)) (length (l .owner)) (length (l .table))
@@ -202,7 +202,7 @@ pub countable : (sv : Server) (l : Lent) (session i out : ℕ) → checkOf sv l 
     → Countable (files (tablePart sv l)) (linkOf sv i .down)
 countable sv l session i out e =
     let t = through sv l session out i true e in
-    let p = check-go sv session true out (length (l .disk)) (l .map) (l .owner) (l .table) (l .selected) (l .held) i e in
+    let p = check-go _ sv session true out (length (l .disk)) (l .map) (l .owner) (l .table) (l .selected) (l .held) i e in
     let f = link-facts sv l i (t .sound) (p .index) (in-open (linkOf sv i .linked) (t .state)) in
     record {
       counted = λ place offset sent q. file-most sv l place (t .sound) (p .sizes .blocks) (p .room .owner)

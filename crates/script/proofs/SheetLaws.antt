@@ -15,9 +15,9 @@ use Rattle.lines.specs.declared.commands.Command.the-variants as command
 use Rattle.lines.specs.Lines.{printed, printedIn}
 use Rattle.lines.specs.Commands.{commandOf, rxBytes}
 use Rattle.script.specs.declared.Day.{Day}
-use Rattle.script.specs.declared.input.Found.the-variants as found
+use Rattle.input.specs.declared.Found.the-variants as found
 use Rattle.script.specs.Doing.{restsOf, sessionOf}
-use Rattle.script.specs.Input.{lineLength, foundOf, findOf}
+use Rattle.input.specs.Input.{lineLength, foundOf, findOf}
 use Rattle.script.specs.Printing.{showOf}
 use Rattle.script.specs.Day.{beginOf, stepping, steppedTo, printsOf, answeredOf, turnOf, stepOf}
 use Rattle.script.specs.Line.{Ran, ran, room, lineOf}

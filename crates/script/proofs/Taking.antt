@@ -26,7 +26,7 @@ use Rattle.server.specs.declared.check.Check.the-variants.{Go, Refuse}
 use Rattle.server.specs.State.{Lent, linkOf, part}
 use Rattle.server.specs.Check.{checkOf}
 use Rattle.server.specs.Turns.{hearOf}
-use Rattle.server.specs.Calls.{answeredBy, heardBy, stepOf, onCheck, receiveOf}
+use Rattle.server.specs.Calls.{answeredBy, heardBy, stepOf, onCheck, receiveOf, receiveBy}
 use Rattle.server.proofs.CheckLaws.{check-go}
 use Rattle.script.proofs.Pumping.{through, link-facts, in-open}
 
@@ -106,14 +106,14 @@ heard-takes held i count b bs p q =
 few-held : (sv : Server) (l : Lent) (session i out : ℕ) → checkOf sv l session true out ≡ Go i → linkOf sv i .held < 258
 few-held sv l session i out e =
     let t = through sv l session out i true e in
-    let p = check-go sv session true out (length (l .disk)) (l .map) (l .owner) (l .table) (l .selected) (l .held) i e in
+    let p = check-go _ sv session true out (length (l .disk)) (l .map) (l .owner) (l .table) (l .selected) (l .held) i e in
     let f = link-facts sv l i (t .sound) (p .index) (in-open (linkOf sv i .linked) (t .state)) in
     by-lt (linkOf sv i .held) 2 (λ h. omega (arith, h)) (λ h. omega (arith, f .packet h .announces, f .packet h .fewer))
 
 go-takes : (sv : Server) (l : Lent) (out : List ℕ) (session clock i b : ℕ) (bs : List ℕ) → checkOf sv l session true (length out) ≡ Go i
     → 1 ≤ tookOf (stepOf sv i clock (b ∷ bs) l out .done .answer)
 go-takes sv l out session clock i b bs e =
-    let p = check-go sv session true (length out) (length (l .disk)) (l .map) (l .owner) (l .table) (l .selected) (l .held) i e in
+    let p = check-go _ sv session true (length out) (length (l .disk)) (l .map) (l .owner) (l .table) (l .selected) (l .held) i e in
     rw (step-taken sv i clock (b ∷ bs) l out (p .out))
     (heard-takes (l .held) i (linkOf sv i .held) b bs (le-trans (part-end i (sv .sessions) 258 (p .index)) (p .room .held))
     (few-held sv l session i (length out) e))
@@ -132,7 +132,7 @@ check-takes sv l out session clock b bs (Go i) e f = go-takes sv l out session c
 
 pub receive-takes : (sv : Server) (l : Lent) (out : List ℕ) (session clock : ℕ) (input : List ℕ) (a : Answer) → 0 < length input
     → receiveOf sv l out session clock input .done .answer ≡ a → refusal a ≡ false → 1 ≤ tookOf a
-unfolding receiveOf
+unfolding receiveOf receiveBy
 receive-takes sv l out session clock [] a p e f = absurd (omega (arith, p))
 receive-takes sv l out session clock (b ∷ bs) a p e f =
     rw (sym e) (check-takes sv l out session clock b bs (checkOf sv l session true (length out)) refl (ap refusal e ∙ f))

@@ -6,7 +6,7 @@ use Rattle.session.specs.declared.reply.Answer.{Answer}
 use Rattle.session.specs.declared.reply.Answer.the-variants as answer
 use Rattle.script.specs.declared.doing.Doing.{Doing}
 use Rattle.script.specs.declared.doing.Doing.the-variants as doing
-use Rattle.script.specs.Parts.{restOf}
+use Rattle.input.specs.Parts.{restOf}
 
 unfoldable pub restsOf : Doing → Bool
 restsOf doing.Rest = true

@@ -1,5 +1,3 @@
-pub mod Parts
-pub mod Input
 pub mod Doing
 pub mod Calling
 pub mod Printing

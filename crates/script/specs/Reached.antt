@@ -16,7 +16,7 @@ use Rattle.lines.specs.declared.commands.Command.{Command}
 use Rattle.script.specs.declared.doing.Doing.{Doing}
 use Rattle.script.specs.declared.doing.Doing.the-variants as doing
 use Rattle.script.specs.declared.Day.{Day}
-use Rattle.script.specs.Parts.{bytesFrom}
+use Rattle.input.specs.Parts.{bytesFrom}
 use Rattle.script.specs.Doing.{sessionOf}
 use Rattle.script.specs.Calling.{callOf}
 use Rattle.script.specs.Printing.{lineFor}

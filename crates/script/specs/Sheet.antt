@@ -15,9 +15,9 @@ use Rattle.lines.specs.Commands.{commandOf, rxBytes}
 use Rattle.lines.specs.Lines.{errorLine, blocksLine}
 use Rattle.script.specs.declared.Day.{Day}
 use Rattle.script.specs.declared.doing.Doing.the-variants as doing
-use Rattle.script.specs.declared.input.Found.{Found}
-use Rattle.script.specs.declared.input.Found.the-variants as found
-use Rattle.script.specs.Input.{findOf}
+use Rattle.input.specs.declared.Found.{Found}
+use Rattle.input.specs.declared.Found.the-variants as found
+use Rattle.input.specs.Input.{findOf}
 use Rattle.script.specs.Day.{dayOf, beginOf}
 use Rattle.script.specs.Line.{Ran, lineOf}
 

@@ -1,6 +1,6 @@
 // The server's call for what a script is doing: one of those that do not test 35 again, since the script keeps the state from call to call.
 use crate::doing::Doing;
-use crate::parts::least;
+use input::parts::least;
 use server::Done;
 use server::Server;
 use session::reply::Answer;
@@ -51,8 +51,9 @@ fn still_call(
             server: server,
             answer: Answer::Quiet(0),
         },
-        Doing::Opening(session) => server::kept::login_kept(
+        Doing::Opening(session) => server::login(
             server,
+            true,
             disk,
             map,
             owner,
@@ -63,8 +64,9 @@ fn still_call(
             session as usize,
             clock,
         ),
-        Doing::Dropping(session) => server::kept::lose_kept(
+        Doing::Dropping(session) => server::lose(
             server,
+            true,
             disk,
             map,
             owner,
@@ -77,8 +79,9 @@ fn still_call(
             server: server,
             answer: Answer::Quiet(0),
         },
-        Doing::Pumping(session) => server::kept::request_kept(
+        Doing::Pumping(session) => server::request(
             server,
+            true,
             disk,
             map,
             owner,
@@ -122,8 +125,9 @@ pub(crate) fn call(
             held,
             out,
         ),
-        Heard::Part(session, from, to) => server::kept::receive_kept(
+        Heard::Part(session, from, to) => server::receive(
             server,
+            true,
             disk,
             map,
             owner,

@@ -1,5 +1,5 @@
 // What a script is doing on a line, and what it does after an answer of the server.
-use crate::parts::rest;
+use input::parts::rest;
 use session::reply::Answer;
 ghost use mathlib.Core.Path.{_≡_};
 ghost use Rattle.script.specs.Doing.{sessionOf, restsOf, goesOn, heardOn, pumpedOn, afterOf};

@@ -3,12 +3,10 @@
 // A line is begun, then stepped until the script rests: each step is one call of the server and at most one printed line. Every step has an
 // answer, whatever it is handed; the contracts say what the call was, what it left and what was printed.
 //
-// The caller keeps the script and the slices from step to step, and nobody else writes to them. So the calls are those that do not test 35 again
-// (kept.rt of the crate server); from a server just made on, each is the server's own call (EveryScript in specs/Reached.antt).
+// The caller keeps the script and the slices from step to step, and nobody else writes to them. So each call is told that the state is sound; from a
+// server just made on, each is the server's own call, with the test of 35 (EveryScript in specs/Reached.antt).
 mod calling;
 pub mod doing;
-pub mod input;
-pub mod parts;
 mod printing;
 
 use doing::Doing;

@@ -18,7 +18,7 @@ use Rattle.table.specs.declared.File.{File}
 use Rattle.table.specs.Table.{fileAt}
 use Rattle.server.specs.declared.Server.{Server}
 use Rattle.server.specs.State.{Lent}
-use Rattle.server.specs.Sending.{Due, dueOf, sendingOf, dataOf}
+use Rattle.sending.specs.Sending.{Due, dueOf, sendingOf, dataOf}
 use Rattle.server.specs.Calls.{answeredBy, heardBy, stepOf}
 
 abbrev pub isRefused : Answer → Bool

@@ -13,9 +13,8 @@ use Rattle.server.specs.declared.Server.{Server}
 use Rattle.server.specs.declared.check.Check.{Check}
 use Rattle.server.specs.declared.check.Check.the-variants.{Go, Refuse}
 use Rattle.server.specs.State.{Lent, lent, words, linkOf}
-use Rattle.server.specs.Check.{sizesFit, roomFits, fits, soundParts, inState, sessionCheck, checkParts}
+use Rattle.server.specs.Check.{sizesFit, roomFits, fits, inState, sessionCheck, checkBy}
 use Rattle.server.specs.Calls.{StepPre, LosePre, DuePre, onRequest}
-use Rattle.server.specs.Kept.{keptParts}
 
 -- a test and then another
 first : (t a : Bool) → cond t a false ≡ true → t ≡ true
@@ -114,29 +113,17 @@ passed sv session wanted out disk map owner table selected held i f e =
       out = session-go sv session wanted out i e .1;
     }
 
-pub check-go : (sv : Server) (session : ℕ) (wanted : Bool) (out disk : ℕ) (map owner table selected held : List ℕ) (i : ℕ)
-    → checkParts sv session wanted out disk map owner table selected held ≡ Go i
+pub check-go : (sound : Bool) (sv : Server) (session : ℕ) (wanted : Bool) (out disk : ℕ) (map owner table selected held : List ℕ) (i : ℕ)
+    → checkBy sound sv session wanted out disk (length map) (length owner) (length table) (length selected) (length held) ≡ Go i
     → Passed sv i disk out map owner table selected held
-unfolding checkParts
-check-go sv session wanted out disk map owner table selected held i e =
-    go (fits sv disk map owner table selected held) refl (soundParts sv map owner table selected held) e
+unfolding checkBy
+check-go sound sv session wanted out disk map owner table selected held i e = go (fits sv disk map owner table selected held) refl sound e
   where
     go : (a : Bool) → fits sv disk map owner table selected held ≡ a → (d : Bool)
         → cond a (cond d (sessionCheck sv session wanted out) (Refuse 35)) (Refuse 33) ≡ Go i → Passed sv i disk out map owner table selected held
     go false p d e = let z : _≡_ {A = ℕ} 0 1 = cc in absurd (omega arith)
     go true p false e = let z : _≡_ {A = ℕ} 0 1 = cc in absurd (omega arith)
     go true p true e = passed sv session wanted out disk map owner table selected held i p e
-
-pub kept-go : (sv : Server) (session : ℕ) (wanted : Bool) (out disk : ℕ) (map owner table selected held : List ℕ) (i : ℕ)
-    → keptParts sv session wanted out disk map owner table selected held ≡ Go i
-    → Passed sv i disk out map owner table selected held
-unfolding keptParts
-kept-go sv session wanted out disk map owner table selected held i e = go (fits sv disk map owner table selected held) refl e
-  where
-    go : (a : Bool) → fits sv disk map owner table selected held ≡ a → cond a (sessionCheck sv session wanted out) (Refuse 33) ≡ Go i
-        → Passed sv i disk out map owner table selected held
-    go false p e = let z : _≡_ {A = ℕ} 0 1 = cc in absurd (omega arith)
-    go true p e = passed sv session wanted out disk map owner table selected held i p e
 
 -- ---- so there is room for each call
 

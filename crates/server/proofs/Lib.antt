@@ -1,4 +1,3 @@
 pub mod CheckLaws
-pub mod SendLaws
 pub mod KeptLaws
 pub mod Answering

@@ -1,7 +1,8 @@
 -- The calls of the driver (document 01). Each is one definition of all that it is handed: the answer, the server, the slices and the output
--- afterwards. Assumes nothing.
+-- afterwards. `sound` says whether the state is none that 35 refuses: `receiveOf` and the others test the state that they are handed; a driver that keeps
+-- the state from call to call and shows it to nobody may say true, since "35 .. never for a state that calls made from the empty store". Assumes nothing.
 use mathlib.Core.Path.{_≡_}
-use mathlib.Core.Bool.{true, false}
+use mathlib.Core.Bool.{Bool, true, false}
 use mathlib.Core.List.{List}
 use Prim.Native.Nat.{ℕ, _+_, _*_, _≤_}
 use lib.ListN.{length, replicate}
@@ -15,9 +16,9 @@ use Rattle.server.specs.declared.Done.{Done}
 use Rattle.server.specs.declared.check.Check.{Check}
 use Rattle.server.specs.declared.check.Check.the-variants.{Go, Refuse}
 use Rattle.server.specs.State.{Lent, lent, Outcome, outcome, doneWith, linkOf, withLink, withTurn, withPart, ownerPart, tablePart}
-use Rattle.server.specs.Check.{checkOf}
+use Rattle.server.specs.Check.{soundIn, checkFor}
 use Rattle.table.specs.Table.{files}
-use Rattle.server.specs.Sending.{Due, dueOf}
+use Rattle.sending.specs.Sending.{Due, dueOf}
 use Rattle.server.specs.Turns.{HeardIn, hearOf, actOf, ActPre}
 
 -- ---- receive
@@ -47,8 +48,11 @@ unfoldable pub onCheck : Check → Server → Lent → List ℕ → ℕ → List
 onCheck (Refuse n) sv l out clock input = outcome (doneWith sv (answer.Refused n)) l out
 onCheck (Go i) sv l out clock input = stepOf sv i clock input l out
 
+unfoldable pub receiveBy : Bool → Server → Lent → List ℕ → ℕ → ℕ → List ℕ → Outcome
+receiveBy sound sv l out session clock input = onCheck (checkFor sound sv l session true (length out)) sv l out clock input
+
 unfoldable pub receiveOf : Server → Lent → List ℕ → ℕ → ℕ → List ℕ → Outcome
-receiveOf sv l out session clock input = onCheck (checkOf sv l session true (length out)) sv l out clock input
+receiveOf sv l out session clock input = receiveBy (soundIn sv l) sv l out session clock input
 
 -- what the slices have room for
 pub record StepPre (sv : Server) (i : ℕ) (map owner table selected held : List ℕ) : Type 0 where
@@ -71,8 +75,11 @@ onLogin (Refuse n) sv out clock = opened (doneWith sv (answer.Refused n)) out
 onLogin (Go i) sv out clock =
     opened (doneWith (withLink sv i freshSession) (answered (Login clock) 0 out .answer)) (answered (Login clock) 0 out .out)
 
+unfoldable pub loginBy : Bool → Server → Lent → List ℕ → ℕ → ℕ → Opened
+loginBy sound sv l out session clock = onLogin (checkFor sound sv l session false (length out)) sv out clock
+
 unfoldable pub loginOf : Server → Lent → List ℕ → ℕ → ℕ → Opened
-loginOf sv l out session clock = onLogin (checkOf sv l session false (length out)) sv out clock
+loginOf sv l out session clock = loginBy (soundIn sv l) sv l out session clock
 
 -- ---- lose
 
@@ -94,8 +101,11 @@ onLose (Go i) sv selected held =
     (withPart (i * 258) 258 (replicate 258 0) held)
 
 -- there is no output, so 32 is not given
+unfoldable pub loseBy : Bool → Server → Lent → ℕ → Lost
+loseBy sound sv l session = onLose (checkFor sound sv l session true 258) sv (l .selected) (l .held)
+
 unfoldable pub loseOf : Server → Lent → ℕ → Lost
-loseOf sv l session = onLose (checkOf sv l session true 258) sv (l .selected) (l .held)
+loseOf sv l session = loseBy (soundIn sv l) sv l session
 
 -- what the slices have room for
 pub record LosePre (sv : Server) (i : ℕ) (selected held : List ℕ) : Type 0 where
@@ -114,8 +124,11 @@ onRequest (Refuse n) sv l out = opened (doneWith sv (answer.Refused n)) out
 onRequest (Go i) sv l out =
     dueAs sv i (dueOf (linkOf sv i .down) (linkOf sv i) (l .disk) (ownerPart sv l) (files (tablePart sv l)) out)
 
+unfoldable pub requestBy : Bool → Server → Lent → List ℕ → ℕ → Opened
+requestBy sound sv l out session = onRequest (checkFor sound sv l session true (length out)) sv l out
+
 unfoldable pub requestOf : Server → Lent → List ℕ → ℕ → Opened
-requestOf sv l out session = onRequest (checkOf sv l session true (length out)) sv l out
+requestOf sv l out session = requestBy (soundIn sv l) sv l out session
 
 -- what the slices have room for
 pub record DuePre (sv : Server) (i : ℕ) (owner table out : List ℕ) : Type 0 where

@@ -26,11 +26,14 @@ roomFits blocks files sessions most disk map owner table selected held =
     (cond (leb (sessions * most) selected) (leb (sessions * 258) held)
     false) false) false) false) false
 
-abbrev pub fits : Server → ℕ → List ℕ → List ℕ → List ℕ → List ℕ → List ℕ → Bool
-fits sv disk map owner table selected held =
+-- the sizes and the lengths of what is lent
+abbrev pub fitsIn : Server → ℕ → ℕ → ℕ → ℕ → ℕ → ℕ → Bool
+fitsIn sv disk map owner table selected held =
     cond (sizesFit (sv .blocks) (sv .files) (sv .sessions) (sv .most))
-    (roomFits (sv .blocks) (sv .files) (sv .sessions) (sv .most) disk (length map) (length owner) (length table) (length selected) (length held))
-    false
+    (roomFits (sv .blocks) (sv .files) (sv .sessions) (sv .most) disk map owner table selected held) false
+
+abbrev pub fits : Server → ℕ → List ℕ → List ℕ → List ℕ → List ℕ → List ℕ → Bool
+fits sv disk map owner table selected held = fitsIn sv disk (length map) (length owner) (length table) (length selected) (length held)
 
 -- "in the state handed in, demand 3's facts on blocks, numbers or upload times are broken, or a length, offset or name points at what the
 -- store lacks": none of these
@@ -52,12 +55,20 @@ sessionCheck sv session wanted out =
     (cond (ltb out 258) (Refuse 32) (Go (session - 1)))
     (Refuse 34)))
 
--- 33, 35, 34, 32; else the session, counted from 0. `disk` is the storage's length.
-unfoldable pub checkParts : Server → ℕ → Bool → ℕ → ℕ → List ℕ → List ℕ → List ℕ → List ℕ → List ℕ → Check
-checkParts sv session wanted out disk map owner table selected held =
-    cond (fits sv disk map owner table selected held)
-    (cond (soundParts sv map owner table selected held) (sessionCheck sv session wanted out) (Refuse 35)) (Refuse 33)
+-- 33, 35, 34, 32; else the session, counted from 0. `sound`: the state is none that 35 refuses. `disk`, `map` and so on are the lengths of what is
+-- lent.
+unfoldable pub checkBy : Bool → Server → ℕ → Bool → ℕ → ℕ → ℕ → ℕ → ℕ → ℕ → ℕ → Check
+checkBy sound sv session wanted out disk map owner table selected held =
+    cond (fitsIn sv disk map owner table selected held) (cond sound (sessionCheck sv session wanted out) (Refuse 35)) (Refuse 33)
+
+abbrev pub checkFor : Bool → Server → Lent → ℕ → Bool → ℕ → Check
+checkFor sound sv l session wanted out =
+    checkBy sound sv session wanted out (length (l .disk)) (length (l .map)) (length (l .owner)) (length (l .table)) (length (l .selected))
+    (length (l .held))
+
+-- the state as it is handed in is tested
+abbrev pub soundIn : Server → Lent → Bool
+soundIn sv l = soundParts sv (l .map) (l .owner) (l .table) (l .selected) (l .held)
 
 abbrev pub checkOf : Server → Lent → ℕ → Bool → ℕ → Check
-checkOf sv l session wanted out =
-    checkParts sv session wanted out (length (l .disk)) (l .map) (l .owner) (l .table) (l .selected) (l .held)
+checkOf sv l session wanted out = checkFor (soundIn sv l) sv l session wanted out

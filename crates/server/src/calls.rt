@@ -1,9 +1,7 @@
-// What a call does after its check: a refusal changes nothing; else the session's call is made. The tested calls (lib.rt) and the kept ones (kept.rt)
-// differ in the check alone.
+// What a call does after its check: a refusal changes nothing; else the session's call is made.
 use crate::Done;
 use crate::Server;
 use crate::check::Check;
-use crate::sending;
 use crate::turns;
 use session::reply::Answer;
 use session::reply::Reply;
@@ -11,10 +9,10 @@ ghost use mathlib.Core.Path.{_≡_};
 ghost use mathlib.Core.List.{[]};
 ghost use Prim.Native.Nat.{_≤_};
 ghost use Rattle.server.specs.State.{lent, outcome};
-ghost use Rattle.server.specs.Calls.{Goes, StepPre, LosePre, DuePre, stepOf, onCheck, opened, onLogin, lost, onLose, onRequest};
+ghost use Rattle.server.specs.Calls.{Goes, StepPre, LosePre, DuePre, stepOf, opened, onLogin, lost, onLose, onRequest};
 
 // Bytes of an open session's link.
-fn step(
+pub(crate) fn step(
     server: Server,
     i: usize,
     clock: u32,
@@ -55,45 +53,6 @@ fn step(
     Done {
         server: next,
         answer: answer,
-    }
-}
-
-// Takes bytes of a session's link.
-pub(crate) fn on_receive(
-    k: Check,
-    server: Server,
-    clock: u32,
-    input: &[u8],
-    disk: &mut [u8],
-    map: &mut [u64],
-    owner: &mut [u16],
-    table: &mut [u32],
-    selected: &mut [u32],
-    held: &mut [u8],
-    out: &mut [u8],
-) -> Done
-    requires { ⌜ Goes k (λ i. StepPre server i (now map) (now owner) (now table) (now selected) (now held)) ⌝ }
-    ensures { λ r. ⌜ outcome r (lent (now (disk .exit)) (now (map .exit)) (now (owner .exit)) (now (table .exit)) (now (selected .exit)) (now (held .exit))) (now (out .exit))
-        ≡ onCheck k server (lent (now (disk .entry)) (now (map .entry)) (now (owner .entry)) (now (table .entry)) (now (selected .entry)) (now (held .entry))) (now (out .entry)) clock (now (input .entry)) ⌝ }
-{
-    match k {
-        Check::Refuse(n) => Done {
-            server: server,
-            answer: Answer::Refused(n),
-        },
-        Check::Go(i) => step(
-            server,
-            i,
-            clock,
-            input,
-            disk,
-            map,
-            owner,
-            table,
-            selected,
-            held,
-            out,
-        ),
     }
 }
 

@@ -1,12 +1,11 @@
-// The local refusals: sizes (33), soundness (35), the session (34), the output (32).
+// The local refusals: sizes (33), an unsound state (35), the session (34), the output (32). Whether the state is sound is handed in.
 use crate::Server;
 ghost use mathlib.Core.Path.{_≡_};
 ghost use mathlib.Core.Bool.{Bool, true, false, cond};
 ghost use Prim.Native.Nat.{_+_, _*_, _/_, _≤_};
 ghost use lib.ListN.{length};
 ghost use Rattle.server.specs.State.{words};
-ghost use Rattle.server.specs.Check.{sizesFit, roomFits, soundParts, inState, sessionCheck, checkParts};
-ghost use Rattle.server.specs.Kept.{keptParts};
+ghost use Rattle.server.specs.Check.{sizesFit, roomFits, fitsIn, inState, sessionCheck, checkBy};
 
 // A call goes through for a session, counted from 0, or is refused.
 pub enum Check {
@@ -76,43 +75,11 @@ fn room_fits(blocks: usize, files: usize, sessions: usize, most: usize, n: Lengt
 }
 
 // Sizes and lengths, 33.
-pub(crate) fn fits_all(server: Server, n: Lengths) -> bool
-    ensures { λ r. ⌜ r ≡ cond (sizesFit (server .blocks) (server .files) (server .sessions) (server .most))
-        (roomFits (server .blocks) (server .files) (server .sessions) (server .most) (n .disk) (n .map) (n .owner) (n .table) (n .selected) (n .held)) false ⌝ }
+pub fn fits_all(server: Server, n: Lengths) -> bool
+    ensures { λ r. ⌜ r ≡ fitsIn server (n .disk) (n .map) (n .owner) (n .table) (n .selected) (n .held) ⌝ }
 {
     if sizes_fit(server.blocks, server.files, server.sessions, server.most) {
         return room_fits(server.blocks, server.files, server.sessions, server.most, n);
-    }
-    false
-}
-
-// The facts of 35, of the store and of the sessions.
-fn is_sound(
-    server: Server,
-    map: &[u64],
-    owner: &[u16],
-    table: &[u32],
-    selected: &[u32],
-    held: &[u8],
-) -> bool
-    requires { ⌜ (server .blocks ≤ 4096) × (server .files ≤ 256) × (words (server .blocks) ≤ length (now map)) × (server .blocks ≤ length (now owner))
-        × (4 * server .files ≤ length (now table)) ⌝ }
-    ensures { λ r. ⌜ r ≡ soundParts server (now (map .entry)) (now (owner .entry)) (now (table .entry)) (now (selected .entry)) (now (held .entry)) ⌝ }
-{
-    let b = server.blocks;
-    let w = (b + 63) / 64;
-    let x = 4 * server.files;
-    let last = server.last;
-    if files::sound(&map[..w], &owner[..b], &table[..x], last.number, last.time) {
-        let links = server.links;
-        return links::links_sound(
-            links,
-            server.sessions,
-            server.most,
-            &table[..x],
-            selected,
-            held,
-        );
     }
     false
 }
@@ -152,63 +119,22 @@ fn check_session(server: Server, session: usize, wanted: bool, out: usize) -> Ch
     Check::Refuse(34)
 }
 
-// The local refusals in their order.
-pub fn checked(
+// The local refusals in their order. `sound`: the state is none that 35 refuses.
+pub fn judge(
     server: Server,
+    sound: bool,
     session: usize,
     wanted: bool,
     out: usize,
-    disk: usize,
-    map: &[u64],
-    owner: &[u16],
-    table: &[u32],
-    selected: &[u32],
-    held: &[u8],
+    n: Lengths,
 ) -> Check
-    ensures { λ r. ⌜ r ≡ checkParts server session wanted out disk (now (map .entry)) (now (owner .entry)) (now (table .entry)) (now (selected .entry)) (now (held .entry)) ⌝ }
+    ensures { λ r. ⌜ r ≡ checkBy sound server session wanted out (n .disk) (n .map) (n .owner) (n .table) (n .selected) (n .held) ⌝ }
 {
-    let n = Lengths {
-        disk: disk,
-        map: map.len(),
-        owner: owner.len(),
-        table: table.len(),
-        selected: selected.len(),
-        held: held.len(),
-    };
     if fits_all(server, n) {
-        if is_sound(server, map, owner, table, selected, held) {
+        if sound {
             return check_session(server, session, wanted, out);
         }
         return Check::Refuse(35);
-    }
-    Check::Refuse(33)
-}
-
-// The local refusals in their order, without 35: sizes, the session, the output. What the slices hold is not looked at.
-pub(crate) fn kept(
-    server: Server,
-    session: usize,
-    wanted: bool,
-    out: usize,
-    disk: usize,
-    map: &[u64],
-    owner: &[u16],
-    table: &[u32],
-    selected: &[u32],
-    held: &[u8],
-) -> Check
-    ensures { λ r. ⌜ r ≡ keptParts server session wanted out disk (now (map .entry)) (now (owner .entry)) (now (table .entry)) (now (selected .entry)) (now (held .entry)) ⌝ }
-{
-    let n = Lengths {
-        disk: disk,
-        map: map.len(),
-        owner: owner.len(),
-        table: table.len(),
-        selected: selected.len(),
-        held: held.len(),
-    };
-    if fits_all(server, n) {
-        return check_session(server, session, wanted, out);
     }
     Check::Refuse(33)
 }

@@ -28,7 +28,7 @@ use Rattle.links.proofs.Facts.{CompleteAt}
 use Rattle.decide.specs.Words.{wordAt}
 use Rattle.server.specs.declared.Server.{Server}
 use Rattle.server.specs.State.{Lent, mapPart, ownerPart, tablePart}
-use Rattle.server.specs.Sending.{leastOf, bytesFrom}
+use Rattle.sending.specs.Sending.{leastOf, bytesFrom}
 use Rattle.history.specs.Stored.{filesOf}
 use Rattle.history.proofs.GoodFacts.{Facts}
 use Rattle.model.specs.Downlink.{destinationsIn}

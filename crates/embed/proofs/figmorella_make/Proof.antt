@@ -4,7 +4,7 @@ use Rattle.embed.proofs.figmorella_make.Tie as tie
 use Rattle.embed.proofs.figmorella_make.Reads as reads
 use Rattle.embed.proofs.figmorella_make.Lts as lts
 use Rattle.embed.proofs.keep.Reads as keep-reads
-use Rattle.server.proofs.make.Reads as make-reads
+use Rattle.making.proofs.make.Reads as make-reads
 use borrow.Author.Tests.{lt-ltb, le-ltb}
 use Rattle.embed.specs.Calls.{makeBy}
 use native.Mathlib.Omega.{arith}

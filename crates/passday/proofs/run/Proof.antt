@@ -5,7 +5,7 @@ use Rattle.passday.proofs.run.Reads as reads
 use Rattle.passday.proofs.run.Lts as lts
 use Rattle.passday.proofs.pass.new_pass.Reads as new-pass-reads
 use Rattle.passday.proofs.play.Reads as play-reads
-use Rattle.server.proofs.make.Reads as make-reads
+use Rattle.making.proofs.make.Reads as make-reads
 use mathlib.Core.Path.{_∙_}
 use Rattle.passday.proofs.Starting.{new-going, made-played}
 

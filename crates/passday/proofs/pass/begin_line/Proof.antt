@@ -6,8 +6,8 @@ use Rattle.passday.proofs.pass.begin_line.Lts as lts
 use Rattle.passday.proofs.pass.is_readable.Reads as is-readable-reads
 use Rattle.passday.proofs.pass.with_stage.Reads as with-stage-reads
 use Rattle.script.proofs.begin.Reads as begin-reads
-use Rattle.script.proofs.input.read_line.Reads as read-line-reads
-use Rattle.script.proofs.parts.least.Reads as least-reads
+use Rattle.input.proofs.read_line.Reads as read-line-reads
+use Rattle.input.proofs.parts.least.Reads as least-reads
 use Rattle.std.proofs.num.wrapping_add_usize.Reads as wrapping-add-usize-reads
 use mathlib.Core.Path.{sym, _∙_}
 use Rattle.passday.proofs.Parts.{line-begun, line-unreadable}

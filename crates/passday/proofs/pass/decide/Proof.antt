@@ -5,7 +5,7 @@ use Rattle.passday.proofs.pass.decide.Reads as reads
 use Rattle.passday.proofs.pass.decide.Lts as lts
 use Rattle.passday.proofs.pass.next_line.Reads as next-line-reads
 use Rattle.script.proofs.doing.rests.Reads as rests-reads
-use Rattle.script.proofs.parts.rest.Reads as rest-reads
+use Rattle.input.proofs.parts.rest.Reads as rest-reads
 use borrow.Author.Tests.{lt-ltb, le-ltb}
 use Rattle.passday.specs.Pass.{decideOf}
 

@@ -5,8 +5,8 @@ use Rattle.passday.proofs.pass.fill.Reads as reads
 use Rattle.passday.proofs.pass.fill.Lts as lts
 use Rattle.io.proofs.count.Reads as count-reads
 use Rattle.libc.proofs.read.Reads as read-reads
-use Rattle.script.proofs.input.shift.Reads as shift-reads
-use Rattle.script.proofs.parts.least.Reads as least-reads
+use Rattle.input.proofs.shift.Reads as shift-reads
+use Rattle.input.proofs.parts.least.Reads as least-reads
 use mathlib.Core.Path.{refl}
 use Rattle.passday.proofs.Parts.{input-filled}
 

@@ -4,7 +4,7 @@ use Rattle.passday.proofs.pass.next_line.Tie as tie
 use Rattle.passday.proofs.pass.next_line.Reads as reads
 use Rattle.passday.proofs.pass.next_line.Lts as lts
 use Rattle.passday.proofs.pass.flush_or_fill.Reads as flush-or-fill-reads
-use Rattle.script.proofs.input.find_line.Reads as find-line-reads
+use Rattle.input.proofs.find_line.Reads as find-line-reads
 use Rattle.passday.specs.Pass.{onFound}
 
 -- src/pass.rt:112:11

@@ -3,7 +3,7 @@ use Rattle.passday.proofs.pass.step.Statement.{statement}
 use Rattle.passday.proofs.pass.step.Tie as tie
 use Rattle.passday.proofs.pass.step.Reads as reads
 use Rattle.passday.proofs.pass.step.Lts as lts
-use Rattle.script.proofs.parts.least.Reads as least-reads
+use Rattle.input.proofs.parts.least.Reads as least-reads
 use Rattle.script.proofs.step.Reads as step-reads
 use Rattle.std.proofs.num.wrapping_add_usize.Reads as wrapping-add-usize-reads
 use Rattle.passday.proofs.Parts.{step-joins}

@@ -4,7 +4,7 @@ use Rattle.passday.proofs.pass.write_front.Tie as tie
 use Rattle.passday.proofs.pass.write_front.Reads as reads
 use Rattle.passday.proofs.pass.write_front.Lts as lts
 use Rattle.io.proofs.write_all.Reads as write-all-reads
-use Rattle.script.proofs.parts.least.Reads as least-reads
+use Rattle.input.proofs.parts.least.Reads as least-reads
 use mathlib.Core.Path.{sym}
 use lib.Seq.{length-take-le}
 

@@ -17,20 +17,20 @@ still-call-requires c κs = tt
 enum-known-part : tie.Need-enum-known-part
 enum-known-part c = search needs
 
-cast-receive-kept : tie.Need-cast-receive-kept
-cast-receive-kept c = search needs
+cast-receive : tie.Need-cast-receive
+cast-receive c = search needs
 
-sub-receive-kept : tie.Need-sub-receive-kept
-sub-receive-kept c = let f = heard-fits _ _ _ _ _ _ (c .before .before .before .before .before .before .before .before .before .before .handed .ensures) (c .before .before .before .before .before .before .before .before .part .given .1) in omega (arith, f .0, f .1)
+sub-receive : tie.Need-sub-receive
+sub-receive c = let f = heard-fits _ _ _ _ _ _ (c .before .before .before .before .before .before .before .before .before .before .handed .ensures) (c .before .before .before .before .before .before .before .before .part .given .1) in omega (arith, f .0, f .1)
 
-part-receive-kept-start : tie.Need-part-receive-kept-start
-part-receive-kept-start c = let f = heard-fits _ _ _ _ _ _ (c .before .before .before .before .before .before .before .before .before .before .handed .ensures) (c .before .before .before .before .before .before .before .before .part .given .1) in omega (arith, f .0, f .1)
+part-receive-start : tie.Need-part-receive-start
+part-receive-start c = let f = heard-fits _ _ _ _ _ _ (c .before .before .before .before .before .before .before .before .before .before .handed .ensures) (c .before .before .before .before .before .before .before .before .part .given .1) in omega (arith, f .0, f .1)
 
-part-receive-kept-end : tie.Need-part-receive-kept-end
-part-receive-kept-end c = let f = heard-fits _ _ _ _ _ _ (c .before .before .before .before .before .before .before .before .before .before .handed .ensures) (c .before .before .before .before .before .before .before .before .part .given .1) in omega (arith, f .0, f .1)
+part-receive-end : tie.Need-part-receive-end
+part-receive-end c = let f = heard-fits _ _ _ _ _ _ (c .before .before .before .before .before .before .before .before .before .before .handed .ensures) (c .before .before .before .before .before .before .before .before .part .given .1) in omega (arith, f .0, f .1)
 
-receive-kept-requires : tie.Need-receive-kept-requires
-receive-kept-requires c κs = tt
+receive-requires : tie.Need-receive-requires
+receive-requires c κs = tt
 
 same-length : tie.Need-same-length
 same-length c = refl
@@ -57,28 +57,28 @@ returns : tie.Need-returns
 returns c = still-is-call _ _ _ _ _ _ _ _ (c .before .before .before .before .before .before .before .before .before .before .before .before .before .before .before .before .handed .ensures) (c .before .before .before .before .before .before .before .before .before .before .before .before .before .before .enum-told .given .1) (c .before .before .before .before .before .before .still-call .ensures)
 
 same-length-8 : tie.Need-same-length-8
-same-length-8 c = c .before .before .before .before .before .before .before .before .before .before .before .before .before .before .receive-kept .kept .1 .0
+same-length-8 c = c .before .before .before .before .before .before .before .before .before .before .before .before .before .before .receive .kept .1 .1 .0
 
 same-length-9 : tie.Need-same-length-9
-same-length-9 c = c .before .before .before .before .before .before .before .before .before .before .before .before .before .before .receive-kept .kept .1 .1 .0
+same-length-9 c = c .before .before .before .before .before .before .before .before .before .before .before .before .before .before .receive .kept .1 .1 .1 .0
 
 same-length-10 : tie.Need-same-length-10
-same-length-10 c = c .before .before .before .before .before .before .before .before .before .before .before .before .before .before .receive-kept .kept .1 .1 .1 .0
+same-length-10 c = c .before .before .before .before .before .before .before .before .before .before .before .before .before .before .receive .kept .1 .1 .1 .1 .0
 
 same-length-11 : tie.Need-same-length-11
-same-length-11 c = c .before .before .before .before .before .before .before .before .before .before .before .before .before .before .receive-kept .kept .1 .1 .1 .1 .0
+same-length-11 c = c .before .before .before .before .before .before .before .before .before .before .before .before .before .before .receive .kept .1 .1 .1 .1 .1 .0
 
 same-length-12 : tie.Need-same-length-12
-same-length-12 c = c .before .before .before .before .before .before .before .before .before .before .before .before .before .before .receive-kept .kept .1 .1 .1 .1 .1 .0
+same-length-12 c = c .before .before .before .before .before .before .before .before .before .before .before .before .before .before .receive .kept .1 .1 .1 .1 .1 .1 .0
 
 same-length-13 : tie.Need-same-length-13
-same-length-13 c = c .before .before .before .before .before .before .before .before .before .before .before .before .before .before .receive-kept .kept .1 .1 .1 .1 .1 .1 .0
+same-length-13 c = c .before .before .before .before .before .before .before .before .before .before .before .before .before .before .receive .kept .1 .1 .1 .1 .1 .1 .1 .0
 
 same-length-14 : tie.Need-same-length-14
-same-length-14 c = c .before .before .before .before .before .before .before .before .before .before .before .before .before .before .receive-kept .kept .1 .1 .1 .1 .1 .1 .1 .0
+same-length-14 c = c .before .before .before .before .before .before .before .before .before .before .before .before .before .before .receive .kept .1 .1 .1 .1 .1 .1 .1 .1 .0
 
 returns-2 : tie.Need-returns-2
-returns-2 c = c .before .before .before .before .before .before .before .before .before .before .before .before .before .before .receive-kept .ensures ∙ heard-call _ _ _ _ _ _ _ _ _ _ (c .before .before .before .before .before .before .before .before .before .before .before .before .before .before .before .before .before .before .before .before .before .before .before .before .before .before .handed .ensures) (c .before .before .before .before .before .before .before .before .before .before .before .before .before .before .before .before .before .before .before .before .before .before .before .before .part .given .1)
+returns-2 c = c .before .before .before .before .before .before .before .before .before .before .before .before .before .before .receive .ensures ∙ heard-call _ _ _ _ _ _ _ _ _ _ (c .before .before .before .before .before .before .before .before .before .before .before .before .before .before .before .before .before .before .before .before .before .before .before .before .before .before .handed .ensures) (c .before .before .before .before .before .before .before .before .before .before .before .before .before .before .before .before .before .before .before .before .before .before .before .before .part .given .1)
 
 pub call-spec : {M : Type 1} → statement M
 call-spec =
@@ -88,11 +88,11 @@ call-spec =
     enum-told
     still-call-requires
     enum-known-part
-    cast-receive-kept
-    sub-receive-kept
-    part-receive-kept-start
-    part-receive-kept-end
-    receive-kept-requires
+    cast-receive
+    sub-receive
+    part-receive-start
+    part-receive-end
+    receive-requires
     same-length
     same-length-2
     same-length-3

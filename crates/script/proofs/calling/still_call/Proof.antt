@@ -10,20 +10,20 @@ enum-told c = search needs
 enum-known-doing : tie.Need-enum-known-doing
 enum-known-doing c = search needs
 
-cast-login-kept : tie.Need-cast-login-kept
-cast-login-kept c = search needs
+cast-login : tie.Need-cast-login
+cast-login c = search needs
 
-login-kept-requires : tie.Need-login-kept-requires
-login-kept-requires c κs = tt
+login-requires : tie.Need-login-requires
+login-requires c κs = tt
 
 enum-known-doing-2 : tie.Need-enum-known-doing-2
 enum-known-doing-2 c = search needs
 
-cast-lose-kept : tie.Need-cast-lose-kept
-cast-lose-kept c = search needs
+cast-lose : tie.Need-cast-lose
+cast-lose c = search needs
 
-lose-kept-requires : tie.Need-lose-kept-requires
-lose-kept-requires c κs = tt
+lose-requires : tie.Need-lose-requires
+lose-requires c κs = tt
 
 enum-told-2 : tie.Need-enum-told-2
 enum-told-2 c = search needs
@@ -31,11 +31,11 @@ enum-told-2 c = search needs
 enum-known-doing-3 : tie.Need-enum-known-doing-3
 enum-known-doing-3 c = search needs
 
-cast-request-kept : tie.Need-cast-request-kept
-cast-request-kept c = search needs
+cast-request : tie.Need-cast-request
+cast-request c = search needs
 
-request-kept-requires : tie.Need-request-kept-requires
-request-kept-requires c κs = tt
+request-requires : tie.Need-request-requires
+request-requires c κs = tt
 
 returns : tie.Need-returns
 unfolding stillOf
@@ -48,21 +48,21 @@ same-length-2 : tie.Need-same-length-2
 same-length-2 c = refl
 
 same-length-3 : tie.Need-same-length-3
-same-length-3 c = c .before .before .login-kept .kept .1 .1 .1 .1 .1 .1 .1 .0
+same-length-3 c = c .before .before .login .kept .1 .1 .1 .1 .1 .1 .1 .1 .0
 
 returns-2 : tie.Need-returns-2
 unfolding stillOf
-returns-2 c = rw (c .before .before .before .before .before .before .before .doing .given .1, ← c .before .before .login-kept .ensures)
+returns-2 c = rw (c .before .before .before .before .before .before .before .doing .given .1, ← c .before .before .login .ensures)
 
 same-length-4 : tie.Need-same-length-4
-same-length-4 c = c .before .before .before .before .lose-kept .kept .1 .1 .1 .1 .1 .0
+same-length-4 c = c .before .before .before .before .lose .kept .1 .1 .1 .1 .1 .1 .0
 
 same-length-5 : tie.Need-same-length-5
-same-length-5 c = c .before .before .before .before .lose-kept .kept .1 .1 .1 .1 .1 .1 .0
+same-length-5 c = c .before .before .before .before .lose .kept .1 .1 .1 .1 .1 .1 .1 .0
 
 returns-3 : tie.Need-returns-3
 unfolding stillOf
-returns-3 c = rw (c .before .before .before .before .before .before .before .before .doing2 .given .1, ← c .before .before .before .before .lose-kept .ensures)
+returns-3 c = rw (c .before .before .before .before .before .before .before .before .doing2 .given .1, ← c .before .before .before .before .lose .ensures)
 
 returns-4 : tie.Need-returns-4
 unfolding stillOf
@@ -75,11 +75,11 @@ same-length-7 : tie.Need-same-length-7
 same-length-7 c = refl
 
 same-length-8 : tie.Need-same-length-8
-same-length-8 c = c .before .before .request-kept .kept .1 .1 .1 .1 .1 .1 .1 .0
+same-length-8 c = c .before .before .request .kept .1 .1 .1 .1 .1 .1 .1 .1 .0
 
 returns-5 : tie.Need-returns-5
 unfolding stillOf
-returns-5 c = rw (c .before .before .before .before .before .before .before .doing3 .given .1, ← c .before .before .request-kept .ensures)
+returns-5 c = rw (c .before .before .before .before .before .before .before .doing3 .given .1, ← c .before .before .request .ensures)
 
 pub still-call-spec : {M : Type 1} → statement M
 still-call-spec =
@@ -87,15 +87,15 @@ still-call-spec =
     (tie.spec
     enum-told
     enum-known-doing
-    cast-login-kept
-    login-kept-requires
+    cast-login
+    login-requires
     enum-known-doing-2
-    cast-lose-kept
-    lose-kept-requires
+    cast-lose
+    lose-requires
     enum-told-2
     enum-known-doing-3
-    cast-request-kept
-    request-kept-requires
+    cast-request
+    request-requires
     returns
     same-length
     same-length-2

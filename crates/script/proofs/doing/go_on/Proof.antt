@@ -3,11 +3,11 @@ use Rattle.script.proofs.doing.go_on.Statement.{statement}
 use Rattle.script.proofs.doing.go_on.Tie as tie
 use Rattle.script.proofs.doing.go_on.Reads as reads
 use Rattle.script.proofs.doing.go_on.Lts as lts
-use Rattle.script.proofs.parts.rest.Reads as rest-reads
+use Rattle.input.proofs.parts.rest.Reads as rest-reads
 use native.Mathlib.Omega.{arith}
 use borrow.Author.Tests.{lt-ltb, le-ltb}
 use Rattle.script.specs.Doing.{goesOn}
-use Rattle.script.proofs.PartLaws.{rest-size}
+use Rattle.input.proofs.PartLaws.{rest-size}
 
 -- src/doing.rt:48:16
 rest-requires : tie.Need-rest-requires

@@ -2,12 +2,13 @@ use native.Mathlib.Omega.{arith}
 use mathlib.Core.Path.{sym}
 use lib.Seq.{length-take-le}
 use Rattle.server.specs.Calls.{onRequest, dueAs}
+use Rattle.sending.proofs.SendLaws.{due-fits}
 use borrow.Author.Needs.{needs}
 use Rattle.server.proofs.calls.on_request.Statement.{statement}
 use Rattle.server.proofs.calls.on_request.Tie as tie
 use Rattle.server.proofs.calls.on_request.Reads as reads
 use Rattle.server.proofs.calls.on_request.Lts as lts
-use Rattle.server.proofs.sending.due.Reads as due-reads
+use Rattle.sending.proofs.due.Reads as due-reads
 use Rattle.server.proofs.turns.with_link.Reads as with-link-reads
 
 enum-known-k : tie.Need-enum-known-k
@@ -32,7 +33,7 @@ slice-aggregate-due-2 : tie.Need-slice-aggregate-due-2
 slice-aggregate-due-2 c = sym (length-take-le _ (c .before .before .before .before .before .before .before .before .before .before .args .table .now) (c .before .before .before .before .before .before .before .before .before .before .pre _ (c .before .before .before .before .k2 .given .1) .records))
 
 due-requires : tie.Need-due-requires
-due-requires c κs = c .before .before .before .before .before .before .before .before .before .before .before .pre _ (c .before .before .before .before .before .k2 .given .1) .packet
+due-requires c κs = tt
 
 with-link-requires : tie.Need-with-link-requires
 with-link-requires c κs = omega (arith, c .before .before .before .before .before .before .before .before .before .before .before .before .before .before .before .pre _ (c .before .before .before .before .before .before .before .before .before .k2 .given .1) .session)
@@ -46,7 +47,13 @@ same-length c = c .before .before .before .out .given
 
 returns-2 : tie.Need-returns-2
 unfolding onRequest dueAs
-returns-2 c = rw (c .before .before .before .before .before .before .before .before .before .before .k2 .given .1, c .with-link .ensures, ← c .before .before .before .before .due .ensures)
+returns-2 c =
+    rw (
+      c .before .before .before .before .before .before .before .before .before .before .k2 .given .1,
+      c .with-link .ensures,
+      ← due-fits _ _ _ _ _ (c .before .before .before .before .before .before .before .before .before .before .before .before .before .before .before .before .pre _ (c .before .before .before .before .before .before .before .before .before .before .k2 .given .1) .packet),
+      ← c .before .before .before .before .due .ensures,
+    )
 
 pub on-request-spec : {M : Type 1} → statement M
 on-request-spec =
