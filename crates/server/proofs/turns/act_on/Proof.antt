@@ -38,10 +38,10 @@ add-e : tie.Need-add-e
 add-e c = search needs
 
 size-in-requires : tie.Need-size-in-requires
-size-in-requires c κs = search needs
+size-in-requires c κs = tt
 
 slice-reshare-prefix-decide : tie.Need-slice-reshare-prefix-decide
-slice-reshare-prefix-decide c = search needs
+slice-reshare-prefix-decide c = c .before .before .before .before .before .before .before .before .before .before .pre .records
 
 slice-aggregate-decide : tie.Need-slice-aggregate-decide
 slice-aggregate-decide c = let e = c .before .before .before .before .before .before .before .before .before .before .before in sym (length-take-le _ (e .args .table .now) (e .pre .records))
@@ -50,31 +50,31 @@ mul-decide : tie.Need-mul-decide
 mul-decide c = let e = c .before .before .before .before .before .before .before .before .before .before .before in omega (arith, mul-le-mul (e .pre .session) (e .pre .most))
 
 sub-decide : tie.Need-sub-decide
-sub-decide c = search needs
+sub-decide c = omega arith
 
 part-decide-start : tie.Need-part-decide-start
-part-decide-start c = search needs
+part-decide-start c = omega arith
 
 part-decide-end : tie.Need-part-decide-end
-part-decide-end c = search needs
+part-decide-end c = c .before .before .before .before .before .before .before .before .before .before .before .before .pre .selections
 
 decide-requires : tie.Need-decide-requires
-decide-requires c κs = search needs
+decide-requires c κs = tt
 
 slice-relend-prefix-carry-out : tie.Need-slice-relend-prefix-carry-out
-slice-relend-prefix-carry-out c = search needs
+slice-relend-prefix-carry-out c = c .before .before .before .before .before .before .before .before .before .before .before .before .before .before .before .pre .words
 
 slice-aggregate-carry-out : tie.Need-slice-aggregate-carry-out
 slice-aggregate-carry-out c = let e = c .before .before .before .before .before .before .before .before .before .before .before .before .before .before .before .before in sym (length-take-le _ (e .args .map .now) (e .pre .words))
 
 slice-relend-prefix-carry-out-2 : tie.Need-slice-relend-prefix-carry-out-2
-slice-relend-prefix-carry-out-2 c = search needs
+slice-relend-prefix-carry-out-2 c = c .before .before .before .before .before .before .before .before .before .before .before .before .before .before .before .before .pre .owners
 
 slice-aggregate-carry-out-2 : tie.Need-slice-aggregate-carry-out-2
 slice-aggregate-carry-out-2 c = let e = c .before .before .before .before .before .before .before .before .before .before .before .before .before .before .before .before .before in sym (length-take-le _ (e .args .owner .now) (e .pre .owners))
 
 slice-relend-prefix-carry-out-3 : tie.Need-slice-relend-prefix-carry-out-3
-slice-relend-prefix-carry-out-3 c = search needs
+slice-relend-prefix-carry-out-3 c = c .before .before .before .before .before .before .before .before .before .before .before .before .before .before .before .before .before .pre .records
 
 slice-aggregate-carry-out-3 : tie.Need-slice-aggregate-carry-out-3
 slice-aggregate-carry-out-3 c = let e = c .before .before .before .before .before .before .before .before .before .before .before .before .before .before .before .before .before .before in sym (length-take-le _ (e .args .table .now) (e .pre .records))
@@ -83,16 +83,16 @@ mul-carry-out : tie.Need-mul-carry-out
 mul-carry-out c = let e = c .before .before .before .before .before .before .before .before .before .before .before .before .before .before .before .before .before .before in omega (arith, mul-le-mul (e .pre .session) (e .pre .most))
 
 sub-carry-out : tie.Need-sub-carry-out
-sub-carry-out c = search needs
+sub-carry-out c = omega arith
 
 part-carry-out-start : tie.Need-part-carry-out-start
-part-carry-out-start c = search needs
+part-carry-out-start c = omega arith
 
 part-carry-out-end : tie.Need-part-carry-out-end
-part-carry-out-end c = search needs
+part-carry-out-end c = c .before .before .before .before .before .before .before .before .before .before .before .before .before .before .before .before .before .before .pre .selections
 
 carry-out-requires : tie.Need-carry-out-requires
-carry-out-requires c κs = search needs
+carry-out-requires c κs = tt
 
 same-length : tie.Need-same-length
 same-length c = c .before .before .before .before .before .before .before .before .before .disk .given
