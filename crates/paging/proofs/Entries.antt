@@ -3,13 +3,12 @@ use mathlib.Core.Path.{_≡_, refl, sym, ap, ap₂, _∙_, subst}
 use mathlib.Core.Bool.{Bool, true, false, cond}
 use mathlib.Core.List.{List, [], _∷_, _++_, map, List·Memᴰ, List·Memᴰ·head, List·Memᴰ·tail, List·Memᴰ·not-nil, List·Memᴰ·cases-cons}
 use mathlib.Core.Logic.{_⊎_, inl, inr, ⊎-elim}
-use Prim.Native.Nat.{ℕ, zero, suc, _+_, _≤_, _<_}
+use Prim.Native.Nat.{ℕ, zero, suc, _≤_, _<_}
 use native.Mathlib.Omega.{arith}
 use lib.Dec.{ltb}
-use lib.ListN.{getD, take, drop, take-append-drop}
+use lib.ListN.{length, take, drop, take-append-drop}
 use borrow.Author.Tests.{ltb-true, ltb-false}
-use Rattle.table.specs.Fit.{Distinct}
-use Rattle.paging.specs.Paging.{Entry, newestOf, Rises}
+use Rattle.paging.specs.Paging.{Entry, newestOf, Once, Rises}
 
 -- ---- members
 
@@ -50,8 +49,13 @@ in-either {A} x (y ∷ xs) ys m =
     (λ (k : List·Memᴰ x (xs ++ ys)). ⊎-elim (λ (a : List·Memᴰ x xs). inl (List·Memᴰ·tail a)) (λ (b : List·Memᴰ x ys). inr b) (in-either x xs ys k))
     (List·Memᴰ·cases-cons m)
 
-pub taken-in : (n : ℕ) (xs : List ℕ) (x : ℕ) → List·Memᴰ x (take n xs) → List·Memᴰ x xs
-taken-in n xs x m = subst (λ (l : List ℕ). List·Memᴰ x l) (take-append-drop n xs) (in-left x (take n xs) (drop n xs) m)
+pub taken-in : {A : Type 0} (n : ℕ) (xs : List A) (x : A) → List·Memᴰ x (take n xs) → List·Memᴰ x xs
+taken-in {A} n xs x m = subst (λ (l : List A). List·Memᴰ x l) (take-append-drop n xs) (in-left x (take n xs) (drop n xs) m)
+
+pub take-map : {A B : Type 0} (f : A → B) (n : ℕ) (xs : List A) → take n (map f xs) ≡ map f (take n xs)
+take-map f zero xs = refl
+take-map f (suc n) [] = refl
+take-map f (suc n) (x ∷ xs) = ap (λ l. f x ∷ l) (take-map f n xs)
 
 pub map-map : {A B C : Type 0} (f : B → C) (g : A → B) (xs : List A) → map f (map g xs) ≡ map (λ (x : A). f (g x)) xs
 map-map f g [] = refl
@@ -68,6 +72,40 @@ rises-above t (x ∷ es) r e m =
 pub rises-lower : (a b : ℕ) (es : List Entry) → a ≤ b → Rises b es → Rises a es
 rises-lower a b [] h r = tt
 rises-lower a b (e ∷ es) h r = (omega (arith, r .0), r .1)
+
+-- all are above t
+pub rises-from : (a t : ℕ) (es : List Entry) → Rises a es → ((e : Entry) → List·Memᴰ e es → t < e .time) → Rises t es
+rises-from a t [] r h = tt
+rises-from a t (e ∷ es) r h = (h e (List·Memᴰ·head refl), r .1)
+
+pub rises-take : (a n : ℕ) (es : List Entry) → Rises a es → Rises a (take n es)
+rises-take a zero es r = tt
+rises-take a (suc n) [] r = tt
+rises-take a (suc n) (e ∷ es) r = (r .0, rises-take (e .time) n es (r .1))
+
+-- one of them is among the first n, or these are n, and all older than it
+pub record Beyond (n : ℕ) (es : List Entry) (e : Entry) : Type 0 where
+  pub full : length (take n es) ≡ n
+  pub older : (f : Entry) → List·Memᴰ f (take n es) → f .time < e .time
+
+pub taken-or-beyond : (a n : ℕ) (es : List Entry) (e : Entry) → Rises a es → List·Memᴰ e es → List·Memᴰ e (take n es) ⊎ Beyond n es e
+taken-or-beyond a zero es e r m = inr (record { full = refl; older = λ f k. absurd (List·Memᴰ·not-nil k) })
+taken-or-beyond a (suc n) [] e r m = absurd (List·Memᴰ·not-nil m)
+taken-or-beyond a (suc n) (x ∷ es) e r m = go (List·Memᴰ·cases-cons m) (taken-or-beyond (x .time) n es e (r .1))
+  where
+    go : (e ≡ x) ⊎ List·Memᴰ e es → (List·Memᴰ e es → List·Memᴰ e (take n es) ⊎ Beyond n es e)
+        → List·Memᴰ e (x ∷ take n es) ⊎ Beyond (suc n) (x ∷ es) e
+    go (inl s) ih = inl (List·Memᴰ·head s)
+    go (inr k) ih =
+        ⊎-elim (λ (j : List·Memᴰ e (take n es)). inl (List·Memᴰ·tail j))
+        (λ (l : Beyond n es e).
+        inr (record {
+          full = ap suc (l .full);
+          older = λ f j.
+              ⊎-elim (λ (s : f ≡ x). let t = ap (λ (y : Entry). y .time) s in omega (arith, rises-above (x .time) es (r .1) e k)) (l .older f)
+              (List·Memᴰ·cases-cons j);
+        }))
+        (ih k)
 
 -- what was given, and then a page above all of it
 pub rises-append : (a t : ℕ) (xs ys : List Entry) → a ≤ t → Rises a xs → ((e : Entry) → List·Memᴰ e xs → e .time ≤ t) → Rises t ys
@@ -154,34 +192,20 @@ newest-is t (x ∷ es) = go (newest-is (later t x) es) (later-is t x .either)
 
 -- ---- no number twice
 
-abbrev pub numbersIn : List Entry → List ℕ
-numbersIn es = map (λ (e : Entry). e .number) es
-
-record Nth (es : List Entry) (n : ℕ) : Type 0 where
-  entry : Entry
-  inside : List·Memᴰ entry es
-  number : entry .number ≡ n
-
-nth : (es : List Entry) (k : ℕ) → (getD (numbersIn es) k 0 ≡ 0 → ⊥) → Nth es (getD (numbersIn es) k 0)
-nth [] k z = absurd (z refl)
-nth (e ∷ es) zero z = record { entry = e; inside = List·Memᴰ·head refl; number = refl }
-nth (e ∷ es) (suc k) z = let r = nth es k z in record { entry = r .entry; inside = List·Memᴰ·tail (r .inside); number = r .number }
-
 -- with rising times, where equal numbers have equal times
 pub rises-once : (t : ℕ) (es : List Entry) → Rises t es
-    → ((e f : Entry) → List·Memᴰ e es → List·Memᴰ f es → e .number ≡ f .number → e .time ≡ f .time) → Distinct (numbersIn es)
-rises-once t [] r same p q z e = absurd (z refl)
-rises-once t (x ∷ es) r same p q z e = go p q z e (rises-once (x .time) es (r .1) (λ a b m n. same a b (List·Memᴰ·tail m) (List·Memᴰ·tail n)))
-  where
-    apart : (k : ℕ) → (x .number ≡ 0 → ⊥) → x .number ≡ getD (numbersIn es) k 0 → ⊥
-    apart k z e =
-        let n = nth es k (λ y. z (e ∙ y)) in
-        let s = same x (n .entry) (List·Memᴰ·head refl) (List·Memᴰ·tail (n .inside)) (e ∙ sym (n .number)) in
-        omega (arith, rises-above (x .time) es (r .1) (n .entry) (n .inside))
+    → ((e f : Entry) → List·Memᴰ e es → List·Memᴰ f es → e .number ≡ f .number → e .time ≡ f .time) → Once es
+rises-once t [] r same = tt
+rises-once t (x ∷ es) r same = (
+  λ f m n. let s = same x f (List·Memᴰ·head refl) (List·Memᴰ·tail m) n in omega (arith, rises-above (x .time) es (r .1) f m),
+  rises-once (x .time) es (r .1) (λ a b m n. same a b (List·Memᴰ·tail m) (List·Memᴰ·tail n)),
+)
 
-    go : (p q : ℕ) → (getD (numbersIn (x ∷ es)) p 0 ≡ 0 → ⊥) → getD (numbersIn (x ∷ es)) p 0 ≡ getD (numbersIn (x ∷ es)) q 0
-        → Distinct (numbersIn es) → p ≡ q
-    go zero zero z e ih = refl
-    go zero (suc k) z e ih = absurd (apart k z e)
-    go (suc k) zero z e ih = absurd (apart k (λ y. z (e ∙ y)) (sym e))
-    go (suc j) (suc k) z e ih = ap suc (ih j k z e)
+pub once-append : (xs ys : List Entry) → Once xs → Once ys
+    → ((e f : Entry) → List·Memᴰ e xs → List·Memᴰ f ys → e .number ≡ f .number → ⊥) → Once (xs ++ ys)
+once-append [] ys a b h = b
+once-append (x ∷ xs) ys a b h = (
+  λ f m n.
+      ⊎-elim (λ (k : List·Memᴰ f xs). a .0 f k n) (λ (k : List·Memᴰ f ys). h x f (List·Memᴰ·head refl) k n) (in-either f xs ys m),
+  once-append xs ys (a .1) b (λ e f m k. h e f (List·Memᴰ·tail m) k),
+)

@@ -1,4 +1,4 @@
 pub mod Examples
 pub mod Client
 pub mod Paging
-pub mod Worked
+pub mod Pieces

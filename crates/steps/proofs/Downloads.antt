@@ -31,7 +31,7 @@ use Rattle.steps.proofs.Own.{own-file}
 clash : {A : Type 0} → false ≡ true → A
 clash e = let z : _≡_ {A = ℕ} 0 1 = cc in absurd (omega arith)
 
-by-lt : {P : Type 0} (a b : ℕ) → (a < b → P) → (b ≤ a → P) → P
+pub by-lt : {P : Type 0} (a b : ℕ) → (a < b → P) → (b ≤ a → P) → P
 by-lt {P} a b f g = go (ltb a b) refl
   where
     go : (t : Bool) → ltb a b ≡ t → P
@@ -119,7 +119,7 @@ zero-stays m (request session out) e = none-moves _ m out _ (zero-refused m sess
 zero-stays m (lose session) e = none-moves _ m [] _ (zero-refused m session true 258 e)
 
 -- a call of an open session is refused by 32 alone
-open-refusal : (m : Model) (session room : ℕ) → 1 ≤ session → session - 1 < length (m .sessions) → sessionAt m (session - 1) .linked ≡ true
+pub open-refusal : (m : Model) (session room : ℕ) → 1 ≤ session → session - 1 < length (m .sessions) → sessionAt m (session - 1) .linked ≡ true
     → refusal m session true room ≡ cond (ltb room 258) 32 0
 unfolding refusal
 open-refusal m session room one there linked =
@@ -129,9 +129,19 @@ short-step : (n : ℕ) (m : Model) (out : List ℕ) (s : Stepped) → n ≡ 32 �
 unfolding unless
 short-step n m out s e = rw e
 
-goes : (n : ℕ) (m : Model) (out : List ℕ) (s : Stepped) → n ≡ 0 → unless n m out s ≡ s
+pub goes : (n : ℕ) (m : Model) (out : List ℕ) (s : Stepped) → n ≡ 0 → unless n m out s ≡ s
 unfolding unless
 goes n m out s e = rw e
+
+-- a call for another session leaves this one as it was
+pub others-leave : (session : ℕ) → 1 ≤ session → (m : Model) (c : Call) → (sessionIn c ≡ session → ⊥)
+    → sessionAt (step m c .after) (session - 1) ≡ sessionAt m (session - 1)
+others-leave session one m c z = by-zero (eqb (sessionIn c) 0) refl
+  where
+    by-zero : (b : Bool) → eqb (sessionIn c) 0 ≡ b → sessionAt (step m c .after) (session - 1) ≡ sessionAt m (session - 1)
+    by-zero true e = ap (λ (x : Model). sessionAt x (session - 1)) (zero-stays m c (eqb-true (sessionIn c) 0 e))
+    by-zero false e =
+        own-session m c (session - 1) (λ q. z (let y : sessionIn c ≡ session = omega (arith, eqb-false (sessionIn c) 0 e) in y))
 
 -- ---- a session that is being sent the file f, of number n
 
@@ -199,16 +209,6 @@ module _ (session : ℕ) (one : 1 ≤ session) (n : ℕ) (f : File) where
   over-there m e = there m (ended n) e (λ z. let y : _≡_ {A = ℕ} 0 1 = cc in omega arith)
 
   -- ---- calls for other sessions
-
-  away : (m : Model) (c : Call) → (sessionIn c ≡ session → ⊥) → sessionAt (step m c .after) i ≡ sessionAt m i
-  away m c z =
-      by-zero (eqb (sessionIn c) 0) refl
-    where
-      by-zero : (b : Bool) → eqb (sessionIn c) 0 ≡ b → sessionAt (step m c .after) i ≡ sessionAt m i
-      by-zero true e = ap (λ (x : Model). sessionAt x i) (zero-stays m c (eqb-true (sessionIn c) 0 e))
-      by-zero false e =
-          own-session m c i
-          (λ q. z (let y : sessionIn c ≡ session = omega (arith, eqb-false (sessionIn c) 0 e) in y))
 
   other-sent : (m : Model) (c : Call) → eqb (sessionIn c) session ≡ false → sentTo m session c ≡ []
   unfolding sentTo
@@ -344,7 +344,7 @@ module _ (session : ℕ) (one : 1 ≤ session) (n : ℕ) (f : File) where
       go true q =
           let e = eqb-true (sessionIn c) session q in by-request (λ (x : Call). Turn m x at) (λ out. own-turn m at a out) c e (g e)
       go false q =
-          let w = away m c (eqb-false (sessionIn c) session q) in
+          let w = others-leave session one m c (eqb-false (sessionIn c) session q) in
           silent (other-sent m c q) (ap (λ (b : Bool). cond b (asksIn c) 0) q)
           (has m c at at a (ap (λ (x : Session). x .linked) w ∙ a .linked) (ap (λ (x : Session). x .down) w ∙ a .down))
 
@@ -355,7 +355,7 @@ module _ (session : ℕ) (one : 1 ≤ session) (n : ℕ) (f : File) where
       go true q =
           let e = eqb-true (sessionIn c) session q in by-request (λ (x : Call). Rests m x) (λ out. own-rest m out a) c e (g e)
       go false q =
-          let w = away m c (eqb-false (sessionIn c) session q) in
+          let w = others-leave session one m c (eqb-false (sessionIn c) session q) in
           record {
             none = other-sent m c q;
             over = record { linked = ap (λ (x : Session). x .linked) w ∙ a .linked; down = ap (λ (x : Session). x .down) w ∙ a .down };
