@@ -7,3 +7,4 @@ pub mod Clock
 pub mod Known
 pub mod Page
 pub mod Paging
+pub mod Pieces

@@ -370,6 +370,12 @@ module _ (blocks places sessions maxsel : ℕ) (eq : List ℕ) (valid : validity
       let j = in-map entryOf e (oldestFirst eq (stateOf m₀ eq c)) i in
       client-all c a k f e (subst (Matches (stateOf m₀ eq c) eq) (sym (j .same)) (stands-of (stateOf m₀ eq c) K eq (j .of) (j .inside) .matches)))
 
+-- the newest time that a client knows is a 32-bit number
+pub newest-small : (blocks places sessions maxsel : ℕ) (eq : List ℕ) → validityOf eq ≡ 0 → (c : Client) → Allowed (empty blocks places sessions maxsel) eq c
+    → Clocks (pagedBy (empty blocks places sessions maxsel) eq c .history) → pagedBy (empty blocks places sessions maxsel) eq c .newest < 4294967296
+newest-small blocks places sessions maxsel eq valid c a k =
+    omega (arith, client-inv blocks places sessions maxsel eq valid c a k .low, known blocks places sessions maxsel (pagedBy (empty blocks places sessions maxsel) eq c .history) k .small)
+
 -- ---- THE THEOREMS
 
 pub page-answered : PageAnswer
