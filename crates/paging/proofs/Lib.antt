@@ -8,3 +8,4 @@ pub mod Known
 pub mod Page
 pub mod Paging
 pub mod Pieces
+pub mod Worked

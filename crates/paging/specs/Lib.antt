@@ -2,3 +2,4 @@ pub mod Examples
 pub mod Client
 pub mod Paging
 pub mod Pieces
+pub mod Worked
