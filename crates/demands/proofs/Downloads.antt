@@ -18,7 +18,7 @@ use Rattle.history.specs.Stored.{filesOf}
 use Rattle.history.proofs.Histories.{good-after}
 use Rattle.model.specs.State.{File, sending, Model, sessionAt}
 use Rattle.model.specs.Files.{find}
-use Rattle.model.specs.Step.{step}
+use Rattle.model.specs.Step.{step, run}
 use Rattle.steps.specs.Sound.{Sound}
 use Rattle.steps.specs.Naming.{Complete, DownOk, Named}
 use Rattle.steps.specs.Downloads.{numberAsked, Begins}
@@ -29,7 +29,6 @@ use Rattle.steps.proofs.Downloads.{download-brings}
 use Rattle.steps.proofs.Begins.{download-begins}
 use Rattle.views.specs.View.{fileOf, fileIn}
 use Rattle.views.proofs.Views.{find-view}
-use Rattle.refines.specs.Refines.{run}
 use Rattle.refines.proofs.Refining.{every-history}
 use Rattle.demands.specs.Accepted.{accepted}
 use Rattle.demands.specs.Demand3.{serverAt, lentAt}

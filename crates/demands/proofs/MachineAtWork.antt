@@ -10,9 +10,8 @@ use Rattle.session.specs.Reply.{Told, told}
 use Rattle.history.specs.Calls.{Call, callOf, History, _▸_}
 use Rattle.history.proofs.Histories.{good-after}
 use Rattle.model.specs.State.{Model, empty}
-use Rattle.model.specs.Step.{step}
+use Rattle.model.specs.Step.{step, run}
 use Rattle.cases.specs.Computing.{computing}
-use Rattle.refines.specs.Refines.{run}
 use Rattle.demands.specs.Demand3.{serverAt, lentAt}
 use Rattle.demands.proofs.Demand2.{demand-2}
 use Rattle.demands.proofs.Example.{small, small-legal, output, rx, upload, dataEnd, shortUpload, largeUpload, nextFile, titleAboveM, size80, otherLength}

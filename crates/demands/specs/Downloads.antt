@@ -18,9 +18,8 @@ use Rattle.server.specs.State.{Lent, outcome, doneWith, linkOf}
 use Rattle.history.specs.Calls.{Call, receive, request, callOf, Start, legal, History}
 use Rattle.model.specs.State.{File, Model, empty, sessionAt}
 use Rattle.model.specs.Files.{find}
-use Rattle.model.specs.Step.{endsIn, step}
+use Rattle.model.specs.Step.{endsIn, step, run}
 use Rattle.steps.specs.Downloads.{requestsAndUplink, dataTo, endTo, Downloading, numberAsked}
-use Rattle.refines.specs.Refines.{run}
 use Rattle.demands.specs.Parts.{checkIn}
 use Rattle.demands.specs.Accepted.{accepted}
 

@@ -9,7 +9,7 @@ use Rattle.server.specs.State.{Lent, lent, Outcome, outcome}
 use Rattle.server.specs.Check.{fits}
 use Rattle.server.specs.Making.{newServer, Makes, makeOf}
 use Rattle.server.specs.Calls.{loginOf, receiveOf, requestOf, loseOf}
-pub use Rattle.calls.specs.Call.{Call, login, receive, request, lose}
+pub use Rattle.calls.specs.Call.{Call, login, receive, request, lose, History, start, _▸_}
 
 -- ---- a call
 
@@ -61,12 +61,7 @@ made s =
     (lent (s .lent .disk) (making s .lent .map) (making s .lent .owner) (making s .lent .table) (making s .lent .selected)
     (making s .lent .held))
 
--- "after any calls": `h ▸ c` is the history h and then the call c
-infixl 20 _▸_
-pub data History : Type 0 where
-  start : History
-  _▸_ : History → Call → History
-
+-- "after any calls"
 unfoldable pub after : Start → History → State
 after s start = made s
 after s (h ▸ c) = next (after s h) c

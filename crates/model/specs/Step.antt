@@ -6,7 +6,7 @@ use mathlib.Core.Option.{Option, none, some}
 use Prim.Native.Nat.{ℕ, _+_, _-_}
 use lib.Dec.{eqb, ltb}
 use lib.ListN.{length}
-use Rattle.calls.specs.Call.{Call, login, receive, request, lose}
+use Rattle.calls.specs.Call.{Call, login, receive, request, lose, History, start, _▸_}
 use Rattle.packet.specs.Frame.{Event, packet, too-long, announcedIn, packetIn}
 use Rattle.session.specs.declared.reply.Reply.the-variants as reply
 use Rattle.session.specs.declared.reply.Answer.the-variants as answer
@@ -95,3 +95,8 @@ step m (request session out) =
     unless (refusal m session true (length out)) m out (onRequest (sessionAt m (session - 1) .down) m (session - 1) out)
 step m (lose session) =
     unless (refusal m session true 258) m [] (stepped (tell reply.Nothing 0 []) (lost m (session - 1)))
+
+-- the machine after calls
+unfoldable pub run : Model → History → Model
+run m start = m
+run m (h ▸ c) = step (run m h) c .after

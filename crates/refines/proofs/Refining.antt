@@ -16,9 +16,9 @@ use Rattle.history.specs.Calls.{start, _▸_, Start, legal, after, made}
 use Rattle.history.proofs.Histories.{good-after}
 use Rattle.model.specs.State as model
 use Rattle.model.specs.State.{Model, empty}
-use Rattle.model.specs.Step.{step}
+use Rattle.model.specs.Step.{step, run}
 use Rattle.views.specs.View.{listed, each, sessionFrom, sessionOf, view}
-use Rattle.refines.specs.Refines.{EveryCall, run, EveryHistory}
+use Rattle.refines.specs.Refines.{EveryCall, EveryHistory}
 use Rattle.refines.proofs.Plain.{login-refines, lose-refines}
 use Rattle.refines.proofs.Requests.{request-refines}
 use Rattle.refines.proofs.Receiving.{receive-refines}

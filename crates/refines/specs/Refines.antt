@@ -5,9 +5,9 @@ use Rattle.session.specs.Reply.{told}
 use Rattle.server.specs.declared.Server.{Server}
 use Rattle.server.specs.State.{Lent}
 use Rattle.history.specs.Good.{Good}
-use Rattle.history.specs.Calls.{Call, callOf, Start, legal, History, start, _▸_, after}
-use Rattle.model.specs.State.{Model, empty}
-use Rattle.model.specs.Step.{step}
+use Rattle.history.specs.Calls.{Call, callOf, Start, legal, History, after}
+use Rattle.model.specs.State.{empty}
+use Rattle.model.specs.Step.{step, run}
 use Rattle.views.specs.View.{view}
 
 -- a call answers, sends and leaves what the machine does
@@ -17,11 +17,6 @@ pub record Refines (sv : Server) (l : Lent) (c : Call) : Type 0 where
 
 abbrev pub EveryCall : Type 0
 EveryCall = (sv : Server) (l : Lent) → Good sv l → (c : Call) → Refines sv l c
-
--- the machine after calls
-unfoldable pub run : Model → History → Model
-run m start = m
-run m (h ▸ c) = step (run m h) c .after
 
 -- after any calls from an empty store, the state stands for the machine after the same calls from its empty store
 abbrev pub EveryHistory : Type 0
