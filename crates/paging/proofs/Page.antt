@@ -27,7 +27,8 @@ use Rattle.model.specs.Files.{matching, byTime, selection}
 use Rattle.model.specs.Downlink.{onSelectCmd}
 use Rattle.model.specs.Step.{ifNoDownload, byType, onPacket, endsIn, onEvent, refusal, step}
 use Rattle.steps.proofs.Cutting.{link-held}
-use Rattle.steps.proofs.Downloads.{by-lt, open-refusal, goes}
+use Rattle.steps.proofs.Uplink.{open-refusal, goes}
+use Rattle.steps.proofs.Downloads.{by-lt}
 use Rattle.paging.specs.Client.{Idle, Asks, above, pageOf, numbersOf, Answers}
 use Rattle.paging.proofs.Bytes.{at-most-a-mark, narrowed-size}
 use Rattle.paging.proofs.Files.{in-find, above-by-time, matching-above}

@@ -18,7 +18,8 @@ use Rattle.model.specs.State.{Session, withHeld, Model, empty, sessionAt, inSes
 use Rattle.model.specs.Step.{endsIn, onEvent, refusal, step, run}
 use Rattle.steps.specs.Parts.{sessionIn, bytesIn}
 use Rattle.steps.proofs.Cutting.{link-held}
-use Rattle.steps.proofs.Downloads.{open-refusal, goes, others-leave}
+use Rattle.steps.proofs.Uplink.{open-refusal, goes}
+use Rattle.steps.proofs.Downloads.{others-leave}
 use Rattle.paging.specs.Client.{Idle, Asks}
 use Rattle.paging.specs.Paging.{Client, waits, asks, pagedBy, stateOf, Allowed, Clocks}
 use Rattle.paging.specs.Pieces.{isPiece, piecesOnly, handed, waitsFor, AsksWith, InPieces}

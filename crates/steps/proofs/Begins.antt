@@ -23,7 +23,7 @@ use Rattle.model.specs.Downlink.{destinationsIn, downloadOf, downloadNumbered, 
 use Rattle.model.specs.Step.{ifNoDownload, byType, onPacket, endsIn, onEvent, refusal, unless, step}
 use Rattle.steps.specs.Downloads.{Downloading, numberAsked, Begins, DownloadBegins}
 use Rattle.steps.proofs.Cutting.{link-held}
-use Rattle.steps.proofs.Downloads.{goes}
+use Rattle.steps.proofs.Uplink.{goes}
 
 -- no other reply is silent
 pub quiet-nothing : (r : Reply) (taken n : ℕ) (out : List ℕ) → tell r taken out .answer ≡ answer.Quiet n → r ≡ reply.Nothing
