@@ -13,9 +13,8 @@ use Rattle.paging.specs.Paging.{Entry, newestOf, Once, Rises}
 -- ---- members
 
 pub map-in : {A B : Type 0} (f : A → B) (x : A) (xs : List A) → List·Memᴰ x xs → List·Memᴰ (f x) (map f xs)
-map-in f x [] m = absurd (List·Memᴰ·not-nil m)
-map-in f x (y ∷ xs) m =
-    ⊎-elim (λ (e : x ≡ y). List·Memᴰ·head (ap f e)) (λ (k : List·Memᴰ x xs). List·Memᴰ·tail (map-in f x xs k)) (List·Memᴰ·cases-cons m)
+map-in f x (y ∷ xs) (List·Memᴰ·head e) = List·Memᴰ·head (ap f e)
+map-in f x (y ∷ xs) (List·Memᴰ·tail m) = List·Memᴰ·tail (map-in f x xs m)
 
 pub record From {A B : Type 0} (f : A → B) (xs : List A) (y : B) : Type 0 where
   pub of : A
@@ -24,19 +23,16 @@ pub record From {A B : Type 0} (f : A → B) (xs : List A) (y : B) : Type 0 wher
 
 pub in-map : {A B : Type 0} (f : A → B) (y : B) (xs : List A) → List·Memᴰ y (map f xs) → From f xs y
 in-map f y [] m = absurd (List·Memᴰ·not-nil m)
-in-map {A} {B} f y (x ∷ xs) m =
-    ⊎-elim (λ (e : y ≡ f x). record { of = x; inside = List·Memᴰ·head refl; same = e })
-    (λ (k : List·Memᴰ y (map f xs)). let r = in-map f y xs k in record { of = r .of; inside = List·Memᴰ·tail (r .inside); same = r .same })
-    (List·Memᴰ·cases-cons m)
+in-map f y (x ∷ xs) (List·Memᴰ·head e) = record { of = x; inside = List·Memᴰ·head refl; same = e }
+in-map f y (x ∷ xs) (List·Memᴰ·tail m) = let r = in-map f y xs m in record { of = r .of; inside = List·Memᴰ·tail (r .inside); same = r .same }
 
 pub map-same : {A B : Type 0} (f g : A → B) (xs : List A) → ((x : A) → List·Memᴰ x xs → f x ≡ g x) → map f xs ≡ map g xs
 map-same f g [] h = refl
 map-same f g (x ∷ xs) h = ap₂ _∷_ (h x (List·Memᴰ·head refl)) (map-same f g xs (λ y m. h y (List·Memᴰ·tail m)))
 
 pub in-left : {A : Type 0} (x : A) (xs ys : List A) → List·Memᴰ x xs → List·Memᴰ x (xs ++ ys)
-in-left x [] ys m = absurd (List·Memᴰ·not-nil m)
-in-left {A} x (y ∷ xs) ys m =
-    ⊎-elim (λ (e : x ≡ y). List·Memᴰ·head e) (λ (k : List·Memᴰ x xs). List·Memᴰ·tail (in-left x xs ys k)) (List·Memᴰ·cases-cons m)
+in-left x (y ∷ xs) ys (List·Memᴰ·head e) = List·Memᴰ·head e
+in-left x (y ∷ xs) ys (List·Memᴰ·tail m) = List·Memᴰ·tail (in-left x xs ys m)
 
 pub in-right : {A : Type 0} (x : A) (xs ys : List A) → List·Memᴰ x ys → List·Memᴰ x (xs ++ ys)
 in-right x [] ys m = m
@@ -44,10 +40,9 @@ in-right x (y ∷ xs) ys m = List·Memᴰ·tail (in-right x xs ys m)
 
 pub in-either : {A : Type 0} (x : A) (xs ys : List A) → List·Memᴰ x (xs ++ ys) → List·Memᴰ x xs ⊎ List·Memᴰ x ys
 in-either x [] ys m = inr m
-in-either {A} x (y ∷ xs) ys m =
-    ⊎-elim (λ (e : x ≡ y). inl (List·Memᴰ·head e))
-    (λ (k : List·Memᴰ x (xs ++ ys)). ⊎-elim (λ (a : List·Memᴰ x xs). inl (List·Memᴰ·tail a)) (λ (b : List·Memᴰ x ys). inr b) (in-either x xs ys k))
-    (List·Memᴰ·cases-cons m)
+in-either x (y ∷ xs) ys (List·Memᴰ·head e) = inl (List·Memᴰ·head e)
+in-either {A} x (y ∷ xs) ys (List·Memᴰ·tail m) =
+    ⊎-elim (λ (a : List·Memᴰ x xs). inl (List·Memᴰ·tail a)) (λ (b : List·Memᴰ x ys). inr b) (in-either x xs ys m)
 
 pub taken-in : {A : Type 0} (n : ℕ) (xs : List A) (x : A) → List·Memᴰ x (take n xs) → List·Memᴰ x xs
 taken-in {A} n xs x m = subst (λ (l : List A). List·Memᴰ x l) (take-append-drop n xs) (in-left x (take n xs) (drop n xs) m)
@@ -64,10 +59,8 @@ map-map f g (x ∷ xs) = ap (λ l. f (g x) ∷ l) (map-map f g xs)
 -- ---- times that rise
 
 pub rises-above : (t : ℕ) (es : List Entry) → Rises t es → (e : Entry) → List·Memᴰ e es → t < e .time
-rises-above t [] r e m = absurd (List·Memᴰ·not-nil m)
-rises-above t (x ∷ es) r e m =
-    ⊎-elim (λ (s : e ≡ x). let a = ap (λ (y : Entry). y .time) s in omega (arith, r .0))
-    (λ (k : List·Memᴰ e es). omega (arith, r .0, rises-above (x .time) es (r .1) e k)) (List·Memᴰ·cases-cons m)
+rises-above t (x ∷ es) r e (List·Memᴰ·head s) = subst (λ (y : Entry). t < y .time) (sym s) (r .0)
+rises-above t (x ∷ es) r e (List·Memᴰ·tail m) = omega (arith, r .0, rises-above (x .time) es (r .1) e m)
 
 pub rises-lower : (a b : ℕ) (es : List Entry) → a ≤ b → Rises b es → Rises a es
 rises-lower a b [] h r = tt
@@ -90,22 +83,16 @@ pub record Beyond (n : ℕ) (es : List Entry) (e : Entry) : Type 0 where
 
 pub taken-or-beyond : (a n : ℕ) (es : List Entry) (e : Entry) → Rises a es → List·Memᴰ e es → List·Memᴰ e (take n es) ⊎ Beyond n es e
 taken-or-beyond a zero es e r m = inr (record { full = refl; older = λ f k. absurd (List·Memᴰ·not-nil k) })
-taken-or-beyond a (suc n) [] e r m = absurd (List·Memᴰ·not-nil m)
-taken-or-beyond a (suc n) (x ∷ es) e r m = go (List·Memᴰ·cases-cons m) (taken-or-beyond (x .time) n es e (r .1))
+taken-or-beyond a (suc n) (x ∷ es) e r (List·Memᴰ·head s) = inl (List·Memᴰ·head s)
+taken-or-beyond a (suc n) (x ∷ es) e r (List·Memᴰ·tail m) = go (taken-or-beyond (x .time) n es e (r .1) m)
   where
-    go : (e ≡ x) ⊎ List·Memᴰ e es → (List·Memᴰ e es → List·Memᴰ e (take n es) ⊎ Beyond n es e)
-        → List·Memᴰ e (x ∷ take n es) ⊎ Beyond (suc n) (x ∷ es) e
-    go (inl s) ih = inl (List·Memᴰ·head s)
-    go (inr k) ih =
-        ⊎-elim (λ (j : List·Memᴰ e (take n es)). inl (List·Memᴰ·tail j))
-        (λ (l : Beyond n es e).
-        inr (record {
-          full = ap suc (l .full);
-          older = λ f j.
-              ⊎-elim (λ (s : f ≡ x). let t = ap (λ (y : Entry). y .time) s in omega (arith, rises-above (x .time) es (r .1) e k)) (l .older f)
-              (List·Memᴰ·cases-cons j);
-        }))
-        (ih k)
+    go : List·Memᴰ e (take n es) ⊎ Beyond n es e → List·Memᴰ e (x ∷ take n es) ⊎ Beyond (suc n) (x ∷ es) e
+    go (inl j) = inl (List·Memᴰ·tail j)
+    go (inr l) = inr (record { full = ap suc (l .full); older = older })
+      where
+        older : (f : Entry) → List·Memᴰ f (x ∷ take n es) → f .time < e .time
+        older f (List·Memᴰ·head s) = subst (λ (y : Entry). y .time < e .time) (sym s) (rises-above (x .time) es (r .1) e m)
+        older f (List·Memᴰ·tail j) = l .older f j
 
 -- what was given, and then a page above all of it
 pub rises-append : (a t : ℕ) (xs ys : List Entry) → a ≤ t → Rises a xs → ((e : Entry) → List·Memᴰ e xs → e .time ≤ t) → Rises t ys

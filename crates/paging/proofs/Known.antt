@@ -8,27 +8,28 @@ use mathlib.Core.Option.{none, some}
 use Prim.Native.Nat.{ℕ, _+_, _-_, _≤_, _<_}
 use native.Mathlib.Omega.{arith}
 use lib.Dec.{eqb}
-use borrow.Author.Tests.{eq-eqb, ne-eqb, eqb-true}
+use borrow.Author.Tests.{eq-eqb}
 use Rattle.numbers.specs.Numbers.{four}
 use Rattle.header.specs.Items.{fieldsOf}
 use Rattle.header.proofs.Set.{verdict-parts}
 use Rattle.equation.specs.Holds.{bytesOf}
 use Rattle.calls.specs.Call.{Call, History, start, _▸_}
-use Rattle.model.specs.State.{File, file, Uplink, noUpload, receiving, ignoring, Model, empty, sessionAt}
+use Rattle.model.specs.State.{File, file, receiving, Model, empty, sessionAt}
 use Rattle.model.specs.Files.{find, changed, without}
 use Rattle.model.specs.Uplink.{grown, completed}
 use Rattle.model.specs.Step.{step, run}
+use Rattle.model.proofs.Order.{find-in}
 use Rattle.steps.specs.Parts.{sessionIn}
 use Rattle.steps.specs.Change.{Leaves, Change, same, begins, grows, completes, drops}
 use Rattle.steps.specs.Sound.{Sound}
-use Rattle.steps.specs.Naming.{Partial, Complete, UpOk, Named}
+use Rattle.steps.specs.Naming.{Partial, UpOk, Named}
 use Rattle.steps.proofs.Changes.{one-change, sound-step}
 use Rattle.steps.proofs.Naming.{by-eq, find-changed, find-without, not-both, named-step}
 use Rattle.steps.proofs.Own.{find-away, own-file}
 use Rattle.steps.proofs.Start.{sound-empty, named-empty}
 use Rattle.paging.specs.Paging.{Clocked, Clocks}
 use Rattle.paging.proofs.Stamp.{stamped}
-use Rattle.paging.proofs.Files.{find-in, numbers-in}
+use Rattle.paging.proofs.Files.{numbers-in}
 use Rattle.paging.proofs.Clock.{step-small}
 
 clash : {P : Type 0} {f : File} → none ≡ some f → P
@@ -82,7 +83,8 @@ module _ (m : Model) (i : ℕ) (m′ : Model) (named : Named m) where
         by-eq n k
         (λ z. g z
         (let a = find-changed n k h (m .files) (partial k o .file) u (ap (λ (q : ℕ). find q (m .files)) z ∙ partial k o .found) in
-        let b : some f ≡ some (h (partial k o .file)) = sym e ∙ a ∙ ap (λ (t : Bool). some (cond t (h (partial k o .file)) (partial k o .file))) (eq-eqb n k z) in
+        let b : some f ≡ some (h (partial k o .file)) =
+        sym e ∙ a ∙ ap (λ (t : Bool). some (cond t (h (partial k o .file)) (partial k o .file))) (eq-eqb n k z) in
         cc))
         (λ z. inl (sym (find-away n k h (m .files) u z) ∙ e))
 
@@ -164,7 +166,9 @@ module _ (m : Model) (k : Known m) (c : Call) where
   -- THEOREM: a complete file stays as it is
   pub complete-kept : (n : ℕ) (f : File) → find n (m .files) ≡ some f → (f .time ≡ 0 → ⊥) → find n (m′ .files) ≡ some f
   complete-kept n f e z =
-      own-file m c n (λ o. not-both n (m .files) (partial m i m′ (k .named) n o) (record { file = f; found = e; time = z })) (found-low m (k .sound) n f e .0) ∙ e
+      own-file m c n (λ o. not-both n (m .files) (partial m i m′ (k .named) n o) (record { file = f; found = e; time = z }))
+      (found-low m (k .sound) n f e .0)
+      ∙ e
 
   pub step-known : Clocked c → Known (step m c .after)
   step-known h =

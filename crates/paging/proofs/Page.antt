@@ -1,5 +1,5 @@
 -- The answer to a call that asks: the page is the oldest MAXSEL matching complete files above its time. Assumes nothing.
-use mathlib.Core.Path.{_≡_, refl, sym, ap, _∙_, subst}
+use mathlib.Core.Path.{_≡_, refl, sym, ap, _∙_}
 use mathlib.Core.Bool.{Bool, true, false, cond}
 use mathlib.Core.List.{List, [], _++_}
 use mathlib.Core.Option.{Option, none, some}
@@ -12,7 +12,7 @@ use borrow.Author.Tests.{eq-eqb, le-ltb, ltb-false}
 use Rattle.numbers.specs.Numbers.{two}
 use Rattle.packet.specs.Packet.{packetOf}
 use Rattle.packet.specs.Frame.{Event, packet, too-long, announcedIn, packetIn}
-use Rattle.equation.specs.Newer.{unmarked, narrowed}
+use Rattle.equation.specs.Newer.{narrowed}
 use Rattle.equation.specs.Answer.{validityOf}
 use Rattle.equation.proofs.Append.{narrowed-valid}
 use Rattle.equation.proofs.Selects.{narrowed-selects}
@@ -22,14 +22,15 @@ use Rattle.session.specs.declared.reply.Reply.the-variants as reply
 use Rattle.session.specs.Reply.{told, tell}
 use Rattle.calls.specs.Call.{receive}
 use Rattle.model.specs.State as state
-use Rattle.model.specs.State.{File, noDownload, Downlink, Session, closedSession, withSelection, withHeld, Model, sessionAt, inSession, Turn, turn, closing, Stepped, stepped}
+use Rattle.model.specs.State.{File, noDownload, Downlink, Session, closedSession, withSelection, withHeld, Model, sessionAt, inSession}
+use Rattle.model.specs.State.{Turn, turn, closing, Stepped, stepped}
 use Rattle.model.specs.Files.{matching, byTime, selection}
 use Rattle.model.specs.Downlink.{onSelectCmd}
 use Rattle.model.specs.Step.{ifNoDownload, byType, onPacket, endsIn, onEvent, refusal, step}
 use Rattle.steps.proofs.Cutting.{link-held}
 use Rattle.steps.proofs.Uplink.{open-refusal, goes}
 use Rattle.steps.proofs.Downloads.{by-lt}
-use Rattle.paging.specs.Client.{Idle, Asks, above, pageOf, numbersOf, Answers}
+use Rattle.paging.specs.Client.{Asks, pageOf, numbersOf, Answers}
 use Rattle.paging.proofs.Bytes.{at-most-a-mark, narrowed-size}
 use Rattle.paging.proofs.Files.{in-find, above-by-time, matching-above}
 use Rattle.paging.proofs.Known.{Known, found-low}
@@ -80,6 +81,9 @@ module _ (m : Model) (k : Known m) (eq : List ℕ) (valid : validityOf eq ≡ 0)
   abbrev held : List ℕ
   held = sessionAt m i .held
 
+  abbrev page : List ℕ
+  page = numbersOf (pageOf m eq t)
+
   abbrev M : Model
   M = inSession i (withHeld []) m
 
@@ -90,7 +94,7 @@ module _ (m : Model) (k : Known m) (eq : List ℕ) (valid : validityOf eq ≡ 0)
   fits = omega (arith, ends-short (held ++ input) 16 q (a .sends), narrowed-size eq t, at-most-a-mark eq valid)
 
   -- what is selected
-  chosen : selection (m .maxsel) q (m .files) ≡ numbersOf (pageOf m eq t)
+  chosen : selection (m .maxsel) q (m .files) ≡ page
   chosen =
       ap (λ (fs : List File). numbersOf (take (m .maxsel) fs))
       (ap byTime
@@ -109,14 +113,14 @@ module _ (m : Model) (k : Known m) (eq : List ℕ) (valid : validityOf eq ≡ 0)
       ap (λ (y : Downlink). ifNoDownload y (onSelectCmd x i q) (closing x i)) d ∙ rw (eq-eqb (validityOf q) 0 (narrowed-valid eq t valid fits))
 
   packet-is : onPacket M i clock 16 q
-      ≡ turn (reply.Selected (length (numbersOf (pageOf m eq t)))) (inSession i (withSelection (numbersOf (pageOf m eq t))) M)
+      ≡ turn (reply.Selected (length page)) (inSession i (withSelection page) M)
   packet-is =
       on-select M (ap (λ (s : Session). s .down) (link-held m i there []) ∙ a .idle .down)
       ∙ ap (λ (ns : List ℕ). turn (reply.Selected (length ns)) (inSession i (withSelection ns) M)) chosen
 
   -- the call
   step-is : step m (receive session clock input out)
-      ≡ stepped (tell (reply.Selected (length (numbersOf (pageOf m eq t)))) (2 + length q - length held) out) (inSession i (withSelection (numbersOf (pageOf m eq t))) M)
+      ≡ stepped (tell (reply.Selected (length page)) (2 + length q - length held) out) (inSession i (withSelection page) M)
   unfolding step onEvent
   step-is =
       goes (refusal m session true (length out)) m out (onEvent (endsIn (held ++ input)) m i clock held input out)
@@ -125,11 +129,11 @@ module _ (m : Model) (k : Known m) (eq : List ℕ) (valid : validityOf eq ≡ 0)
       ∙ ap (λ (x : Turn). stepped (tell (x .reply) (2 + length q - length held) out) (x .after)) packet-is
 
   -- both changes of the session at once
-  after-is : inSession i (withSelection (numbersOf (pageOf m eq t))) M ≡ inSession i (λ s. withSelection (numbersOf (pageOf m eq t)) (withHeld [] s)) m
+  after-is : inSession i (withSelection page) M ≡ inSession i (λ s. withSelection page (withHeld [] s)) m
   after-is =
       ap (λ (ks : List Session). state.model m (m .lastNumber) (m .lastTime) (m .files) ks)
-      (set-set (m .sessions) i (withHeld [] (sessionAt m i)) (withSelection (numbersOf (pageOf m eq t)) (sessionAt M i))
-      ∙ ap (λ (s : Session). set (m .sessions) i (withSelection (numbersOf (pageOf m eq t)) s)) (link-held m i there []))
+      (set-set (m .sessions) i (withHeld [] (sessionAt m i)) (withSelection page (sessionAt M i))
+      ∙ ap (λ (s : Session). set (m .sessions) i (withSelection page s)) (link-held m i there []))
 
   -- THEOREM
   pub page-answer : Answers m eq t session clock input out
@@ -138,9 +142,10 @@ module _ (m : Model) (k : Known m) (eq : List ℕ) (valid : validityOf eq ≡ 0)
       let w = ap (λ (s : Stepped). s .after) step-is ∙ after-is in
       record {
         told = ap (λ (s : Stepped). s .told .answer) step-is ∙ ap (λ (n : ℕ). answer.Sent (n - length held) 4) (packet-size 16 q);
-        sent = ap (λ (s : Stepped). s .told .out) step-is ∙ ap (λ (n : ℕ). packetOf 17 (two n) ++ drop 4 out) (length-map (pageOf m eq t) (λ (f : File). f .number));
+        sent = ap (λ (s : Stepped). s .told .out) step-is
+            ∙ ap (λ (n : ℕ). packetOf 17 (two n) ++ drop 4 out) (length-map (pageOf m eq t) (λ (f : File). f .number));
         page = ap (λ (x : Model). sessionAt x i .selected) w
             ∙ ap (λ (s : Session). s .selected)
-            (getD-set-same (m .sessions) i (withSelection (numbersOf (pageOf m eq t)) (withHeld [] (sessionAt m i))) closedSession there);
+            (getD-set-same (m .sessions) i (withSelection page (withHeld [] (sessionAt m i))) closedSession there);
         after = w;
       }

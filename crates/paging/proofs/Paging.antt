@@ -1,21 +1,20 @@
 -- THEOREM (demand 3): whoever selects from upload time 0, then again above each page's newest time, until a page is shorter than MAXSEL, has been
 -- given every matching file complete by then once, oldest first. Assumes nothing.
 use mathlib.Core.Path.{_≡_, refl, sym, ap, ap₂, _∙_, subst}
-use mathlib.Core.Bool.{Bool, true, false}
 use mathlib.Core.List.{List, [], _∷_, _++_, map, List·Memᴰ, List·Memᴰ·not-nil}
 use mathlib.Core.Logic.{_⊎_, inl, inr, ⊎-elim}
-use mathlib.Core.Option.{none, some}
+use mathlib.Core.Option.{some}
 use Prim.Native.Nat.{ℕ, _-_, _≤_, _<_}
 use native.Mathlib.Omega.{arith}
 use lib.ListN.{length, take}
 use Rattle.numbers.specs.Numbers.{number}
 use Rattle.numbers.proofs.NumberLaws.{number-four}
-use Rattle.header.specs.Items.{fieldsOf}
-use Rattle.equation.specs.Answer.{selects, validityOf}
-use Rattle.calls.specs.Call.{Call, receive, History, start, _▸_}
+use Rattle.equation.specs.Answer.{validityOf}
+use Rattle.calls.specs.Call.{Call, receive, History, _▸_}
 use Rattle.model.specs.State.{File, Uplink, noUpload, receiving, ignoring, Model, empty, sessionAt}
 use Rattle.model.specs.Files.{find, matching}
 use Rattle.model.specs.Step.{step, run}
+use Rattle.model.proofs.Order.{Rising, find-in, byTime-in, byTime-back, byTime-rising, matching-in, matching-back, matching-apart}
 use Rattle.steps.specs.Parts.{sessionIn}
 use Rattle.steps.specs.Naming.{UpOk, Partial}
 use Rattle.steps.proofs.Downloads.{by-lt}
@@ -23,11 +22,11 @@ use Rattle.steps.proofs.Naming.{by-eq}
 use Rattle.steps.proofs.Own.{own-file}
 use Rattle.paging.specs.Client.{Asks, oldestFirst, above, pageOf, numbersOf, Answers}
 use Rattle.paging.specs.Paging.{Entry, entry, entryOf, timeOf, pageIn, newestOf, Client, begins, waits, asks, Paged, pagedBy, pageFor, stateOf, Allowed}
-use Rattle.paging.specs.Paging.{Finished, Clocks, Matches, Stands, EachStood, Once, Rises, AllGiven, PageAnswer, Paging, PagingWhole}
-use Rattle.paging.proofs.Entries.{map-in, in-map, map-same, map-map, take-map, in-left, in-right, in-either, taken-in, rises-above, rises-from, rises-take}
-use Rattle.paging.proofs.Entries.{Beyond, taken-or-beyond, rises-append, rises-unique, newest-known, newest-most, Of, newest-is, rises-once, once-append}
-use Rattle.paging.proofs.Files.{in-find, find-in, Selected, matching-in, in-matching, by-time-in, in-by-time, Rising, by-time-rises, matching-apart}
-use Rattle.paging.proofs.Files.{above-in, in-above, above-rises}
+use Rattle.paging.specs.Paging.{Finished, Clocks, Matches, Stands, EachStood, Once, Rises, PageAnswer, Paging, PagingWhole}
+use Rattle.paging.proofs.Entries.{map-in, in-map, map-same, map-map, take-map, in-left, in-right, in-either, taken-in, rises-above, rises-from}
+use Rattle.paging.proofs.Entries.{rises-take, Beyond, taken-or-beyond, rises-append, rises-unique, newest-known}
+use Rattle.paging.proofs.Entries.{newest-most, Of, newest-is, rises-once, once-append}
+use Rattle.paging.proofs.Files.{in-find, numbers-timed, rising-entries, above-in, in-above, above-rises}
 use Rattle.paging.proofs.Known.{New, Known, found-low, new-file, complete-kept, step-grown, known, run-maxsel}
 use Rattle.paging.proofs.Page.{page-answer}
 
@@ -39,17 +38,22 @@ module _ (m : Model) (k : Known m) (eq : List ℕ) where
 
   all-rise : Rising 0 (oldestFirst eq m)
   all-rise =
-      by-time-rises (matching eq (m .files)) (λ f i. matching-in eq (m .files) f i .complete)
-      (matching-apart 0 (m .lastNumber) (m .lastTime) eq (m .files) (k .sound .numbers)
-      (λ f g i j z e. k .apart (f .number) (g .number) f g (found f i) (found g j) z e))
+      byTime-rising (matching eq (m .files))
+      (matching-apart eq (m .files)
+      (numbers-timed 0 (m .lastNumber) (m .lastTime) (m .files) (k .sound .numbers)
+      (λ f g i j z e. k .apart (f .number) (g .number) f g (found f i) (found g j) z e)))
+      (λ f i. let z = matching-in eq (m .files) f i .1 .complete in omega arith)
+
+  inside : (f : File) → List·Memᴰ f (oldestFirst eq m) → List·Memᴰ f (m .files)
+  inside f i = matching-in eq (m .files) f (byTime-in (matching eq (m .files)) f i) .0
 
   -- an entry of a matching complete file, and back
   stands-of : (f : File) → List·Memᴰ f (oldestFirst eq m) → Stands m eq (entryOf f)
   stands-of f i =
-      let s = matching-in eq (m .files) f (by-time-in f (matching eq (m .files)) i) in
-      let w = found f (s .inside) in
+      let s = matching-in eq (m .files) f (byTime-in (matching eq (m .files)) f i) .1 in
+      let w = found f (inside f i) in
       record {
-        matches = record { file = f; found = w; time = refl; complete = s .complete; matched = s .matched };
+        matches = record { file = f; found = w; time = refl; complete = s .complete; matched = s .true-on };
         header = ap (map number) (k .stamped (f .number) f w (s .complete))
             ∙ ap (λ (n : ℕ). n ∷ []) (number-four (f .time) (omega (arith, k .small, found-low m (k .sound) (f .number) f w .1)));
       }
@@ -64,8 +68,8 @@ module _ (m : Model) (k : Known m) (eq : List ℕ) where
       let i = find-in (e .number) (m .files) (a .file) (a .found) in
       record {
         file = a .file;
-        inside = in-by-time (a .file) (matching eq (m .files))
-            (in-matching eq (m .files) (a .file) (record { inside = i .inside; complete = a .complete; matched = a .matched }));
+        inside = byTime-back (matching eq (m .files)) (a .file)
+            (matching-back eq (m .files) (a .file) (i .inside) (record { complete = a .complete; true-on = a .matched }));
         same = ap₂ entry (i .number) (a .time);
       }
 
@@ -88,7 +92,7 @@ module _ (m : Model) (k : Known m) (eq : List ℕ) where
 
     newer-rises : Rises t newer
     newer-rises =
-        rises-from 0 t newer (above-rises 0 t (oldestFirst eq m) all-rise)
+        rises-from 0 t newer (rising-entries 0 (above t (oldestFirst eq m)) (above-rises 0 t (oldestFirst eq m) all-rise))
         (λ e i.
         let f = in-map entryOf e (above t (oldestFirst eq m)) i in
         let a = above-in t (oldestFirst eq m) (f .of) (f .inside) .1 in
@@ -122,7 +126,7 @@ module _ (m : Model) (k : Known m) (eq : List ℕ) where
         ∙ map-same (λ (f : File). entry (f .number) (timeOf (find (f .number) (m .files)))) entryOf (pageOf m eq t)
         (λ f i.
         let a = above-in t (oldestFirst eq m) f (taken-in (m .maxsel) (above t (oldestFirst eq m)) f i) .0 in
-        ap (λ x. entry (f .number) (timeOf x)) (found f (matching-in eq (m .files) f (by-time-in f (matching eq (m .files)) a) .inside)))
+        ap (λ x. entry (f .number) (timeOf x)) (found f (inside f a)))
 
 -- ---- what holds of a client between its calls. It survives that files are removed.
 
@@ -187,7 +191,13 @@ module _ (m : Model) (k : Known m) (eq : List ℕ) (c : Call) where
   stands-kept e s =
       let a = s .matches in
       record {
-        matches = record { file = a .file; found = complete-kept m k c (e .number) (a .file) (a .found) (a .complete); time = a .time; complete = a .complete; matched = a .matched };
+        matches = record {
+          file = a .file;
+          found = complete-kept m k c (e .number) (a .file) (a .found) (a .complete);
+          time = a .time;
+          complete = a .complete;
+          matched = a .matched;
+        };
         header = s .header;
       }
 
@@ -263,6 +273,17 @@ module _ (blocks places sessions maxsel : ℕ) (eq : List ℕ) (valid : validity
   abbrev m₀ : Model
   m₀ = empty blocks places sessions maxsel
 
+  -- what is known after a history
+  abbrev after : (h : History) → Clocks h → Known (run m₀ h)
+  after = known blocks places sessions maxsel
+
+  -- what a client has come to, and the state then
+  abbrev R : Client → Paged
+  R = pagedBy m₀ eq
+
+  abbrev S : Client → Model
+  S = stateOf m₀ eq
+
   -- its page is that of the state in which it asks
   module _ (h : History) (clocks : Clocks h) (t : ℕ) (small : t < 4294967296) (session clock : ℕ) (input out : List ℕ)
       (a : Asks (run m₀ h) eq t session input out) where
@@ -270,19 +291,19 @@ module _ (blocks places sessions maxsel : ℕ) (eq : List ℕ) (valid : validity
     m = run m₀ h
 
     answered : Answers (run m₀ h) eq t session clock input out
-    answered = page-answer (run m₀ h) (known blocks places sessions maxsel h clocks) eq valid t small session clock input out a
+    answered = page-answer (run m₀ h) (after h clocks) eq valid t small session clock input out a
 
     page-is : pageIn (run m₀ (h ▸ receive session clock input out)) session ≡ map entryOf (pageOf (run m₀ h) eq t)
     unfolding pageIn run
     page-is =
         ap (λ (ns : List ℕ). map (λ (n : ℕ). entry n (timeOf (find n (step m (receive session clock input out) .after .files)))) ns) (answered .page)
         ∙ ap (λ (x : Model). map (λ (n : ℕ). entry n (timeOf (find n (x .files)))) (numbersOf (pageOf m eq t))) (answered .after)
-        ∙ page-read m (known blocks places sessions maxsel h clocks) eq t
+        ∙ page-read m (after h clocks) eq t
 
   module _ (h : History) (clocks : Clocks h) (t : ℕ) (given : List Entry) (i : Inv (run m₀ h) eq t given) (session clock : ℕ) (input out : List ℕ)
       (a : Asks (run m₀ h) eq t session input out) where
     K : Known (run m₀ h)
-    K = known blocks places sessions maxsel h clocks
+    K = after h clocks
 
     abbrev asking : Call
     asking = receive session clock input out
@@ -315,66 +336,68 @@ module _ (blocks places sessions maxsel : ℕ) (eq : List ℕ) (valid : validity
         before =
             ap (λ (x : Model). find (e .number) (x .files)) (sym (answered h clocks t small session clock input out a .after)) ∙ unfold run in q .found
 
-  client-inv : (c : Client) → Allowed m₀ eq c → Clocks (pagedBy m₀ eq c .history) → Inv (stateOf m₀ eq c) eq (pagedBy m₀ eq c .newest) (pagedBy m₀ eq c .given)
+  client-inv : (c : Client) → Allowed m₀ eq c → Clocks (R c .history) → Inv (S c) eq (R c .newest) (R c .given)
   unfolding pagedBy run
   client-inv (begins h) a k = inv-begins (run m₀ h) eq
   client-inv (waits c call) a k =
-      inv-call (stateOf m₀ eq c) (known blocks places sessions maxsel (pagedBy m₀ eq c .history) (k .0)) eq call (pagedBy m₀ eq c .newest) (pagedBy m₀ eq c .given)
+      inv-call (S c) (after (R c .history) (k .0)) eq call (R c .newest) (R c .given)
       (client-inv c a (k .0))
   client-inv (asks c session clock input out) a k =
-      inv-page (pagedBy m₀ eq c .history) (k .0) (pagedBy m₀ eq c .newest) (pagedBy m₀ eq c .given) (client-inv c (a .0) (k .0)) session clock input out (a .1)
+      inv-page (R c .history) (k .0) (R c .newest) (R c .given) (client-inv c (a .0) (k .0)) session clock input out (a .1)
 
   -- a page that is shorter than MAXSEL
-  client-all : (c : Client) → Allowed m₀ eq c → Clocks (pagedBy m₀ eq c .history) → Finished m₀ eq c
-      → (e : Entry) → Matches (stateOf m₀ eq c) eq e → List·Memᴰ e (pagedBy m₀ eq c .given)
+  client-all : (c : Client) → Allowed m₀ eq c → Clocks (R c .history) → Finished m₀ eq c
+      → (e : Entry) → Matches (S c) eq e → List·Memᴰ e (R c .given)
   unfolding pagedBy
   client-all (begins h) a k f = absurd f
   client-all (waits c call) a k f = absurd f
   client-all (asks c session clock input out) a k f =
-      page-all (pagedBy m₀ eq c .history) (k .0) (pagedBy m₀ eq c .newest) (pagedBy m₀ eq c .given) (client-inv c (a .0) (k .0)) session clock input out (a .1) f
+      page-all (R c .history) (k .0) (R c .newest) (R c .given) (client-inv c (a .0) (k .0)) session clock input out (a .1) f
 
-  client-stood : (c : Client) → Allowed m₀ eq c → Clocks (pagedBy m₀ eq c .history) → EachStood m₀ eq c
+  client-stood : (c : Client) → Allowed m₀ eq c → Clocks (R c .history) → EachStood m₀ eq c
   unfolding pagedBy
   client-stood (begins h) a k = tt
   client-stood (waits c call) a k = client-stood c a (k .0)
   client-stood (asks c session clock input out) a k = (
     client-stood c (a .0) (k .0),
-    page-stood (pagedBy m₀ eq c .history) (k .0) (pagedBy m₀ eq c .newest) (pagedBy m₀ eq c .given) (client-inv c (a .0) (k .0)) session clock input out (a .1),
+    page-stood (R c .history) (k .0) (R c .newest) (R c .given) (client-inv c (a .0) (k .0)) session clock input out (a .1),
   )
 
   -- in a store from which nothing is removed, what was given stands still
-  client-each : (c : Client) → Allowed m₀ eq c → Clocks (pagedBy m₀ eq c .history) → (e : Entry) → List·Memᴰ e (pagedBy m₀ eq c .given)
-      → Stands (stateOf m₀ eq c) eq e
+  client-each : (c : Client) → Allowed m₀ eq c → Clocks (R c .history) → (e : Entry) → List·Memᴰ e (R c .given)
+      → Stands (S c) eq e
   unfolding pagedBy run
   client-each (begins h) a k e i = absurd (List·Memᴰ·not-nil i)
   client-each (waits c call) a k e i =
-      stands-kept (stateOf m₀ eq c) (known blocks places sessions maxsel (pagedBy m₀ eq c .history) (k .0)) eq call e (client-each c a (k .0) e i)
+      stands-kept (S c) (after (R c .history) (k .0)) eq call e (client-each c a (k .0) e i)
   client-each (asks c session clock input out) a k e i =
       ⊎-elim
-      (λ (j : List·Memᴰ e (pagedBy m₀ eq c .given)).
-      stands-kept (stateOf m₀ eq c) (known blocks places sessions maxsel (pagedBy m₀ eq c .history) (k .0)) eq (receive session clock input out) e
+      (λ (j : List·Memᴰ e (R c .given)).
+      stands-kept (S c) (after (R c .history) (k .0)) eq (receive session clock input out) e
       (client-each c (a .0) (k .0) e j))
-      (λ (j : List·Memᴰ e (pageFor m₀ eq (pagedBy m₀ eq c) session clock input out)). client-stood (asks c session clock input out) a k .1 e j)
-      (in-either e (pagedBy m₀ eq c .given) (pageFor m₀ eq (pagedBy m₀ eq c) session clock input out) i)
+      (λ (j : List·Memᴰ e (pageFor m₀ eq (R c) session clock input out)). client-stood (asks c session clock input out) a k .1 e j)
+      (in-either e (R c .given) (pageFor m₀ eq (R c) session clock input out) i)
 
-  client-whole : (c : Client) → Allowed m₀ eq c → Clocks (pagedBy m₀ eq c .history) → Finished m₀ eq c
-      → pagedBy m₀ eq c .given ≡ map entryOf (oldestFirst eq (stateOf m₀ eq c))
+  client-whole : (c : Client) → Allowed m₀ eq c → Clocks (R c .history) → Finished m₀ eq c
+      → R c .given ≡ map entryOf (oldestFirst eq (S c))
   client-whole c a k f =
-      let K = known blocks places sessions maxsel (pagedBy m₀ eq c .history) k in
-      rises-unique 0 0 (pagedBy m₀ eq c .given) (map entryOf (oldestFirst eq (stateOf m₀ eq c))) (client-inv c a k .rises) (all-rise (stateOf m₀ eq c) K eq)
+      let K = after (R c .history) k in
+      rises-unique 0 0 (R c .given) (map entryOf (oldestFirst eq (S c))) (client-inv c a k .rises)
+      (rising-entries 0 (oldestFirst eq (S c)) (all-rise (S c) K eq))
       (λ e i.
-      let j = of-matches (stateOf m₀ eq c) K eq e (client-each c a k e i .matches) in
-      subst (λ (x : Entry). List·Memᴰ x (map entryOf (oldestFirst eq (stateOf m₀ eq c)))) (j .same)
-      (map-in entryOf (j .file) (oldestFirst eq (stateOf m₀ eq c)) (j .inside)))
+      let j = of-matches (S c) K eq e (client-each c a k e i .matches) in
+      subst (λ (x : Entry). List·Memᴰ x (map entryOf (oldestFirst eq (S c)))) (j .same)
+      (map-in entryOf (j .file) (oldestFirst eq (S c)) (j .inside)))
       (λ e i.
-      let j = in-map entryOf e (oldestFirst eq (stateOf m₀ eq c)) i in
-      client-all c a k f e (subst (Matches (stateOf m₀ eq c) eq) (sym (j .same)) (stands-of (stateOf m₀ eq c) K eq (j .of) (j .inside) .matches)))
+      let j = in-map entryOf e (oldestFirst eq (S c)) i in
+      client-all c a k f e (subst (Matches (S c) eq) (sym (j .same)) (stands-of (S c) K eq (j .of) (j .inside) .matches)))
 
 -- the newest time that a client knows is a 32-bit number
 pub newest-small : (blocks places sessions maxsel : ℕ) (eq : List ℕ) → validityOf eq ≡ 0 → (c : Client) → Allowed (empty blocks places sessions maxsel) eq c
     → Clocks (pagedBy (empty blocks places sessions maxsel) eq c .history) → pagedBy (empty blocks places sessions maxsel) eq c .newest < 4294967296
 newest-small blocks places sessions maxsel eq valid c a k =
-    omega (arith, client-inv blocks places sessions maxsel eq valid c a k .low, known blocks places sessions maxsel (pagedBy (empty blocks places sessions maxsel) eq c .history) k .small)
+    let K = known blocks places sessions maxsel (pagedBy (empty blocks places sessions maxsel) eq c .history) k in
+    omega (arith, client-inv blocks places sessions maxsel eq valid c a k .low, K .small)
 
 -- ---- THE THEOREMS
 

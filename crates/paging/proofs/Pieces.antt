@@ -3,26 +3,25 @@ use mathlib.Core.Path.{_≡_, refl, sym, ap, _∙_, subst}
 use mathlib.Core.Bool.{Bool, true, false, cond}
 use mathlib.Core.List.{List, [], _∷_, _++_, append-assoc, append-nil}
 use mathlib.Core.Option.{Option, none, some}
-use Prim.Native.Nat.{ℕ, _+_, _-_, _*_, _/_, _%_, _≤_, _<_}
+use Prim.Native.Nat.{ℕ, _+_, _-_, _*_, _/_, _≤_, _<_}
 use native.Mathlib.Omega.{arith}
-use lib.Dec.{eqb, leb, ltb}
-use lib.ListN.{length, take, length-append}
+use lib.Dec.{eqb}
+use lib.ListN.{length, length-append}
 use lib.Seq.{take-all}
 use borrow.Author.Tests.{eqb-true, eqb-false, leb-true, le-ltb, lt-ltb}
 use Rattle.packet.specs.Packet.{packetOf, kindIn}
 use Rattle.packet.specs.Frame.{Event, packet, announcedIn}
-use Rattle.equation.specs.Newer.{unmarked, narrowed}
-use Rattle.equation.specs.Answer.{validityOf}
+use Rattle.equation.specs.Newer.{narrowed}
 use Rattle.calls.specs.Call.{Call, login, receive, request, lose}
-use Rattle.model.specs.State.{Session, withHeld, Model, empty, sessionAt, inSession, Stepped}
+use Rattle.model.specs.State.{Session, Model, empty, sessionAt, Stepped}
 use Rattle.model.specs.Step.{endsIn, onEvent, refusal, step, run}
 use Rattle.steps.specs.Parts.{sessionIn, bytesIn}
 use Rattle.steps.proofs.Cutting.{link-held}
 use Rattle.steps.proofs.Uplink.{open-refusal, goes}
 use Rattle.steps.proofs.Downloads.{others-leave}
 use Rattle.paging.specs.Client.{Idle, Asks}
-use Rattle.paging.specs.Paging.{Client, waits, asks, pagedBy, stateOf, Allowed, Clocks}
-use Rattle.paging.specs.Pieces.{isPiece, piecesOnly, handed, waitsFor, AsksWith, InPieces}
+use Rattle.paging.specs.Paging.{Client, waits, pagedBy, stateOf, Allowed}
+use Rattle.paging.specs.Pieces.{isPiece, piecesOnly, handed, waitsFor, InPieces}
 use Rattle.paging.proofs.Bytes.{narrowed-size}
 use Rattle.paging.proofs.Page.{open-there, packet-size}
 use Rattle.paging.proofs.Paging.{newest-small, page-answered}

@@ -32,7 +32,7 @@ use Rattle.paging.specs.Examples.{smallest}
 use Rattle.paging.specs.Client.{Idle, Asks, above, oldestFirst, pageOf, Answers}
 use Rattle.paging.specs.Paging.{Entry, entry, entryOf, begins, stateOf, Once, Rises, Stands, AllGiven, pageIn, newestOf, pagedBy, asked}
 use Rattle.paging.specs.Pieces.{isPiece, piecesOnly, handed, waitsFor, AsksWith}
-use Rattle.paging.specs.Worked.{small, uploaded, third, sized, longest, first, pieces, rest, beginning, reader, output, Met}
+use Rattle.paging.specs.Worked.{small, uploaded, third, sized, longest, pieces, rest, beginning, reader, output, Met}
 use Rattle.paging.proofs.Paging.{page-answered, paging, paging-whole}
 use Rattle.paging.proofs.Pieces.{in-pieces}
 
@@ -46,12 +46,12 @@ asks-is m eq t input l d s = record { idle = idle-is m l d; room = omega arith; 
 
 pub met : Met
 unfolding
-    uploaded third longest pieces rest reader smallest waitsFor piecesOnly isPiece handed pageIn newestOf pagedBy above number packetOf headOf after walk marked fieldsOf listed every countIf
-    bytesOf lengthIn lengthFits ordered proper complete sumOf checkItems checkValues verdict placeFrom withFields withSum fieldsSet beforeMark unmarkedPast
-    starsIn goodText goodNumber good connectiveOf relationAt tokenOf follow symbolsPast width compare textMeets numberMeets meets holds tree.pushed
-    tree.joined tree.result tree.bind tree.run tree.parse tree.truth equation.said equation.answer equation.isYes equation.refusal equation.validityOf
-    tell find changed without reserved uploading matching placed byTime uploadNew uploadContinued onUploadCmd dataTo onData dataEndTo onDataEnd onSelectCmd
-    byType endsIn onEvent refusal unless step run
+    uploaded third longest pieces rest reader smallest waitsFor piecesOnly isPiece handed pageIn newestOf pagedBy above number packetOf headOf after
+    walk marked fieldsOf listed every countIf bytesOf lengthIn lengthFits ordered proper complete sumOf checkItems checkValues verdict placeFrom
+    withFields withSum fieldsSet beforeMark unmarkedPast starsIn goodText goodNumber good connectiveOf relationAt tokenOf follow symbolsPast width
+    compare textMeets numberMeets meets holds tree.pushed tree.joined tree.result tree.bind tree.run tree.parse tree.truth equation.said
+    equation.answer equation.isYes equation.refusal equation.validityOf tell find changed without reserved uploading matching placed byTime uploadNew
+    uploadContinued onUploadCmd dataTo onData dataEndTo onDataEnd onSelectCmd byType endsIn onEvent refusal unless step run
 met =
     record {
       accepted = refl;
@@ -62,7 +62,10 @@ met =
       only = refl;
       all-bytes = refl;
       rest-size = refl;
-      before = (((((((((((tt, tt), tt), omega arith), omega arith), omega arith), omega arith), omega arith), omega arith), omega arith), omega arith), omega arith);
+      before = (
+        ((((((((((tt, tt), tt), omega arith), omega arith), omega arith), omega arith), omega arith), omega arith), omega arith), omega arith),
+        omega arith,
+      );
       held = refl;
       asking = asks-is _ sized 0 rest refl refl refl;
       oldest = refl;
