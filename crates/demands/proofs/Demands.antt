@@ -1,6 +1,7 @@
 -- THEOREM: all the demands. Assumes nothing.
 use Rattle.paging.proofs.Examples.{examples}
 use Rattle.paging.proofs.Paging.{page-answered, paging, paging-whole}
+use Rattle.paging.proofs.Pieces.{in-pieces}
 use Rattle.demands.specs.Demands.{Demands}
 use Rattle.demands.proofs.Demand1.{demand-1}
 use Rattle.demands.proofs.Demand2.{demand-2}
@@ -18,5 +19,6 @@ demands =
       page-answer = page-answered;
       paging = paging;
       paging-whole = paging-whole;
+      in-pieces = in-pieces;
       examples = examples;
     }

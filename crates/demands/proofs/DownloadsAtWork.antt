@@ -16,7 +16,7 @@ use Rattle.model.specs.State as model
 use Rattle.model.specs.State.{File, file, sessionAt}
 use Rattle.model.specs.Step.{step}
 use Rattle.steps.specs.Parts.{sentBy}
-use Rattle.steps.specs.Downloads.{isRequest, requestOrOther, requestsOnly, asksIn, asks, sentTo, dataTo, endTo, Downloading, numberAsked, Begins}
+use Rattle.steps.specs.Downloads.{forUplink, requestOrUplink, ownOrOther, requestsAndUplink, asksIn, asks, sentTo, dataTo, endTo, Downloading, numberAsked, Begins}
 use Rattle.demands.specs.Downloads.{modelAt, Handed}
 use Rattle.demands.proofs.Downloads.{sound-at, named-at}
 use Rattle.demands.specs.Demand3.{serverAt, lentAt}
@@ -111,9 +111,9 @@ begun-40 : Downloading (machine sending40) 1 1 40 file80
 unfolding at-work
 begun-40 = record { from-one = omega arith; linked = refl; down = refl; found = refl }
 
-only-two : requestsOnly 1 two ≡ true
-unfolding requestsOnly requestOrOther isRequest
-only-two = refl
+only-two : (h : History) → requestsAndUplink (machine h) 1 two ≡ true
+unfolding requestsAndUplink ownOrOther requestOrUplink
+only-two h = refl
 
 asks-two : asks 1 two ≡ 2
 unfolding asks asksIn
@@ -122,17 +122,17 @@ asks-two = refl
 -- 80 bytes in one DATA, and DATA_END: two requests are enough
 pub whole-ends : endTo (machine sending) 1 two ≡ true
 whole-ends =
-    demand-2 .download-ends (machine sending) (sound-at small sending) (named-at small sending) 1 1 0 file80 begun-0 two only-two
+    demand-2 .download-ends (machine sending) (sound-at small sending) (named-at small sending) 1 1 0 file80 begun-0 two (only-two sending)
     (omega (arith, size-80, asks-two))
 
 pub whole-80 : dataTo (machine sending) 1 two ≡ complete80
-whole-80 = demand-2 .download (machine sending) (sound-at small sending) (named-at small sending) 1 1 0 file80 begun-0 two only-two .whole whole-ends
+whole-80 = demand-2 .download (machine sending) (sound-at small sending) (named-at small sending) 1 1 0 file80 begun-0 two (only-two sending) .whole whole-ends
 
 -- from byte 40 on
 pub behind-40 : dataTo (machine sending40) 1 two ≡ drop 40 complete80
 behind-40 =
-    demand-2 .download (machine sending40) (sound-at small sending40) (named-at small sending40) 1 1 40 file80 begun-40 two only-two .whole
-    (demand-2 .download-ends (machine sending40) (sound-at small sending40) (named-at small sending40) 1 1 40 file80 begun-40 two only-two
+    demand-2 .download (machine sending40) (sound-at small sending40) (named-at small sending40) 1 1 40 file80 begun-40 two (only-two sending40) .whole
+    (demand-2 .download-ends (machine sending40) (sound-at small sending40) (named-at small sending40) 1 1 40 file80 begun-40 two (only-two sending40)
     (omega (arith, size-80, asks-two)))
 
 -- before DATA_END it is a front of the file
@@ -140,8 +140,8 @@ pub record FrontOf (sent file : List ℕ) : Type 0 where
   pub back : List ℕ
   pub is : sent ++ back ≡ file
 
-only-one : requestsOnly 1 (request 1 output ∷ []) ≡ true
-unfolding requestsOnly requestOrOther isRequest
+only-one : requestsAndUplink (machine sending) 1 (request 1 output ∷ []) ≡ true
+unfolding requestsAndUplink ownOrOther requestOrUplink
 only-one = refl
 
 pub first-front : FrontOf (dataTo (machine sending) 1 (request 1 output ∷ [])) complete80
@@ -167,8 +167,8 @@ handed-size : length (handedFile .bytes) ≡ 80
 unfolding at-work
 handed-size = refl
 
-only-meanwhile : requestsOnly 2 meanwhile ≡ true
-unfolding requestsOnly requestOrOther isRequest
+only-meanwhile : requestsAndUplink (modelAt pair handed) 2 meanwhile ≡ true
+unfolding requestsAndUplink ownOrOther requestOrUplink
 only-meanwhile = refl
 
 asks-meanwhile : asks 2 meanwhile ≡ 2

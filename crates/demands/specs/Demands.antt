@@ -2,16 +2,16 @@
 -- says it in full. `demands` (proofs/Demands.antt) proves all of it together. Assumes nothing.
 use mathlib.Core.Path.{_≡_}
 use mathlib.Core.Bool.{true}
-use mathlib.Core.List.{map}
 use Rattle.history.specs.Calls.{Start, legal, History}
-use Rattle.paging.specs.Examples.{table, got, want}
+use Rattle.paging.specs.Examples.{Examples}
 use Rattle.paging.specs.Paging.{PageAnswer, Paging, PagingWhole}
+use Rattle.paging.specs.Pieces.{InPieces}
 use Rattle.demands.specs.Demand1.{Demand1}
 use Rattle.demands.specs.Demand2.{Demand2}
 use Rattle.demands.specs.Demand3.{Demand3}
 use Rattle.demands.specs.Downloads.{FromPupilToPupil, AskedAndSent}
 
-pub record Demands : Type 1 where
+pub record Demands : Type 0 where
   -- 1. "Every byte sequence, clock reading and lent buffer gets an answer. The program always ends, asks nothing of its caller beforehand, and
   -- refuses by a number from the table or closes the link. A refusal leaves the files, the session and the output buffer as that table says."
   pub every-answer : Demand1
@@ -28,9 +28,12 @@ pub record Demands : Type 1 where
   -- the same from DOWNLOAD_CMD to DATA_END
   pub asked-and-sent : AskedAndSent
   -- "So whoever selects from upload time 0, then again above each page's newest time, with an equation that has room for that condition, until a page
-  -- is shorter than MAXSEL, has been given every matching file complete by then once, oldest first." (crates/paging/specs/Paging.antt)
+  -- is shorter than MAXSEL, has been given every matching file complete by then once, oldest first." (crates/paging/specs/Paging.antt). It is said of the
+  -- machine after any calls, which by demand 2 the server is.
   pub page-answer : PageAnswer
   pub paging : Paging
   pub paging-whole : PagingWhole
-  -- P1 to P12 of the scope paper: what the definitions give is what the paper says (crates/paging/specs/Examples.antt)
-  pub examples : map got table ≡ map want table
+  -- "First, the server must hear the command, however the radio link chops the bytes": the client's SELECT may come in any pieces
+  pub in-pieces : InPieces
+  -- P1 to P12 of the scope paper: what the definitions give is what the paper says
+  pub examples : Examples

@@ -19,7 +19,7 @@ use Rattle.history.specs.Calls.{Call, receive, request, callOf, Start, legal, H
 use Rattle.model.specs.State.{File, Model, empty, sessionAt}
 use Rattle.model.specs.Files.{find}
 use Rattle.model.specs.Step.{endsIn, step, run}
-use Rattle.steps.specs.Downloads.{requestsOnly, dataTo, endTo, Downloading, numberAsked}
+use Rattle.steps.specs.Downloads.{requestsAndUplink, dataTo, endTo, Downloading, numberAsked}
 use Rattle.demands.specs.Parts.{checkIn}
 use Rattle.demands.specs.Accepted.{accepted}
 
@@ -40,7 +40,7 @@ NothingDue =
     → isDue (linkOf sv i .down) ≡ false
     → callOf sv l (request session out) ≡ outcome (doneWith sv (answer.Quiet 0)) l out
 
--- ---- a whole download, with the calls of others between
+-- ---- a whole download, with calls of others and uploads of the session itself between
 
 -- the machine after a history; the server stands for it (`EveryHistory`)
 abbrev pub modelAt : Start → History → Model
@@ -55,7 +55,7 @@ abbrev pub FromPupilToPupil : Type 0
 FromPupilToPupil =
     (s : Start) → legal s ≡ true → (h : History) (session n : ℕ) (f : File) → Downloading (modelAt s h) session n 0 f
     → (cs : List Call)
-    → requestsOnly session cs ≡ true
+    → requestsAndUplink (modelAt s h) session cs ≡ true
     → endTo (modelAt s h) session cs ≡ true
     → dataTo (modelAt s h) session cs ≡ acceptedSet s h n (f .time)
 
@@ -66,7 +66,7 @@ pub record Handed (s : Start) (h : History) (session clock : ℕ) (input out inf
   pub sent : dataTo (step (modelAt s h) (receive session clock input out) .after) session cs
       ≡ acceptedSet s h (numberAsked (sessionAt (modelAt s h) (session - 1)) info) (file .time)
 
--- THE SAME IN WORDS OF PACKETS: a DOWNLOAD_CMD from offset 0 that is not refused, then requests until DATA_END
+-- THE SAME IN WORDS OF PACKETS: a DOWNLOAD_CMD from offset 0 that is not refused, then requests until DATA_END, and uploads between
 abbrev pub AskedAndSent : Type 0
 AskedAndSent =
     (s : Start) → legal s ≡ true → (h : History) (session clock taken : ℕ) (input out info : List ℕ)
@@ -74,6 +74,6 @@ AskedAndSent =
     → wordAt info 4 ≡ 0
     → step (modelAt s h) (receive session clock input out) .told .answer ≡ answer.Quiet taken
     → (cs : List Call)
-    → requestsOnly session cs ≡ true
+    → requestsAndUplink (step (modelAt s h) (receive session clock input out) .after) session cs ≡ true
     → endTo (step (modelAt s h) (receive session clock input out) .after) session cs ≡ true
     → Handed s h session clock input out info cs

@@ -2,23 +2,22 @@
 use mathlib.Core.Path.{_≡_, refl, sym, ap}
 use mathlib.Core.Bool.{Bool, true, false, cond}
 use mathlib.Core.List.{List, [], _∷_, _++_}
-use mathlib.Core.Logic.{_⊎_, inl, inr}
+use mathlib.Core.Logic.{_⊎_, inl, inr, ⊎-elim}
 use mathlib.Core.Option.{Option, none, some}
 use Prim.Native.Nat.{ℕ, zero, suc, _+_, _*_, _≤_}
 use native.Mathlib.Omega.{arith}
 use lib.Dec.{eqb, leb, ltb}
-use lib.ListN.{length, take}
+use lib.ListN.{length, take, length-append}
 use borrow.Author.Tests.{eqb-true}
 use Rattle.packet.specs.Packet.{packetOf}
 use Rattle.equation.specs.Symbols.{good, connectiveOf, relationAt, tokenOf, Symbol, rel, and, or, bad, follow, symbolsPast, symbols}
 use Rattle.equation.specs.Tree.{pushed, joined, bind, run, Tree, leaf, both, either, parse}
 use Rattle.equation.specs.Answer.{validityOf}
-use Rattle.equation.specs.Newer.{newerBytes, beforeMark, unmarkedPast, unmarked}
+use Rattle.equation.specs.Newer.{newerBytes, beforeMark, unmarkedPast, unmarked, narrowed}
 use Rattle.equation.specs.declared.tokens.Token.{Token}
 use Rattle.equation.specs.declared.tokens.Token.the-variants.{Bad, End, And, Or, Rel}
 use Rattle.equation.proofs.TokenLaws.{relation-fits}
 use Rattle.equation.proofs.Trees.{accepted}
-use Rattle.paging.specs.Client.{selectBytes}
 
 -- ---- symbols of an accepted equation
 
@@ -118,7 +117,11 @@ kept [] n h f = inl refl
 kept (c ∷ bs) zero h f = at-token c bs (kept bs) (tokenOf (c ∷ bs)) refl f
 kept (c ∷ bs) (suc n) h f = one-more c (unmarkedPast n bs) bs (kept bs n (omega arith) f)
 
--- ---- THE LAW
+-- ---- THE LAWS
+
+kept-all : (eq : List ℕ) → validityOf eq ≡ 0 → Kept (unmarked eq) eq
+unfolding parse
+kept-all eq v = kept eq 0 (omega arith) (let a = accepted eq v in fine 0 (symbols eq) [] (a .tree) (a .parsed))
 
 -- the bytes of an equation, with the condition and AND behind them
 abbrev pub plus : List ℕ → ℕ → List ℕ
@@ -127,13 +130,20 @@ plus eq t = packetOf 16 (eq ++ (newerBytes t ++ (1 ∷ [])))
 pub record Marked (eq : List ℕ) (t : ℕ) : Type 0 where
   pub front : List ℕ
   pub mark : front ++ (0 ∷ []) ≡ eq
-  pub bytes : selectBytes eq t ≡ plus front t
+  pub bytes : packetOf 16 (narrowed eq t) ≡ plus front t
 
 -- An accepted equation has no end mark, and its bytes are sent as they are; or it has one, and the bytes before it are sent.
-pub client-bytes : (eq : List ℕ) (t : ℕ) → validityOf eq ≡ 0 → (selectBytes eq t ≡ plus eq t) ⊎ Marked eq t
-unfolding parse
-client-bytes eq t v = go (kept eq 0 (omega arith) (let a = accepted eq v in fine 0 (symbols eq) [] (a .tree) (a .parsed)))
-  where
-    go : Kept (unmarked eq) eq → (selectBytes eq t ≡ plus eq t) ⊎ Marked eq t
-    go (inl e) = inl (ap (λ (l : List ℕ). plus l t) e)
-    go (inr e) = inr (record { front = unmarked eq; mark = e; bytes = refl })
+pub client-bytes : (eq : List ℕ) (t : ℕ) → validityOf eq ≡ 0 → (packetOf 16 (narrowed eq t) ≡ plus eq t) ⊎ Marked eq t
+client-bytes eq t v =
+    ⊎-elim (λ (e : unmarked eq ≡ eq). inl (ap (λ (l : List ℕ). plus l t) e))
+    (λ (e : unmarked eq ++ (0 ∷ []) ≡ eq). inr (record { front = unmarked eq; mark = e; bytes = refl })) (kept-all eq v)
+
+-- so it is one byte longer at most than what is sent of it
+pub at-most-a-mark : (eq : List ℕ) → validityOf eq ≡ 0 → length eq ≤ length (unmarked eq) + 1
+at-most-a-mark eq v =
+    ⊎-elim (λ (e : unmarked eq ≡ eq). let k = ap length e in omega arith)
+    (λ (e : unmarked eq ++ (0 ∷ []) ≡ eq). let k = ap length e in omega (arith, length-append (unmarked eq) (0 ∷ []))) (kept-all eq v)
+
+-- the equation, the condition and AND
+pub narrowed-size : (eq : List ℕ) (t : ℕ) → length (narrowed eq t) ≡ length (unmarked eq) + 9
+narrowed-size eq t = length-append (unmarked eq) (newerBytes t ++ (1 ∷ []))

@@ -1,12 +1,12 @@
--- The last upload time given stays a 32-bit number where the clock is one. Assumes nothing.
-use mathlib.Core.Path.{_≡_, refl}
+-- Upload times are 32-bit numbers while the clock is: by each packet and each call. Assumes nothing.
 use mathlib.Core.Bool.{Bool, true, false, cond}
-use mathlib.Core.List.{List}
-use Prim.Native.Nat.{ℕ, _+_, _<_}
+use mathlib.Core.List.{List, [], _++_}
+use mathlib.Core.Option.{Option, none, some}
+use mathlib.Core.Path.{_≡_, refl}
+use Prim.Native.Nat.{ℕ, _+_, _-_, _<_}
 use native.Mathlib.Omega.{arith}
-use lib.Dec.{eqb, ltb}
-use lib.ListN.{length, take}
 use borrow.Author.Tests.{eqb-false}
+<<<<<<< HEAD
 use Rattle.session.specs.declared.state.Session.{Session}
 use Rattle.table.specs.declared.Given.{Given}
 use Rattle.table.specs.declared.Given.the-variants.{UsedUp, Next}
@@ -32,124 +32,174 @@ use Rattle.server.specs.Check as check
 use Rattle.server.specs.Turns.{putBack, actOf}
 use Rattle.server.specs.Calls.{answeredBy, heardBy, stepOf, onCheck, receiveOf, onLogin, loginOf, onLose, loseOf, dueAs, onRequest, requestOf, loginBy, requestBy, receiveBy, loseBy}
 use Rattle.history.specs.Calls.{Call, login, receive, request, lose, callOf}
+=======
+use lib.Dec.{eqb, leb, ltb}
+use lib.ListN.{length}
+use Rattle.packet.specs.Frame.{Event, packet, too-long}
+use Rattle.header.specs.Header.{verdict}
+use Rattle.equation.specs.Answer.{validityOf}
+use Rattle.table.specs.Given.{blocksFor, mostGiven}
+use Rattle.session.specs.declared.reply.Answer.the-variants as answer
+use Rattle.session.specs.Reply.{told}
+use Rattle.decide.specs.Words.{wordAt}
+use Rattle.calls.specs.Call.{Call, login, receive, request, lose}
+use Rattle.model.specs.State.{File, Uplink, noUpload, receiving, ignoring, Downlink, noDownload, sending, ended, aborting, Session, withHeld, Model, sessionAt}
+use Rattle.model.specs.State.{inSession, Turn, Stepped, stepped}
+use Rattle.model.specs.Files.{find, free, uploading}
+use Rattle.model.specs.Uplink.{uploadNew, uploadContinued, onUploadCmd, dataTo, onData, timeAt, dataEndTo, onDataEnd}
+use Rattle.model.specs.Downlink.{destinationsIn, downloadOf, downloadNumbered, onDownloadCmd, onDirCmd, dataDue, onRequest, onDlAckCmd, onDlNakCmd, onSelectCmd}
+use Rattle.model.specs.Step.{ifNoUpload, ifNoDownload, byType, onPacket, endsIn, onEvent, refusal, unless, step}
+>>>>>>> paging
 use Rattle.paging.specs.Paging.{Clocked}
 
--- a time of 32 bits
-abbrev Small : Turn → Type 0
-Small t = t .last .time < 4294967296
+abbrev Small : Model → Type 0
+Small m = m .lastTime < 4294967296
 
-by-test : (b : Bool) (t u : Turn) → Small t → Small u → Small (cond b t u)
-by-test true t u h k = h
-by-test false t u h k = k
+-- the next time: the last one was not the largest
+timed : (clock last : ℕ) → clock < 4294967296 → last < 4294967296 → (last ≡ mostGiven → ⊥) → timeAt clock last < 4294967296
+timed clock last h k z = go (ltb clock (last + 1))
+  where
+    go : (b : Bool) → cond b (last + 1) clock < 4294967296
+    go true = omega (arith, z)
+    go false = h
 
--- ---- the acts
+either : (b : Bool) (x y : Turn) → Small (x .after) → Small (y .after) → Small (cond b x y .after)
+either true x y p q = p
+either false x y p q = q
 
-module _ (s : Session) (last : Last) (small : last .time < 4294967296) where
-  begun-small : (b : Begun) (number : ℕ) → Small (upload.begunTurn b s last number)
-  unfolding upload.begunTurn
-  begun-small (Refused n) number = small
-  begun-small (Started place) number = small
-
-  begin-small : (g : Given) (size : ℕ) (map owner table : List ℕ) → Small (upload.beginWith g s last size map owner table .turn)
-  unfolding upload.beginWith upload.begunAs
-  begin-small UsedUp size map owner table = small
-  begin-small (Next number) size map owner table = begun-small (files.beginOf map owner table (last .number) size .answer) number
-
-  stored-small : (n place offset received : ℕ) → Small (upload.storedAs n s last place offset received)
-  unfolding upload.storedAs
-  stored-small n place offset received = by-test (eqb n 0) _ _ small small
-
-  store-small : (place offset received size : ℕ) (info disk owner table : List ℕ)
-      → Small (upload.storeTurn s last place offset received size info disk owner table .turn)
-  unfolding upload.storeTurn upload.appendedAs
-  store-small place offset received size info disk owner table = go (ltb (length info) size) refl
+-- what leaves the last time as it was
+module _ (m : Model) (i : ℕ) (small : Small m) where
+  upload-small : (info : List ℕ) → Small (onUploadCmd m i info .after)
+  unfolding onUploadCmd uploadNew
+  upload-small info =
+      either (eqb (length info) 8) _ _
+      (either (eqb (wordAt info 0) 0) _ _
+      (either (eqb (m .lastNumber) mostGiven) _ _ small
+      (either (ltb (length (m .files)) (m .places)) _ _ (either (leb (blocksFor (wordAt info 4)) (free m)) _ _ small small) small))
+      (continued (find (wordAt info 0) (m .files)) (wordAt info 0) (wordAt info 4)))
+      small
     where
-      go : (b : Bool) → ltb (length info) size ≡ b → Small (upload.storeTurn s last place offset received size info disk owner table .turn)
-      go true e = rw e small
-      go false e = rw e (stored-small (files.appendOf disk owner table place (take size info) .answer) place offset (upload.grown received size))
+      continued : (f : Option File) (n size : ℕ) → Small (uploadContinued f m i n size .after)
+      continued none n size = unfold uploadContinued in small
+      continued (some f) n size =
+          unfold uploadContinued in
+          either (eqb (f .time) 0) _ _ (either (eqb (f .size) size) _ _ (either (uploading (m .sessions) n) _ _ small small) small) small
 
-  accepted-small : (n time : ℕ) → time < 4294967296 → Small (upload.acceptedAs n s last time)
-  unfolding upload.acceptedAs
-  accepted-small n time h = by-test (eqb n 0) _ _ h small
-
-  finish-small : (place clock : ℕ) (disk map owner table : List ℕ) → clock < 4294967296
-      → Small (upload.finishTurn s last place clock disk map owner table .turn)
-  unfolding upload.judgedAt upload.timed upload.finishAs upload.withDisk upload.withBlocks upload.discardTurn upload.acceptTurn
-  finish-small place clock disk map owner table c =
-      go (eqb (checkOf disk owner table place) 0) refl (eqb (last .time) 4294967295) refl (ltb clock (last .time + 1)) refl
+  data-small : (u : Uplink) (info : List ℕ) → Small (onData u m i info .after)
+  unfolding onData dataTo
+  data-small noUpload info = small
+  data-small (receiving n) info = go (find n (m .files))
     where
-      go : (a : Bool) → eqb (checkOf disk owner table place) 0 ≡ a → (b : Bool) → eqb (last .time) 4294967295 ≡ b
-          → (d : Bool) → ltb clock (last .time + 1) ≡ d
-          → Small (upload.finishTurn s last place clock disk map owner table .turn)
-      go false e b f d h = rw e small
-      go true e true f d h = rw (e, f) small
-      go true e false f true h =
-          rw (e, f, h)
-          (accepted-small (completeOf disk owner table place (last .time + 1) .answer) (last .time + 1)
-          (omega (arith, eqb-false (last .time) 4294967295 f)))
-      go true e false f false h = rw (e, f, h) (accepted-small (completeOf disk owner table place clock .answer) clock c)
+      go : (f : Option File) → Small (dataTo f m i n info .after)
+      go none = small
+      go (some f) = either (ltb (f .size) (length (f .bytes) + length info)) _ _ small small
+  data-small ignoring info = small
 
-  selected-small : (r : Selects) → Small (download.selectedAs s last r .turn)
-  unfolding download.selectedAs
-  selected-small r = go (eqb (r .answer .refused) 0) refl
+  download-small : (s : Session) (info : List ℕ) → Small (onDownloadCmd m i s info .after)
+  unfolding onDownloadCmd downloadNumbered
+  download-small s info =
+      either (eqb (length info) 9) _ _
+      (either (eqb (wordAt info 0) 0) _ _ (either (ltb (s .next) (length (s .selected))) _ _ (file _ _ _ _ _) small) (file _ _ _ _ _))
+      small
     where
-      go : (b : Bool) → eqb (r .answer .refused) 0 ≡ b → Small (download.selectedAs s last r .turn)
-      go true e = rw e small
-      go false e = rw e small
+      file : (f : Option File) (n offset lock passed : ℕ) → Small (downloadOf f m i n offset lock passed .after)
+      file none n offset lock passed = unfold downloadOf in small
+      file (some f) n offset lock passed =
+          unfold downloadOf in
+          either (eqb (f .time) 0) _ _ small
+          (either (ltb (length (f .bytes)) offset) _ _ small (either (ltb (destinationsIn (f .bytes)) lock) _ _ small small))
 
-  select-small : (most size : ℕ) (info disk owner table selected : List ℕ)
-      → Small (download.selectTurn s last most size info disk owner table selected .turn)
-  unfolding download.selectTurn
-  select-small most size info disk owner table selected = go (ltb (length info) size) refl
+  ack-small : (d : Downlink) (info : List ℕ) → Small (onDlAckCmd d m i info .after)
+  unfolding onDlAckCmd
+  ack-small noDownload info = small
+  ack-small (sending n at) info = small
+  ack-small (ended n) info = small
+  ack-small (aborting n) info = small
+
+  nak-small : (d : Downlink) → Small (onDlNakCmd d m i .after)
+  unfolding onDlNakCmd
+  nak-small noDownload = small
+  nak-small (sending n at) = small
+  nak-small (ended n) = small
+  nak-small (aborting n) = small
+
+  select-small : (info : List ℕ) → Small (onSelectCmd m i info .after)
+  unfolding onSelectCmd
+  select-small info = either (eqb (validityOf info) 0) _ _ small small
+
+  due-small : (d : Downlink) (out : List ℕ) → Small (onRequest d m i out .after)
+  unfolding onRequest dataDue
+  due-small noDownload out = small
+  due-small (sending n at) out = go (find n (m .files))
     where
-      go : (b : Bool) → ltb (length info) size ≡ b → Small (download.selectTurn s last most size info disk owner table selected .turn)
-      go true e = rw e small
-      go false e = rw e (selected-small (selectOf (take size info) disk owner table selected most))
+      pick : (b : Bool) (x y : Stepped) → Small (x .after) → Small (y .after) → Small (cond b x y .after)
+      pick true x y p q = p
+      pick false x y p q = q
 
-  send-small : (place offset lock passed : ℕ) (disk owner table : List ℕ)
-      → Small (download.beginTurn s last place offset lock passed disk owner table)
-  unfolding download.beginTurn
-  send-small place offset lock passed disk owner table = go (ltb (destinationsAt disk owner table place) lock) refl
+      go : (f : Option File) → Small (dataDue f m i n at out .after)
+      go none = small
+      go (some f) = pick (ltb at (length (f .bytes))) _ _ small small
+  due-small (ended n) out = small
+  due-small (aborting n) out = small
+
+  no-upload : (u : Uplink) (x y : Turn) → Small (x .after) → Small (y .after) → Small (ifNoUpload u x y .after)
+  no-upload noUpload x y p q = p
+  no-upload (receiving n) x y p q = q
+  no-upload ignoring x y p q = q
+
+  no-download : (d : Downlink) (x y : Turn) → Small (x .after) → Small (y .after) → Small (ifNoDownload d x y .after)
+  no-download noDownload x y p q = p
+  no-download (sending n at) x y p q = q
+  no-download (ended n) x y p q = q
+  no-download (aborting n) x y p q = q
+
+  -- DATA_END gives a time
+  end-small : (u : Uplink) (clock : ℕ) → clock < 4294967296 → Small (onDataEnd u m i clock .after)
+  unfolding onDataEnd dataEndTo
+  end-small noUpload clock h = small
+  end-small (receiving n) clock h = go (find n (m .files))
     where
-      go : (b : Bool) → ltb (destinationsAt disk owner table place) lock ≡ b
-          → Small (download.beginTurn s last place offset lock passed disk owner table)
-      go true e = rw e small
-      go false e = rw e small
+      given : (b : Bool) → eqb (m .lastTime) mostGiven ≡ b → (x y : Turn) → Small (x .after) → (b ≡ false → Small (y .after)) → Small (cond b x y .after)
+      given true e x y p q = p
+      given false e x y p q = q refl
 
-  confirm-small : (place destination : ℕ) (disk owner table : List ℕ) → Small (download.confirmTurn s last place destination disk owner table)
-  unfolding download.confirmTurn
-  confirm-small place destination disk owner table = go (ltb (destinationsAt disk owner table place) destination) refl
-    where
-      go : (b : Bool) → ltb (destinationsAt disk owner table place) destination ≡ b
-          → Small (download.confirmTurn s last place destination disk owner table)
-      go true e = rw e small
-      go false e = rw e small
+      go : (f : Option File) → Small (dataEndTo f m i n clock .after)
+      go none = small
+      go (some f) =
+          either (eqb (verdict (f .bytes) (f .size)) 0) _ _
+          (given (eqb (m .lastTime) mostGiven) refl _ _ small (λ e. timed clock (m .lastTime) h small (eqb-false (m .lastTime) mostGiven e)))
+          small
+  end-small ignoring clock h = small
 
-  carry-small : (a : Act) (clock most size : ℕ) (info : List ℕ) (m : Mem) → clock < 4294967296
-      → Small (carryOut a s last clock most size info m .turn)
-  unfolding carryOut onFrees onWrites onMoves onChooses download.closeTurn upload.discardTurn
-  carry-small act.Close clock most size info m c = small
-  carry-small act.Ignore clock most size info m c = small
-  carry-small (act.Tell r) clock most size info m c = small
-  carry-small (act.Begin n) clock most size info m c = begin-small (nextNumber (last .number)) n (m .map) (m .owner) (m .table)
-  carry-small (act.Resume place number received) clock most size info m c = small
-  carry-small (act.Store place offset received) clock most size info m c = store-small place offset received size info (m .disk) (m .owner) (m .table)
-  carry-small (act.Overrun place) clock most size info m c = small
-  carry-small act.Stop clock most size info m c = small
-  carry-small (act.Finish place) clock most size info m c = finish-small place clock (m .disk) (m .map) (m .owner) (m .table) c
-  carry-small act.Select clock most size info m c = select-small most size info (m .disk) (m .owner) (m .table) (m .selected)
-  carry-small (act.Send place offset lock passed) clock most size info m c = send-small place offset lock passed (m .disk) (m .owner) (m .table)
-  carry-small (act.Confirm place destination) clock most size info m c = confirm-small place destination (m .disk) (m .owner) (m .table)
-  carry-small (act.End r) clock most size info m c = small
-  carry-small (act.Abort place) clock most size info m c = small
+  packet-small : (clock kind : ℕ) (info : List ℕ) → clock < 4294967296 → Small (onPacket m i clock kind info .after)
+  unfolding byType onDirCmd
+  packet-small clock kind info h =
+      either (eqb kind 0) _ _ (data-small (sessionAt m i .up) info)
+      (either (eqb kind 1) _ _ (either (eqb (length info) 0) _ _ (end-small (sessionAt m i .up) clock h) small)
+      (either (eqb kind 3) _ _ (no-upload (sessionAt m i .up) _ _ (upload-small info) small)
+      (either (eqb kind 8) _ _ (no-download (sessionAt m i .down) _ _ (download-small (sessionAt m i) info) small)
+      (either (eqb kind 12) _ _ (ack-small (sessionAt m i .down) info)
+      (either (eqb kind 13) _ _ (either (eqb (length info) 0) _ _ (nak-small (sessionAt m i .down)) small)
+      (either (eqb kind 14) _ _ (no-download (sessionAt m i .down) _ _ small small)
+      (either (eqb kind 15) _ _ (no-download (sessionAt m i .down) _ _ small small)
+      (either (eqb kind 16) _ _ (no-download (sessionAt m i .down) _ _ (select-small info) small) small))))))))
 
--- ---- the calls
+event-small : (e : Option Event) (m : Model) (i clock : ℕ) (held input out : List ℕ) → Small m → clock < 4294967296
+    → Small (onEvent e m i clock held input out .after)
+unfolding onEvent
+event-small none m i clock held input out s h = s
+event-small (some too-long) m i clock held input out s h = s
+event-small (some (packet kind info)) m i clock held input out s h = packet-small (inSession i (withHeld []) m) i s clock kind info h
 
-module _ (sv : Server) (l : Lent) (small : sv .last .time < 4294967296) where
-  heard-small : (i clock : ℕ) (input out : List ℕ) → clock < 4294967296 → stepOf sv i clock input l out .done .server .last .time < 4294967296
-  unfolding stepOf heardBy answeredBy actOf putBack
-  heard-small i clock input out c = carry-small _ (sv .last) small _ clock (sv .most) _ _ _ c
+unless-small : (n : ℕ) (m : Model) (out : List ℕ) (x : Stepped) → Small m → Small (x .after) → Small (unless n m out x .after)
+unfolding unless
+unless-small n m out x s h = go (eqb n 0)
+  where
+    go : (b : Bool) → Small (cond b x (stepped (told (answer.Refused n) out) m) .after)
+    go true = h
+    go false = s
 
+<<<<<<< HEAD
   receive-small : (k : Check) (clock : ℕ) (input out : List ℕ) → clock < 4294967296
       → onCheck k sv l out clock input .done .server .last .time < 4294967296
   unfolding onCheck
@@ -178,3 +228,15 @@ module _ (sv : Server) (l : Lent) (small : sv .last .time < 4294967296) where
   call-small (receive session clock input out) k = receive-small (check.checkOf sv l session true (length out)) clock input out k
   call-small (request session out) k = request-small (check.checkOf sv l session true (length out)) out
   call-small (lose session) k = lose-small (check.checkOf sv l session true 258) (l .selected) (l .held)
+=======
+-- THEOREM
+pub step-small : (m : Model) (c : Call) → Small m → Clocked c → Small (step m c .after)
+unfolding step
+step-small m (login session clock out) s h = unless-small (refusal m session false (length out)) m out _ s s
+step-small m (receive session clock input out) s h =
+    unless-small (refusal m session true (length out)) m out _ s
+    (event-small (endsIn (sessionAt m (session - 1) .held ++ input)) m (session - 1) clock (sessionAt m (session - 1) .held) input out s h)
+step-small m (request session out) s h =
+    unless-small (refusal m session true (length out)) m out _ s (due-small m (session - 1) s (sessionAt m (session - 1) .down) out)
+step-small m (lose session) s h = unless-small (refusal m session true 258) m [] _ s s
+>>>>>>> paging

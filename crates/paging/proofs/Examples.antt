@@ -1,6 +1,5 @@
 -- The examples P1 to P12 of document 01, "proved together, by one statement": by computation. Assumes nothing.
-use mathlib.Core.Path.{_≡_, refl}
-use mathlib.Core.List.{map}
+use mathlib.Core.Path.{refl}
 use Rattle.numbers.specs.Numbers.{number}
 use Rattle.packet.specs.Packet.{packetOf}
 use Rattle.packet.specs.Machine.{called, call}
@@ -15,12 +14,30 @@ use Rattle.equation.specs.Tree.{pushed, joined, result, bind, run, parse}
 use Rattle.equation.specs.Answer.{refusal, validityOf}
 use Rattle.session.specs.Reply.{tell, answered}
 use Rattle.decide.specs.Decide.{onPacket, onFrame, decideOf}
-use Rattle.paging.specs.Examples.{smallest, table, got, want}
+use Rattle.paging.specs.Examples.{smallest, Examples}
 
-pub examples : map got table ≡ map want table
+pub examples : Examples
 unfolding
-    table smallest packetOf called call judged byte withoutPacket answerBy answerOf receiveOf lower fits anyTail one matches headOf after walk
-    marked fieldsOf listed every countIf bytesOf lengthIn lengthFits ordered proper complete number sumOf checkItems checkValues verdict width
-    starsIn goodText goodNumber good connectiveOf relationAt tokenOf follow symbolsPast pushed joined result bind run parse refusal validityOf
-    tell answered onPacket onFrame decideOf
-examples = refl
+    smallest packetOf called call judged byte withoutPacket answerBy answerOf receiveOf lower fits anyTail one matches headOf after walk marked fieldsOf
+    listed every countIf bytesOf lengthIn lengthFits ordered proper complete number sumOf checkItems checkValues verdict width starsIn goodText
+    goodNumber good connectiveOf relationAt tokenOf follow symbolsPast pushed joined result bind run parse refusal validityOf tell answered onPacket
+    onFrame decideOf
+examples =
+    record {
+      p1 = refl;
+      p2 = refl;
+      p2-closes = refl;
+      p3 = refl;
+      p4 = refl;
+      p5 = refl;
+      p6 = refl;
+      p7 = refl;
+      p7-later = refl;
+      p8 = refl;
+      p8-short = refl;
+      p9 = refl;
+      p10 = refl;
+      p10-empty = refl;
+      p11 = refl;
+      p12 = refl;
+    }

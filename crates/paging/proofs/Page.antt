@@ -1,38 +1,24 @@
--- The answer to the client's bytes: the page is the oldest MAXSEL matching complete files above its time. Assumes nothing.
+-- The answer to a call that asks: the page is the oldest MAXSEL matching complete files above its time. Assumes nothing.
 use mathlib.Core.Path.{_≡_, refl, sym, ap, _∙_}
-use mathlib.Core.Bool.{_&&_}
-use mathlib.Core.List.{List, [], _++_, append-assoc}
-use Prim.Native.Nat.{ℕ, _+_, _-_, _*_, _≤_, _<_}
+use mathlib.Core.Bool.{Bool, true, false, cond}
+use mathlib.Core.List.{List, [], _++_}
+use mathlib.Core.Option.{Option, none, some}
+use Prim.Native.Nat.{ℕ, _+_, _-_, _≤_, _<_}
 use native.Mathlib.Omega.{arith}
 use lib.Dec.{ltb}
-use lib.ListN.{length, getD, take, drop, replicate, length-map, take-append-drop}
-use lib.Seq.{take-take, take-at, drop-at, getD-set-same, length-take-le}
-use Rattle.numbers.specs.Numbers.{number, two, four}
+use lib.ListN.{length, set, take, drop, length-map, length-take, List·getD-eq-default}
+use lib.Seq.{getD-set-same, set-set}
+use borrow.Author.Tests.{eq-eqb, le-ltb, ltb-false}
+use Rattle.numbers.specs.Numbers.{two}
 use Rattle.packet.specs.Packet.{packetOf}
-use Rattle.numbers.proofs.NumberLaws.{number-four}
-use Rattle.header.specs.Items.{fieldsOf}
-use Rattle.header.specs.Header.{bytesOf}
-use Rattle.equation.specs.declared.evaluation.Truth.{Truth}
-use Rattle.equation.specs.declared.evaluation.Truth.the-variants.{No, Yes, Refused}
+use Rattle.packet.specs.Frame.{Event, packet, too-long, announcedIn, packetIn}
 use Rattle.equation.specs.Newer.{narrowed}
-use Rattle.equation.specs.Answer.{validityOf, answerOf}
-use Rattle.equation.specs.Answer as equation
-use Rattle.equation.proofs.Append.{narrowed-length, narrowed-valid}
+use Rattle.equation.specs.Answer.{validityOf}
+use Rattle.equation.proofs.Append.{narrowed-valid}
 use Rattle.equation.proofs.Selects.{narrowed-selects}
-use Rattle.table.specs.declared.Key.the-variants.{Time}
-use Rattle.table.specs.Table.{files, times, uploaded}
-use Rattle.table.specs.Order.{inOrder}
-use Rattle.table.proofs.Records.{key-at, uploaded-file}
-use Rattle.table.proofs.Ordering.{in-order-above}
-use Rattle.files.specs.View.{View, recordAt, bytesAt}
-use Rattle.files.specs.Selection.{meetsAt, numbersAt, chosen}
-use Rattle.files.specs.Selection as selection
-use Rattle.files.proofs.Choice.{chosen-most}
-use Rattle.files.proofs.Selected.{meets-is}
-use Rattle.session.specs.declared.state.Session.{Session}
-use Rattle.session.specs.State.{closedSession, withHeld, withSelection}
-use Rattle.server.specs.declared.Server.{Server}
+use Rattle.header.specs.Items.{fieldsOf}
 use Rattle.session.specs.declared.reply.Answer.the-variants as answer
+<<<<<<< HEAD
 use Rattle.session.specs.declared.reply.Reply.the-variants.{Selected}
 use Rattle.carry.specs.declared.turn.Turn.{Turn}
 use Rattle.carry.specs.Turn.{turnOf}
@@ -47,113 +33,126 @@ use Rattle.paging.proofs.Stamp.{First}
 use Rattle.paging.proofs.Asking.{goes, within, slices-left, steps}
 use Rattle.paging.proofs.Facts.{Facts, facts}
 use Rattle.paging.proofs.Above.{passing-same, order-newer}
+=======
+use Rattle.session.specs.declared.reply.Reply.the-variants as reply
+use Rattle.session.specs.Reply.{told, tell}
+use Rattle.calls.specs.Call.{receive}
+use Rattle.model.specs.State as state
+use Rattle.model.specs.State.{File, noDownload, Downlink, Session, closedSession, withSelection, withHeld, Model, sessionAt, inSession}
+use Rattle.model.specs.State.{Turn, turn, closing, Stepped, stepped}
+use Rattle.model.specs.Files.{matching, byTime, selection}
+use Rattle.model.specs.Downlink.{onSelectCmd}
+use Rattle.model.specs.Step.{ifNoDownload, byType, onPacket, endsIn, onEvent, refusal, step}
+use Rattle.steps.proofs.Cutting.{link-held}
+use Rattle.steps.proofs.Uplink.{open-refusal, goes}
+use Rattle.steps.proofs.Downloads.{by-lt}
+use Rattle.paging.specs.Client.{Asks, pageOf, numbersOf, Answers}
+use Rattle.paging.proofs.Bytes.{at-most-a-mark, narrowed-size}
+use Rattle.paging.proofs.Files.{in-find, above-by-time, matching-above}
+use Rattle.paging.proofs.Known.{Known, found-low}
+>>>>>>> paging
 
--- ---- files whose header has the upload time of their record
+-- an open session is there
+pub open-there : (m : Model) (i : ℕ) → sessionAt m i .linked ≡ true → i < length (m .sessions)
+open-there m i e =
+    by-lt i (length (m .sessions)) (λ k. k)
+    (λ k. absurd (closed (sym (ap (λ (s : Session). s .linked) (List·getD-eq-default (m .sessions) closedSession k)) ∙ e)))
+  where
+    closed : false ≡ true → ⊥
+    closed z = let w : _≡_ {A = ℕ} 0 1 = cc in omega arith
 
-pub record Stamped (v : View) : Type 0 where
-  pub small : uploaded (v .file) < 4294967296
-  pub upload : First 18 (four (uploaded (v .file))) (fieldsOf (v .bytes))
+-- a packet's information is at most 256 bytes
+pub ends-short : (bytes : List ℕ) (kind : ℕ) (info : List ℕ) → endsIn bytes ≡ some (packet kind info) → length info ≤ 256
+unfolding endsIn
+ends-short bytes kind info e =
+    go (ltb (length bytes) 2) (ltb 256 (announcedIn bytes)) refl (ltb (length bytes) (2 + announcedIn bytes)) e
+  where
+    no : {A : Type 0} → none ≡ some (packet kind info) → A
+    no z = let w : _≡_ {A = ℕ} 0 1 = cc in absurd (omega arith)
 
--- so a reader of the header finds it
-pub stamp-read : (v : View) → Stamped v → number (bytesOf 18 (fieldsOf (v .bytes))) ≡ uploaded (v .file)
-stamp-read v s = ap number (s .upload .own) ∙ number-four (uploaded (v .file)) (s .small)
+    long : {A : Type 0} → some too-long ≡ some (packet kind info) → A
+    long z = let w : _≡_ {A = ℕ} 0 1 = cc in absurd (omega arith)
 
-abbrev pub AllStamped : Files → Type 0
-AllStamped fs = (p : ℕ) → Complete (fs p) → Stamped (fs p)
+    go : (a b : Bool) → ltb 256 (announcedIn bytes) ≡ b → (c : Bool)
+        → cond a none (cond b (some too-long) (cond c none (some (packetIn bytes)))) ≡ some (packet kind info) → length info ≤ 256
+    go true b q c e = no e
+    go false true q c e = long e
+    go false false q true e = no e
+    go false false q false e =
+        let z : take (announcedIn bytes) (drop 2 bytes) ≡ info = cc in
+        let w = ap length (sym z) ∙ length-take (announcedIn bytes) (drop 2 bytes) in
+        omega (arith, ltb-false 256 (announcedIn bytes) q)
 
--- both layers' test of an answer
-yes-same : (r : Truth) → selection.isYes r ≡ equation.isYes r
-unfolding selection.isYes equation.isYes
-yes-same No = refl
-yes-same Yes = refl
-yes-same (Refused n) = refl
+pub packet-size : (kind : ℕ) (info : List ℕ) → 2 + length info ≡ length (packetOf kind info)
+unfolding packetOf
+packet-size kind info = omega arith
 
--- ---- the selection for the narrowed equation
-
-module _ (sv : Server) (l : Lent) (g : Facts sv l) (eq : List ℕ) (t : ℕ) (valid : validityOf eq ≡ 0) (room : length eq + 9 ≤ 256)
-    (small : t < 4294967296)
-    (st : AllStamped (filesOf sv l)) where
-  narrow-short : length (narrowed eq t) ≤ 256
-  narrow-short = omega (arith, narrowed-length eq t)
-
-  -- a complete file meets it if it matches the equation and is newer
-  meets-newer : (p : ℕ) → 0 < uploaded (recordAt (tablePart sv l) p)
-      → meetsAt (narrowed eq t) (l .disk) (ownerPart sv l) (tablePart sv l) p
-      ≡ matching eq (filesOf sv l p) && ltb t (getD (times (files (tablePart sv l))) p 0)
-  meets-newer p c =
-      let s = st p c in
-      meets-is (mapPart sv l) (narrowed eq t) (l .disk) (ownerPart sv l) (tablePart sv l) (sv .last .number) (sv .last .time) (g .sound) (g .sizes)
-      narrow-short p (uploaded-file (recordAt (tablePart sv l) p) (λ z. omega arith))
-      ∙ yes-same (answerOf (narrowed eq t) (bytesAt (l .disk) (ownerPart sv l) (tablePart sv l) p))
-      ∙ narrowed-selects t (uploaded (recordAt (tablePart sv l) p)) (fieldsOf (bytesAt (l .disk) (ownerPart sv l) (tablePart sv l) p))
-      (s .upload .more) small (s .small)
-      (s .upload .first) eq valid (omega arith)
-      ∙ ap (λ (u : ℕ). matching eq (filesOf sv l p) && ltb t u) (sym (key-at Time (files (tablePart sv l)) p))
-
-  pub chosen-newer : chosen (sv .most) (narrowed eq t) (l .disk) (ownerPart sv l) (tablePart sv l) ≡ take (sv .most) (newerPlaces sv l eq t)
-  chosen-newer =
-      ap (take (sv .most))
-      (passing-same (meetsAt (narrowed eq t) (l .disk) (ownerPart sv l) (tablePart sv l))
-      (λ p. matching eq (filesOf sv l p) && ltb t (getD (times (files (tablePart sv l))) p 0)) (inOrder 0 (files (tablePart sv l)))
-      (λ p m. meets-newer p (in-order-above 0 (files (tablePart sv l)) p m))
-      ∙ order-newer (λ p. matching eq (filesOf sv l p)) t (files (tablePart sv l)))
-
--- ---- what is read in the selections afterwards
-
--- the first numbers of a part that was written
-written-part : (a n count : ℕ) (numbers rest sel : List ℕ) → a ≤ length sel → count ≤ n → length numbers ≡ count
-    → take count (part a n (withPart a n (numbers ++ rest) sel)) ≡ numbers
-written-part a n count numbers rest sel h k e =
-    take-take count n (drop a (withPart a n (numbers ++ rest) sel)) k
-    ∙ ap (take count) (drop-at (take a sel) ((numbers ++ rest) ++ drop n (drop a sel)) a (length-take-le a sel h)
-    ∙ append-assoc numbers rest (drop n (drop a sel)))
-    ∙ take-at numbers (rest ++ drop n (drop a sel)) count e
-
--- ---- THEOREM
-
-module _ (sv : Server) (l : Lent) (good : Good sv l) (st : AllStamped (filesOf sv l)) (eq : List ℕ) (valid : validityOf eq ≡ 0)
-    (room : length eq + 9 ≤ 256)
-    (t : ℕ) (small : t < 4294967296) (session clock : ℕ) (out : List ℕ) (may : MayAsk sv session out) where
-  g : Facts sv l
-  g = facts sv l good
-
+module _ (m : Model) (k : Known m) (eq : List ℕ) (valid : validityOf eq ≡ 0) (t : ℕ) (small : t < 4294967296) (session clock : ℕ) (input out : List ℕ)
+    (a : Asks m eq t session input out) where
   abbrev i : ℕ
   i = session - 1
 
   abbrev q : List ℕ
   q = narrowed eq t
 
-  index : i < sv .sessions
-  index = omega (arith, may .first, may .last)
+  abbrev held : List ℕ
+  held = sessionAt m i .held
 
-  some : 1 ≤ sv .most
-  some = g .some
+  abbrev page : List ℕ
+  page = numbersOf (pageOf m eq t)
 
-  few : sv .most ≤ 50
-  few = g .few
+  abbrev M : Model
+  M = inSession i (withHeld []) m
 
-  names : i * sv .most + sv .most ≤ length (l .selected)
-  names = within i (sv .most) (sv .sessions) (length (l .selected)) index (g .names)
+  there : i < length (m .sessions)
+  there = open-there m i (a .idle .linked)
 
-  packets : i * 258 + 258 ≤ length (l .held)
-  packets = within i 258 (sv .sessions) (length (l .held)) index (g .packets)
+  fits : length eq + 9 ≤ 2047
+  fits = omega (arith, ends-short (held ++ input) 16 q (a .sends), narrowed-size eq t, at-most-a-mark eq valid)
 
-  short : length q ≤ 256
-  short = omega (arith, narrowed-length eq t)
+  -- what is selected
+  chosen : selection (m .maxsel) q (m .files) ≡ page
+  chosen =
+      ap (λ (fs : List File). numbersOf (take (m .maxsel) fs))
+      (ap byTime
+      (matching-above t eq q (m .files)
+      (λ f inside complete.
+      let found = in-find 0 (m .lastNumber) (m .lastTime) (m .files) f (k .sound .numbers) inside in
+      narrowed-selects t (f .time) (fieldsOf (f .bytes)) [] small (omega (arith, k .small, found-low m (k .sound) (f .number) f found .1))
+      (k .stamped (f .number) f found complete) eq valid fits))
+      ∙ above-by-time t (matching eq (m .files)))
 
-  accepted : validityOf q ≡ 0
-  accepted = narrowed-valid eq t valid (omega arith)
+  -- the packet
+  on-select : (x : Model) → sessionAt x i .down ≡ noDownload → onPacket x i clock 16 q
+      ≡ turn (reply.Selected (length (selection (x .maxsel) q (x .files)))) (inSession i (withSelection (selection (x .maxsel) q (x .files))) x)
+  unfolding byType onSelectCmd
+  on-select x d =
+      ap (λ (y : Downlink). ifNoDownload y (onSelectCmd x i q) (closing x i)) d ∙ rw (eq-eqb (validityOf q) 0 (narrowed-valid eq t valid fits))
 
-  abbrev places : List ℕ
-  places = chosen (sv .most) q (l .disk) (ownerPart sv l) (tablePart sv l)
+  packet-is : onPacket M i clock 16 q
+      ≡ turn (reply.Selected (length page)) (inSession i (withSelection page) M)
+  packet-is =
+      on-select M (ap (λ (s : Session). s .down) (link-held m i there []) ∙ a .idle .down)
+      ∙ ap (λ (ns : List ℕ). turn (reply.Selected (length ns)) (inSession i (withSelection ns) M)) chosen
 
-  -- the turn and the slices that it leaves
-  abbrev turned : Turn
-  turned = turnOf (withSelection (withHeld (linkOf sv i) 0) (length places)) (sv .last) (Selected (length places))
+  -- the call
+  step-is : step m (receive session clock input out)
+      ≡ stepped (tell (reply.Selected (length page)) (2 + length q - length held) out) (inSession i (withSelection page) M)
+  unfolding step onEvent
+  step-is =
+      goes (refusal m session true (length out)) m out (onEvent (endsIn (held ++ input)) m i clock held input out)
+      (open-refusal m session (length out) (a .idle .from-one) there (a .idle .linked) ∙ ap (λ (b : Bool). cond b 32 0) (le-ltb (length out) 258 (a .room)))
+      ∙ ap (λ (e : Option Event). onEvent e m i clock held input out) (a .sends)
+      ∙ ap (λ (x : Turn). stepped (tell (x .reply) (2 + length q - length held) out) (x .after)) packet-is
 
-  abbrev slices : Lent
-  slices = slices-left sv l i clock q out some few names packets short accepted (may .idle) (may .nothing-held) (may .room)
+  -- both changes of the session at once
+  after-is : inSession i (withSelection page) M ≡ inSession i (λ s. withSelection page (withHeld [] s)) m
+  after-is =
+      ap (λ (ks : List Session). state.model m (m .lastNumber) (m .lastTime) (m .files) ks)
+      (set-set (m .sessions) i (withHeld [] (sessionAt m i)) (withSelection page (sessionAt M i))
+      ∙ ap (λ (s : Session). set (m .sessions) i (withSelection page s)) (link-held m i there []))
 
+<<<<<<< HEAD
   whole : callOf sv l (asking eq t session clock out)
       ≡ outcome (doneWith (withTurn sv i turned) (answer.Sent (2 + length q) 4)) slices (packetOf 17 (two (length places)) ++ drop 4 out)
   unfolding receiveOf receiveBy onCheck
@@ -187,10 +186,19 @@ module _ (sv : Server) (l : Lent) (good : Good sv l) (st : AllStamped (filesOf s
   same-files p = rw (take-append-drop (sv .blocks) (l .owner), take-append-drop (4 * sv .files) (l .table))
 
   pub page-answer : Answers sv l eq t session clock out
+=======
+  -- THEOREM
+  pub page-answer : Answers m eq t session clock input out
+  unfolding tell
+>>>>>>> paging
   page-answer =
+      let w = ap (λ (s : Stepped). s .after) step-is ∙ after-is in
       record {
-        told = ap (λ (o : Outcome). o .done .answer) whole ∙ ap (λ (n : ℕ). answer.Sent n 4) taken;
-        sent = ap (λ (o : Outcome). o .out) whole ∙ ap (λ (n : ℕ). packetOf 17 (two n) ++ drop 4 out) count-oldest;
-        page = ap (λ (o : Outcome). pageOf (o .done .server) (o .lent) session) whole ∙ paged ∙ numbers-oldest;
-        unchanged = λ p. ap (λ (o : Outcome). filesOf (o .done .server) (o .lent) p) whole ∙ same-files p;
+        told = ap (λ (s : Stepped). s .told .answer) step-is ∙ ap (λ (n : ℕ). answer.Sent (n - length held) 4) (packet-size 16 q);
+        sent = ap (λ (s : Stepped). s .told .out) step-is
+            ∙ ap (λ (n : ℕ). packetOf 17 (two n) ++ drop 4 out) (length-map (pageOf m eq t) (λ (f : File). f .number));
+        page = ap (λ (x : Model). sessionAt x i .selected) w
+            ∙ ap (λ (s : Session). s .selected)
+            (getD-set-same (m .sessions) i (withSelection page (withHeld [] (sessionAt m i))) closedSession there);
+        after = w;
       }

@@ -1,460 +1,419 @@
 -- THEOREM (demand 3): whoever selects from upload time 0, then again above each page's newest time, until a page is shorter than MAXSEL, has been
--- given every matching file complete by then once, oldest first. That calls keep a state good, and what one call may change, are taken from
--- proofs on histories.
+-- given every matching file complete by then once, oldest first. Assumes nothing.
 use mathlib.Core.Path.{_≡_, refl, sym, ap, ap₂, _∙_, subst}
-use mathlib.Core.Bool.{Bool, true, false}
 use mathlib.Core.List.{List, [], _∷_, _++_, map, List·Memᴰ, List·Memᴰ·not-nil}
 use mathlib.Core.Logic.{_⊎_, inl, inr, ⊎-elim}
-use Prim.Native.Nat.{ℕ, _+_, _-_, _≤_, _<_}
+use mathlib.Core.Option.{some}
+use Prim.Native.Nat.{ℕ, _-_, _≤_, _<_}
 use native.Mathlib.Omega.{arith}
-use lib.Dec.{leb}
-use lib.ListN.{length, getD, take, length-map}
-use borrow.Author.Tests.{leb-true, leb-false}
+use lib.ListN.{length, take}
 use Rattle.numbers.specs.Numbers.{number}
-use Rattle.header.specs.Items.{fieldsOf}
-use Rattle.header.specs.Header.{bytesOf}
+use Rattle.numbers.proofs.NumberLaws.{number-four}
 use Rattle.equation.specs.Answer.{validityOf}
-use Rattle.table.specs.declared.File.{File}
-use Rattle.table.specs.declared.Key.the-variants.{Time, Number}
-use Rattle.table.specs.Table.{files, fileAt, uploaded, numbers, times}
-use Rattle.table.specs.Order.{inOrder, Rising}
-use Rattle.table.proofs.Records.{key-at, uploaded-file}
-use Rattle.table.proofs.Finding.{find-own}
-use Rattle.table.proofs.Ordering.{in-order-rises, in-order-above, in-order-all}
-use Rattle.files.specs.View.{View, recordAt}
-use Rattle.files.specs.Selection.{numbersAt}
-use Rattle.files.proofs.Selected.{passing-in, in-passing, passing-rises, take-rises, taken-or-later}
-use Rattle.files.proofs.Selected as selected
-use Rattle.server.specs.declared.Server.{Server}
-use Rattle.server.specs.State.{Lent, tablePart}
-use Rattle.history.specs.Calls.{Call, callOf, state, Start, legal, History, _▸_, after}
-use Rattle.history.specs.Good.{Good}
-use Rattle.history.specs.Change.{Files, Change}
-use Rattle.history.specs.Stored.{filesOf}
-use Rattle.history.proofs.Kept.{call-change}
-use Rattle.history.proofs.Histories.{good-after}
-use Rattle.paging.specs.Client.{Complete, matching, asking, MayAsk, pageOf, newerPlaces, oldest, Answers}
-use Rattle.paging.specs.Paging.{Entry, entry, entryAt, timeAt, timeOf, pageIn, newestOf, Client, begins, waits, asks, Paged, pagedBy, Allowed}
-use Rattle.paging.specs.Paging.{Finished, Clocks, Stands, EachStood, Rises, AllGiven, PageAnswer, Paging, PagingWhole}
-use Rattle.paging.proofs.Page.{AllStamped, stamp-read, page-answer}
-use Rattle.paging.proofs.Facts.{Facts, facts}
-use Rattle.paging.proofs.Growth.{New, time-grows, complete-kept, complete-new, time-given}
-use Rattle.paging.proofs.After.{after-known, after-most}
-use Rattle.paging.proofs.Entries.{map-in, in-map, map-same, map-map, taken-in, in-left, in-right, in-either, rises-append, rises-unique}
-use Rattle.paging.proofs.Entries.{newest-known, newest-most, Of, newest-is, numbersIn, rises-once}
+use Rattle.calls.specs.Call.{Call, receive, History, _▸_}
+use Rattle.model.specs.State.{File, Uplink, noUpload, receiving, ignoring, Model, empty, sessionAt}
+use Rattle.model.specs.Files.{find, matching}
+use Rattle.model.specs.Step.{step, run}
+use Rattle.model.proofs.Order.{Rising, find-in, byTime-in, byTime-back, byTime-rising, matching-in, matching-back, matching-apart}
+use Rattle.steps.specs.Parts.{sessionIn}
+use Rattle.steps.specs.Naming.{UpOk, Partial}
+use Rattle.steps.proofs.Downloads.{by-lt}
+use Rattle.steps.proofs.Naming.{by-eq}
+use Rattle.steps.proofs.Own.{own-file}
+use Rattle.paging.specs.Client.{Asks, oldestFirst, above, pageOf, numbersOf, Answers}
+use Rattle.paging.specs.Paging.{Entry, entry, entryOf, timeOf, pageIn, newestOf, Client, begins, waits, asks, Paged, pagedBy, pageFor, stateOf, Allowed}
+use Rattle.paging.specs.Paging.{Finished, Clocks, Matches, Stands, EachStood, Once, Rises, PageAnswer, Paging, PagingWhole}
+use Rattle.paging.proofs.Entries.{map-in, in-map, map-same, map-map, take-map, in-left, in-right, in-either, taken-in, rises-above, rises-from}
+use Rattle.paging.proofs.Entries.{rises-take, Beyond, taken-or-beyond, rises-append, rises-unique, newest-known}
+use Rattle.paging.proofs.Entries.{newest-most, Of, newest-is, rises-once, once-append}
+use Rattle.paging.proofs.Files.{in-find, numbers-timed, rising-entries, above-in, in-above, above-rises}
+use Rattle.paging.proofs.Known.{New, Known, found-low, new-file, complete-kept, step-grown, known, run-maxsel}
+use Rattle.paging.proofs.Page.{page-answer}
 
--- ---- the files that a page has
+-- ---- the files of a state, and a page of them
 
-module _ (sv : Server) (l : Lent) (g : Facts sv l) (eq : List ℕ) (t : ℕ) where
-  abbrev fs : List File
-  fs = files (tablePart sv l)
+module _ (m : Model) (k : Known m) (eq : List ℕ) where
+  found : (f : File) → List·Memᴰ f (m .files) → find (f .number) (m .files) ≡ some f
+  found f i = in-find 0 (m .lastNumber) (m .lastTime) (m .files) f (k .sound .numbers) i
 
-  abbrev test : ℕ → Bool
-  test p = matching eq (filesOf sv l p)
+  all-rise : Rising 0 (oldestFirst eq m)
+  all-rise =
+      byTime-rising (matching eq (m .files))
+      (matching-apart eq (m .files)
+      (numbers-timed 0 (m .lastNumber) (m .lastTime) (m .files) (k .sound .numbers)
+      (λ f g i j z e. k .apart (f .number) (g .number) f g (found f i) (found g j) z e)))
+      (λ f i. let z = matching-in eq (m .files) f i .1 .complete in omega arith)
 
-  -- the places of the page
-  abbrev pub due : List ℕ
-  due = take (sv .most) (newerPlaces sv l eq t)
+  inside : (f : File) → List·Memᴰ f (oldestFirst eq m) → List·Memᴰ f (m .files)
+  inside f i = matching-in eq (m .files) f (byTime-in (matching eq (m .files)) f i) .0
 
-  newer-rises : Rising t (times fs) (newerPlaces sv l eq t)
-  newer-rises = passing-rises (times fs) test t (inOrder t fs) (in-order-rises t fs)
+  -- an entry of a matching complete file, and back
+  stands-of : (f : File) → List·Memᴰ f (oldestFirst eq m) → Stands m eq (entryOf f)
+  stands-of f i =
+      let s = matching-in eq (m .files) f (byTime-in (matching eq (m .files)) f i) .1 in
+      let w = found f (inside f i) in
+      record {
+        matches = record { file = f; found = w; time = refl; complete = s .complete; matched = s .true-on };
+        header = ap (map number) (k .stamped (f .number) f w (s .complete))
+            ∙ ap (λ (n : ℕ). n ∷ []) (number-four (f .time) (omega (arith, k .small, found-low m (k .sound) (f .number) f w .1)));
+      }
 
-  due-rises : Rising t (times fs) due
-  due-rises = take-rises (times fs) (sv .most) t (newerPlaces sv l eq t) newer-rises
+  record In (fs : List File) (e : Entry) : Type 0 where
+    file : File
+    inside : List·Memᴰ file fs
+    same : entryOf file ≡ e
 
-  time-at : (p : ℕ) → getD (times fs) p 0 ≡ uploaded (filesOf sv l p .file)
-  time-at p = key-at Time fs p
+  of-matches : (e : Entry) → Matches m eq e → In (oldestFirst eq m) e
+  of-matches e a =
+      let i = find-in (e .number) (m .files) (a .file) (a .found) in
+      record {
+        file = a .file;
+        inside = byTime-back (matching eq (m .files)) (a .file)
+            (matching-back eq (m .files) (a .file) (i .inside) (record { complete = a .complete; true-on = a .matched }));
+        same = ap₂ entry (i .number) (a .time);
+      }
 
-  pub rises-entries : (u : ℕ) (ps : List ℕ) → Rising u (times fs) ps → Rises u (map (entryAt (filesOf sv l)) ps)
-  rises-entries u [] r = tt
-  rises-entries u (p ∷ ps) r = (
-    rw (time-at p) at (r .0),
-    subst (λ (v : ℕ). Rises v (map (entryAt (filesOf sv l)) ps)) (time-at p)
-        (rises-entries (getD (times fs) p 0) ps (r .1)),
-  )
+  -- entries with one number are one file
+  same-number : (e f : Entry) → Matches m eq e → Matches m eq f → e .number ≡ f .number → e .time ≡ f .time
+  same-number e f a b n =
+      let z : some (a .file) ≡ some (b .file) = sym (a .found) ∙ ap (λ (x : ℕ). find x (m .files)) n ∙ b .found in
+      let w : a .file ≡ b .file = cc in
+      sym (a .time) ∙ ap (λ (x : File). x .time) w ∙ b .time
 
-  -- a place among those above t
-  pub record Due (p : ℕ) : Type 0 where
-    pub above : t < uploaded (filesOf sv l p .file)
-    pub matched : matching eq (filesOf sv l p) ≡ true
+  module _ (t : ℕ) where
+    abbrev newer : List Entry
+    newer = map entryOf (above t (oldestFirst eq m))
 
-  pub newer-is : (p : ℕ) → List·Memᴰ p (newerPlaces sv l eq t) → Due p
-  newer-is p m =
-      let a = passing-in test p (inOrder t fs) m in record { above = in-order-above t fs p (a .0); matched = a .1 }
+    abbrev page : List Entry
+    page = map entryOf (pageOf m eq t)
 
-  pub due-is : (p : ℕ) → List·Memᴰ p due → Due p
-  due-is p m = newer-is p (taken-in (sv .most) (newerPlaces sv l eq t) p m)
+    page-taken : take (m .maxsel) newer ≡ page
+    page-taken = take-map entryOf (m .maxsel) (above t (oldestFirst eq m))
 
-  pub newer-all : (p : ℕ) → t < uploaded (filesOf sv l p .file) → matching eq (filesOf sv l p) ≡ true → List·Memᴰ p (newerPlaces sv l eq t)
-  newer-all p h m = in-passing test p (inOrder t fs) (in-order-all t fs (g .sound .files .times) p h) m
+    newer-rises : Rises t newer
+    newer-rises =
+        rises-from 0 t newer (rising-entries 0 (above t (oldestFirst eq m)) (above-rises 0 t (oldestFirst eq m) all-rise))
+        (λ e i.
+        let f = in-map entryOf e (above t (oldestFirst eq m)) i in
+        let a = above-in t (oldestFirst eq m) (f .of) (f .inside) .1 in
+        let s = ap (λ (x : Entry). x .time) (f .same) in
+        omega arith)
 
-  -- a matching file above t that is not in the page: the page is full, and all in it are older
-  pub record Beyond (p : ℕ) : Type 0 where
-    pub full : length due ≡ sv .most
-    pub older : (q : ℕ) → List·Memᴰ q due → uploaded (filesOf sv l q .file) < uploaded (filesOf sv l p .file)
+    page-rises : Rises t page
+    page-rises = subst (Rises t) page-taken (rises-take t (m .maxsel) newer newer-rises)
 
-  pub due-or-beyond : (p : ℕ) → t < uploaded (filesOf sv l p .file) → matching eq (filesOf sv l p) ≡ true → List·Memᴰ p due ⊎ Beyond p
-  due-or-beyond p h m =
-      ⊎-elim (λ (k : List·Memᴰ p due). inl k)
-      (λ (k : selected.Later (times fs) (sv .most) (newerPlaces sv l eq t) p).
-      inr (record { full = k .full; older = λ q i. rw (time-at q, time-at p) at (k .newer q i) }))
-      (taken-or-later (times fs) (sv .most) t (newerPlaces sv l eq t) p newer-rises (newer-all p h m))
+    page-stands : (e : Entry) → List·Memᴰ e page → Stands m eq e
+    page-stands e i =
+        let f = in-map entryOf e (pageOf m eq t) i in
+        subst (Stands m eq) (sym (f .same))
+        (stands-of (f .of) (above-in t (oldestFirst eq m) (f .of) (taken-in (m .maxsel) (above t (oldestFirst eq m)) (f .of) (f .inside)) .0))
 
--- ---- what holds of a client between its calls
+    -- a matching file above t is in the page, or the page is full of older ones
+    page-or-beyond : (e : Entry) → Matches m eq e → t < e .time → List·Memᴰ e page ⊎ Beyond (m .maxsel) newer e
+    page-or-beyond e a h =
+        let i = of-matches e a in
+        let s = ap (λ (x : Entry). x .time) (i .same) in
+        let inside : List·Memᴰ e newer =
+        subst (λ (x : Entry). List·Memᴰ x newer) (i .same)
+        (map-in entryOf (i .file) (above t (oldestFirst eq m)) (in-above t (oldestFirst eq m) (i .file) (i .inside) (omega arith))) in
+        ⊎-elim (λ (j : List·Memᴰ e (take (m .maxsel) newer)). inl (subst (λ (l : List Entry). List·Memᴰ e l) page-taken j))
+        (λ (j : Beyond (m .maxsel) newer e). inr j) (taken-or-beyond t (m .maxsel) newer e newer-rises inside)
 
-pub record Inv (sv : Server) (l : Lent) (eq : List ℕ) (t : ℕ) (given : List Entry) : Type 0 where
-  pub low : t ≤ sv .last .time
+    -- the times that the client reads for the numbers of the page
+    page-read : map (λ (n : ℕ). entry n (timeOf (find n (m .files)))) (numbersOf (pageOf m eq t)) ≡ page
+    page-read =
+        map-map (λ (n : ℕ). entry n (timeOf (find n (m .files)))) (λ (f : File). f .number) (pageOf m eq t)
+        ∙ map-same (λ (f : File). entry (f .number) (timeOf (find (f .number) (m .files)))) entryOf (pageOf m eq t)
+        (λ f i.
+        let a = above-in t (oldestFirst eq m) f (taken-in (m .maxsel) (above t (oldestFirst eq m)) f i) .0 in
+        ap (λ x. entry (f .number) (timeOf x)) (found f (inside f a)))
+
+-- ---- what holds of a client between its calls. It survives that files are removed.
+
+pub record Inv (m : Model) (eq : List ℕ) (t : ℕ) (given : List Entry) : Type 0 where
+  pub low : t ≤ m .lastTime
   pub rises : Rises 0 given
   pub top : (e : Entry) → List·Memᴰ e given → e .time ≤ t
-  pub each : (e : Entry) → List·Memᴰ e given → Stands (state sv l) eq e
-  pub all : (p : ℕ) → Complete (filesOf sv l p) → matching eq (filesOf sv l p) ≡ true → uploaded (filesOf sv l p .file) ≤ t
-      → List·Memᴰ (entryAt (filesOf sv l) p) given
+  pub once : Once given
+  -- no other file has the number of one that was given, now or later
+  pub numbered : (e : Entry) → List·Memᴰ e given → (e .number ≤ m .lastNumber) × ((f : File) → find (e .number) (m .files) ≡ some f → f .time ≡ e .time)
+  pub all : (e : Entry) → Matches m eq e → e .time ≤ t → List·Memᴰ e given
 
 -- at first it has nothing
-inv-begins : (sv : Server) (l : Lent) (eq : List ℕ) → Inv sv l eq 0 []
-inv-begins sv l eq =
+inv-begins : (m : Model) (eq : List ℕ) → Inv m eq 0 []
+inv-begins m eq =
     record {
       low = omega arith;
       rises = tt;
-      top = λ e m. absurd (List·Memᴰ·not-nil m);
-      each = λ e m. absurd (List·Memᴰ·not-nil m);
-      all = λ p c m h. absurd (omega arith);
+      top = λ e i. absurd (List·Memᴰ·not-nil i);
+      once = tt;
+      numbered = λ e i. absurd (List·Memᴰ·not-nil i);
+      all = λ e a h. absurd (a .complete (let z = a .time in omega arith));
     }
 
--- a call changes no complete file, and completes only with a later time
-module _ (sv : Server) (l : Lent) (sv′ : Server) (l′ : Lent) (change : Change (sv .last) (filesOf sv l) (sv′ .last) (filesOf sv′ l′))
-    (eq : List ℕ) where
-  stands-kept : (e : Entry) → Stands (state sv l) eq e → Stands (state sv′ l′) eq e
-  stands-kept e k =
-      let s = complete-kept (sv .last) (filesOf sv l) (sv′ .last) (filesOf sv′ l′) change (k .place) (k .complete) in
-      record {
-        place = k .place;
-        number = ap (λ (v : View). v .file .number) s ∙ k .number;
-        time = ap (λ (v : View). uploaded (v .file)) s ∙ k .time;
-        complete = subst Complete (sym s) (k .complete);
-        header = ap (λ (v : View). number (bytesOf 18 (fieldsOf (v .bytes)))) s ∙ k .header;
-        matched = ap (matching eq) s ∙ k .matched;
-      }
+-- a session uploads the file of a number, or not
+by-upload : {P : Type 0} (u : Uplink) (n : ℕ) → (u ≡ receiving n → P) → ((u ≡ receiving n → ⊥) → P) → P
+by-upload noUpload n f g = g (λ e. let z : _≡_ {A = ℕ} 0 1 = cc in omega arith)
+by-upload (receiving k) n f g = by-eq k n (λ e. f (ap receiving e)) (λ z. g (λ e. z cc))
+by-upload ignoring n f g = g (λ e. let z : _≡_ {A = ℕ} 0 1 = cc in omega arith)
 
-  inv-call : (t : ℕ) (given : List Entry) → Inv sv l eq t given → Inv sv′ l′ eq t given
+-- any call
+module _ (m : Model) (k : Known m) (eq : List ℕ) (c : Call) where
+  abbrev m′ : Model
+  m′ = step m c .after
+
+  inv-call : (t : ℕ) (given : List Entry) → Inv m eq t given → Inv m′ eq t given
   inv-call t given i =
       record {
-        low = omega (arith, i .low, time-grows (sv .last) (filesOf sv l) (sv′ .last) (filesOf sv′ l′) change);
+        low = omega (arith, i .low, step-grown m c .time);
         rises = i .rises;
         top = i .top;
-        each = λ e m. stands-kept e (i .each e m);
-        all = λ p c m h. go p c m h (complete-new (sv .last) (filesOf sv l) (sv′ .last) (filesOf sv′ l′) change p c);
+        once = i .once;
+        numbered = λ e j. (omega (arith, i .numbered e j .0, step-grown m c .number), same-file e j);
+        all = λ e a h. go e a h (new-file m k c (e .number) (a .file) (a .found) (a .complete));
       }
     where
-      go : (p : ℕ) → Complete (filesOf sv′ l′ p) → matching eq (filesOf sv′ l′ p) ≡ true → uploaded (filesOf sv′ l′ p .file) ≤ t
-          → (filesOf sv′ l′ p ≡ filesOf sv l p) ⊎ New (sv .last) (sv′ .last) (filesOf sv′ l′ p)
-          → List·Memᴰ (entryAt (filesOf sv′ l′) p) given
-      go p c m h (inl e) =
-          subst (λ (v : View). List·Memᴰ (entry (v .file .number) (uploaded (v .file))) given) (sym e)
-          (i .all p (subst Complete e c) (ap (matching eq) (sym e) ∙ m) (subst (λ (v : View). uploaded (v .file) ≤ t) e h))
-      go p c m h (inr n) = absurd (omega (arith, n .above, i .low))
+      -- a file that is being uploaded is partial, so it is none that was given
+      same-file : (e : Entry) → List·Memᴰ e given → (f : File) → find (e .number) (m′ .files) ≡ some f → f .time ≡ e .time
+      same-file e j f q =
+          by-upload (sessionAt m (sessionIn c - 1) .up) (e .number)
+          (λ o.
+          let p : Partial (e .number) (m .files) = subst (UpOk (m .files)) o (k .named .up (sessionIn c - 1)) in
+          absurd (let z = i .numbered e j .1 (p .file) (p .found) in let w = p .time in omega (arith, rises-above 0 given (i .rises) e j)))
+          (λ o. i .numbered e j .1 f (sym (own-file m c (e .number) o (i .numbered e j .0)) ∙ q))
 
--- ---- a page
+      go : (e : Entry) (a : Matches m′ eq e) → e .time ≤ t → (find (e .number) (m .files) ≡ some (a .file)) ⊎ New m (sessionIn c - 1) (e .number) (a .file)
+          → List·Memᴰ e given
+      go e a h (inl q) = i .all e (record { file = a .file; found = q; time = a .time; complete = a .complete; matched = a .matched }) h
+      go e a h (inr n) = absurd (let z = a .time in omega (arith, n .above, i .low))
 
-by-le : {P : Type 0} (a b : ℕ) → (a ≤ b → P) → (b < a → P) → P
-by-le {P} a b f g = go (leb a b) refl
-  where
-    go : (x : Bool) → leb a b ≡ x → P
-    go true e = f (leb-true a b e)
-    go false e = g (leb-false a b e)
-
-module _ (sv : Server) (l : Lent) (g : Facts sv l) (sv′ : Server) (l′ : Lent) (g′ : Facts sv′ l′)
-    (unchanged : (p : ℕ) → filesOf sv′ l′ p ≡ filesOf sv l p)
-    (st : AllStamped (filesOf sv l)) (eq : List ℕ) (t : ℕ) where
-  abbrev places : List ℕ
-  places = due sv l g eq t
-
-  abbrev page : List Entry
-  page = map (entryAt (filesOf sv′ l′)) places
-
-  same-time : (p : ℕ) → uploaded (filesOf sv′ l′ p .file) ≡ uploaded (filesOf sv l p .file)
-  same-time p = ap (λ (v : View). uploaded (v .file)) (unchanged p)
-
-  page-rises : Rises t page
-  page-rises =
-      subst (Rises t)
-      (map-same (entryAt (filesOf sv l)) (entryAt (filesOf sv′ l′)) places
-      (λ p m. ap (λ (v : View). entry (v .file .number) (uploaded (v .file))) (sym (unchanged p))))
-      (rises-entries sv l g eq t t places (due-rises sv l g eq t))
-
-  -- a file of the page
-  record Given (e : Entry) : Type 0 where
-    place : ℕ
-    inside : List·Memᴰ place places
-    same : e ≡ entryAt (filesOf sv′ l′) place
-    stands : Stands (state sv′ l′) eq e
-
-  page-is : (e : Entry) → List·Memᴰ e page → Given e
-  page-is e m =
-      let f = in-map (entryAt (filesOf sv′ l′)) e places m in
-      let d = due-is sv l g eq t (f .of) (f .inside) in
+  stands-kept : (e : Entry) → Stands m eq e → Stands m′ eq e
+  stands-kept e s =
+      let a = s .matches in
       record {
-        place = f .of;
-        inside = f .inside;
-        same = f .same;
-        stands = record {
-          place = f .of;
-          number = ap (λ (x : Entry). x .number) (sym (f .same));
-          time = ap (λ (x : Entry). x .time) (sym (f .same));
-          complete = let a = d .above in let b = same-time (f .of) in omega arith;
-          header =
-              ap (λ (v : View). number (bytesOf 18 (fieldsOf (v .bytes)))) (unchanged (f .of))
-              ∙ stamp-read (filesOf sv l (f .of)) (st (f .of) (let a = d .above in omega arith))
-              ∙ sym (same-time (f .of)) ∙ ap (λ (x : Entry). x .time) (sym (f .same));
-          matched = ap (matching eq) (unchanged (f .of)) ∙ d .matched;
+        matches = record {
+          file = a .file;
+          found = complete-kept m k c (e .number) (a .file) (a .found) (a .complete);
+          time = a .time;
+          complete = a .complete;
+          matched = a .matched;
         };
+        header = s .header;
       }
 
-  -- a matching file above t stands in the page, or the page is full of older ones
-  page-or-beyond : (p : ℕ) → matching eq (filesOf sv′ l′ p) ≡ true → t < uploaded (filesOf sv′ l′ p .file)
-      → List·Memᴰ (entryAt (filesOf sv′ l′) p) page ⊎ Beyond sv l g eq t p
-  page-or-beyond p m h =
-      ⊎-elim (λ (k : List·Memᴰ p places). inl (map-in (entryAt (filesOf sv′ l′)) p places k)) (λ (k : Beyond sv l g eq t p). inr k)
-      (due-or-beyond sv l g eq t p (rw (same-time p) at h) (ap (matching eq) (sym (unchanged p)) ∙ m))
+-- a page
+module _ (m : Model) (k : Known m) (eq : List ℕ) (t : ℕ) (given : List Entry) (i : Inv m eq t given) where
+  abbrev new : List Entry
+  new = page m k eq t
+
+  abbrev newest : ℕ
+  newest = newestOf t new
 
   -- with the page, all up to its newest time is given
-  inv-asks : (given : List Entry) → Inv sv′ l′ eq t given → Inv sv′ l′ eq (newestOf t page) (given ++ page)
-  inv-asks given i =
+  inv-asks : Inv m eq newest (given ++ new)
+  inv-asks =
       record {
-        low = newest-low (newest-is t page);
-        rises = rises-append 0 t given page (omega arith) (i .rises) (i .top) page-rises;
-        top = λ e m.
-            ⊎-elim (λ (k : List·Memᴰ e given). let a = i .top e k in let b = newest-known t page in omega arith)
-            (λ (k : List·Memᴰ e page). newest-most t page e k) (in-either e given page m);
-        each = λ e m.
-            ⊎-elim (λ (k : List·Memᴰ e given). i .each e k) (λ (k : List·Memᴰ e page). page-is e k .stands) (in-either e given page m);
-        all = λ p c m h.
-            by-le (uploaded (filesOf sv′ l′ p .file)) t (λ k. in-left (entryAt (filesOf sv′ l′) p) given page (i .all p c m k))
-            (λ k. in-right (entryAt (filesOf sv′ l′) p) given page
-            (⊎-elim (λ (j : List·Memᴰ (entryAt (filesOf sv′ l′) p) page). j)
-            (λ (j : Beyond sv l g eq t p). absurd (not-beyond p k h j (newest-is t page))) (page-or-beyond p m k)));
+        low = newest-low (newest-is t new);
+        rises = rises-append 0 t given new (omega arith) (i .rises) (i .top) (page-rises m k eq t);
+        top = λ e j.
+            ⊎-elim (λ (x : List·Memᴰ e given). let a = i .top e x in let b = newest-known t new in omega arith)
+            (λ (x : List·Memᴰ e new). newest-most t new e x) (in-either e given new j);
+        once = once-append given new (i .once)
+            (rises-once t new (page-rises m k eq t)
+            (λ e f x y. same-number m k eq e f (page-stands m k eq t e x .matches) (page-stands m k eq t f y .matches)))
+            (λ e f x y n.
+            let a = page-stands m k eq t f y .matches in
+            let z = i .numbered e x .1 (a .file) (ap (λ (r : ℕ). find r (m .files)) n ∙ a .found) in
+            omega (arith, a .time, i .top e x, rises-above t new (page-rises m k eq t) f y));
+        numbered = λ e j.
+            ⊎-elim (λ (x : List·Memᴰ e given). i .numbered e x) (λ (x : List·Memᴰ e new). own e (page-stands m k eq t e x .matches))
+            (in-either e given new j);
+        all = λ e a h.
+            by-lt t (e .time)
+            (λ x. in-right e given new
+            (⊎-elim (λ (y : List·Memᴰ e new). y) (λ (y : Beyond (m .maxsel) (newer m k eq t) e). absurd (not-beyond e x h y (newest-is t new)))
+            (page-or-beyond m k eq t e a x)))
+            (λ x. in-left e given new (i .all e a x));
       }
     where
-      newest-low : (newestOf t page ≡ t) ⊎ Of page (newestOf t page) → newestOf t page ≤ sv′ .last .time
+      own : (e : Entry) → Matches m eq e → (e .number ≤ m .lastNumber) × ((f : File) → find (e .number) (m .files) ≡ some f → f .time ≡ e .time)
+      own e a = (
+        found-low m (k .sound) (e .number) (a .file) (a .found) .0,
+        λ f q.
+            let z : some f ≡ some (a .file) = sym q ∙ a .found in
+            let w : f ≡ a .file = cc in
+            ap (λ (x : File). x .time) w ∙ a .time,
+      )
+
+      newest-low : (newest ≡ t) ⊎ Of new newest → newest ≤ m .lastTime
       newest-low (inl e) = let a = i .low in omega arith
       newest-low (inr o) =
-          let q = page-is (o .entry) (o .inside) in
-          let a = time-given sv′ l′ g′ (q .stands .place) (q .stands .complete) in
-          omega (arith, q .stands .time, o .time)
+          let a = page-stands m k eq t (o .entry) (o .inside) .matches in
+          omega (arith, found-low m (k .sound) (o .entry .number) (a .file) (a .found) .1, a .time, o .time)
 
-      not-beyond : (p : ℕ) → t < uploaded (filesOf sv′ l′ p .file) → uploaded (filesOf sv′ l′ p .file) ≤ newestOf t page → Beyond sv l g eq t p
-          → (newestOf t page ≡ t) ⊎ Of page (newestOf t page) → ⊥
-      not-beyond p k h b (inl e) = omega arith
-      not-beyond p k h b (inr o) =
-          let q = page-is (o .entry) (o .inside) in
-          let a = b .older (q .place) (q .inside) in
-          let u = ap (λ (x : Entry). x .time) (q .same) in
-          omega (arith, o .time, same-time (q .place), same-time p)
+      not-beyond : (e : Entry) → t < e .time → e .time ≤ newest → Beyond (m .maxsel) (newer m k eq t) e → (newest ≡ t) ⊎ Of new newest → ⊥
+      not-beyond e x h b (inl q) = omega arith
+      not-beyond e x h b (inr o) =
+          let a = b .older (o .entry) (subst (λ (l : List Entry). List·Memᴰ (o .entry) l) (sym (page-taken m k eq t)) (o .inside)) in
+          omega (arith, o .time)
 
   -- a page shorter than MAXSEL is the last one
-  last-page : (given : List Entry) → Inv sv′ l′ eq t given → length page < sv .most → (p : ℕ) → Complete (filesOf sv′ l′ p)
-      → matching eq (filesOf sv′ l′ p) ≡ true
-      → List·Memᴰ (entryAt (filesOf sv′ l′) p) (given ++ page)
-  last-page given i h p c m =
-      by-le (uploaded (filesOf sv′ l′ p .file)) t (λ k. in-left (entryAt (filesOf sv′ l′) p) given page (i .all p c m k))
-      (λ k. in-right (entryAt (filesOf sv′ l′) p) given page
-      (⊎-elim (λ (j : List·Memᴰ (entryAt (filesOf sv′ l′) p) page). j)
-      (λ (j : Beyond sv l g eq t p). absurd (let a = j .full in let b = length-map places (entryAt (filesOf sv′ l′)) in omega arith))
-      (page-or-beyond p m k)))
-
-  -- the numbers of the session's page, and the times that are read for them
-  own-time : (p : ℕ) → t < uploaded (filesOf sv l p .file)
-      → timeOf (files (tablePart sv′ l′)) (filesOf sv′ l′ p .file .number) ≡ uploaded (filesOf sv′ l′ p .file)
-  own-time p h =
-      ap (timeAt (files (tablePart sv′ l′)))
-      (find-own (files (tablePart sv′ l′)) (g′ .sound .files .numbers) p
-      (uploaded-file (filesOf sv′ l′ p .file) (λ z. let a = same-time p in omega arith)))
-
-  page-entries : (session : ℕ) → pageOf sv′ l′ session ≡ oldest sv l eq t → pageIn (state sv′ l′) session ≡ page
-  unfolding pageIn
-  page-entries session e =
-      ap (map (λ n. entry n (timeOf (files (tablePart sv′ l′)) n))) e
-      ∙ map-map (λ n. entry n (timeOf (files (tablePart sv′ l′)) n)) (λ place. recordAt (tablePart sv l) place .number) places
-      ∙ map-same (λ p. entry (filesOf sv l p .file .number) (timeOf (files (tablePart sv′ l′)) (filesOf sv l p .file .number)))
-      (entryAt (filesOf sv′ l′)) places
-      (λ p m.
-      ap (λ (n : ℕ). entry n (timeOf (files (tablePart sv′ l′)) n)) (ap (λ (v : View). v .file .number) (sym (unchanged p)))
-      ∙ ap (entry (filesOf sv′ l′ p .file .number)) (own-time p (due-is sv l g eq t p m .above)))
+  last-page : length new < m .maxsel → (e : Entry) → Matches m eq e → List·Memᴰ e (given ++ new)
+  last-page h e a =
+      by-lt t (e .time)
+      (λ x. in-right e given new
+      (⊎-elim (λ (y : List·Memᴰ e new). y)
+      (λ (y : Beyond (m .maxsel) (newer m k eq t) e). absurd (let z = ap length (page-taken m k eq t) in omega (arith, y .full)))
+      (page-or-beyond m k eq t e a x)))
+      (λ x. in-left e given new (i .all e a x))
 
 -- ---- the client
 
-module _ (good-after : (s : Start) → legal s ≡ true → (h : History) → Good (after s h .server) (after s h .lent))
-    (call-change : (sv : Server) (l : Lent) → Good sv l → (c : Call)
-    → Change (sv .last) (filesOf sv l) (callOf sv l c .done .server .last) (filesOf (callOf sv l c .done .server) (callOf sv l c .lent)))
-    (s : Start) (ok : legal s ≡ true) (eq : List ℕ) (valid : validityOf eq ≡ 0) (room : length eq + 9 ≤ 256) where
-  -- a state is good, so it has its facts
-  here : (h : History) → Facts (after s h .server) (after s h .lent)
-  here h = facts (after s h .server) (after s h .lent) (good-after s ok h)
+module _ (blocks places sessions maxsel : ℕ) (eq : List ℕ) (valid : validityOf eq ≡ 0) where
+  abbrev m₀ : Model
+  m₀ = empty blocks places sessions maxsel
 
-  abbrev InvAt : History → ℕ → List Entry → Type 0
-  InvAt h t given = Inv (after s h .server) (after s h .lent) eq t given
+  -- what is known after a history
+  abbrev after : (h : History) → Clocks h → Known (run m₀ h)
+  after = known blocks places sessions maxsel
 
-  any-call : (h : History) (c : Call) (t : ℕ) (given : List Entry) → InvAt h t given → InvAt (h ▸ c) t given
-  unfolding after
-  any-call h c t given i =
-      inv-call (after s h .server) (after s h .lent) (after s (h ▸ c) .server) (after s (h ▸ c) .lent)
-      (call-change (after s h .server) (after s h .lent) (good-after s ok h) c) eq t given i
+  -- what a client has come to, and the state then
+  abbrev R : Client → Paged
+  R = pagedBy m₀ eq
 
-  -- the call that asks for a page, at a history and with what is known then
-  module _ (h : History) (clocks : Clocks h) (t : ℕ) (given : List Entry) (i : InvAt h t given) (session clock : ℕ) (out : List ℕ)
-      (may : MayAsk (after s h .server) session out) where
-    abbrev h′ : History
-    h′ = h ▸ asking eq t session clock out
+  abbrev S : Client → Model
+  S = stateOf m₀ eq
 
-    answers : Answers (after s h .server) (after s h .lent) eq t session clock out
-    answers =
-        let k = after-known good-after call-change s ok h clocks in
-        page-answer (after s h .server) (after s h .lent) (good-after s ok h) (k .stamped) eq valid room t
-        (let a = i .low in let b = k .small in omega arith) session clock out may
+  -- its page is that of the state in which it asks
+  module _ (h : History) (clocks : Clocks h) (t : ℕ) (small : t < 4294967296) (session clock : ℕ) (input out : List ℕ)
+      (a : Asks (run m₀ h) eq t session input out) where
+    abbrev m : Model
+    m = run m₀ h
 
-    same-files : (p : ℕ) → filesOf (after s h′ .server) (after s h′ .lent) p ≡ filesOf (after s h .server) (after s h .lent) p
-    unfolding after
-    same-files p = answers .unchanged p
+    answered : Answers (run m₀ h) eq t session clock input out
+    answered = page-answer (run m₀ h) (after h clocks) eq valid t small session clock input out a
 
-    stamped-now : AllStamped (filesOf (after s h .server) (after s h .lent))
-    stamped-now = after-known good-after call-change s ok h clocks .stamped
+    page-is : pageIn (run m₀ (h ▸ receive session clock input out)) session ≡ map entryOf (pageOf (run m₀ h) eq t)
+    unfolding pageIn run
+    page-is =
+        ap (λ (ns : List ℕ). map (λ (n : ℕ). entry n (timeOf (find n (step m (receive session clock input out) .after .files)))) ns) (answered .page)
+        ∙ ap (λ (x : Model). map (λ (n : ℕ). entry n (timeOf (find n (x .files)))) (numbersOf (pageOf m eq t))) (answered .after)
+        ∙ page-read m (after h clocks) eq t
 
-    abbrev given-page : List Entry
-    given-page = page (after s h .server) (after s h .lent) (here h) (after s h′ .server) (after s h′ .lent) (here h′) same-files stamped-now eq t
+  module _ (h : History) (clocks : Clocks h) (t : ℕ) (given : List Entry) (i : Inv (run m₀ h) eq t given) (session clock : ℕ) (input out : List ℕ)
+      (a : Asks (run m₀ h) eq t session input out) where
+    K : Known (run m₀ h)
+    K = after h clocks
 
-    entries : pageIn (after s h′) session ≡ given-page
-    entries = page-entries (after s h .server) (after s h .lent) (here h) (after s h′ .server) (after s h′ .lent)
-        (here h′) same-files stamped-now eq t session oldest-now
+    abbrev asking : Call
+    asking = receive session clock input out
+
+    small : t < 4294967296
+    small = omega (arith, i .low, K .small)
+
+    read : pageIn (run m₀ (h ▸ asking)) session ≡ page (run m₀ h) K eq t
+    read = page-is h clocks t small session clock input out a
+
+    inv-page : Inv (run m₀ (h ▸ asking)) eq (newestOf t (pageIn (run m₀ (h ▸ asking)) session)) (given ++ pageIn (run m₀ (h ▸ asking)) session)
+    inv-page =
+        subst (λ (l : List Entry). Inv (run m₀ (h ▸ asking)) eq (newestOf t l) (given ++ l)) (sym read)
+        (unfold run in
+        inv-call (run m₀ h) K eq asking (newestOf t (page (run m₀ h) K eq t)) (given ++ page (run m₀ h) K eq t) (inv-asks (run m₀ h) K eq t given i))
+
+    page-stood : (e : Entry) → List·Memᴰ e (pageIn (run m₀ (h ▸ asking)) session) → Stands (run m₀ (h ▸ asking)) eq e
+    page-stood e j =
+        unfold run in
+        stands-kept (run m₀ h) K eq asking e (page-stands (run m₀ h) K eq t e (subst (λ (l : List Entry). List·Memᴰ e l) read j))
+
+    page-all : length (pageIn (run m₀ (h ▸ asking)) session) < maxsel → (e : Entry) → Matches (run m₀ (h ▸ asking)) eq e
+        → List·Memᴰ e (given ++ pageIn (run m₀ (h ▸ asking)) session)
+    page-all f e q =
+        subst (λ (l : List Entry). List·Memᴰ e (given ++ l)) (sym read)
+        (last-page (run m₀ h) K eq t given i (let z = ap length read in let w = run-maxsel blocks places sessions maxsel h in omega arith) e
+        (record { file = q .file; found = before; time = q .time; complete = q .complete; matched = q .matched }))
       where
-        oldest-now : pageOf (after s h′ .server) (after s h′ .lent) session ≡ oldest (after s h .server) (after s h .lent) eq t
-        oldest-now = unfold after in answers .page
+        before : find (e .number) (run m₀ h .files) ≡ some (q .file)
+        before =
+            ap (λ (x : Model). find (e .number) (x .files)) (sym (answered h clocks t small session clock input out a .after)) ∙ unfold run in q .found
 
-    before-page : InvAt h′ t given
-    before-page = any-call h (asking eq t session clock out) t given i
+  client-inv : (c : Client) → Allowed m₀ eq c → Clocks (R c .history) → Inv (S c) eq (R c .newest) (R c .given)
+  unfolding pagedBy run
+  client-inv (begins h) a k = inv-begins (run m₀ h) eq
+  client-inv (waits c call) a k =
+      inv-call (S c) (after (R c .history) (k .0)) eq call (R c .newest) (R c .given)
+      (client-inv c a (k .0))
+  client-inv (asks c session clock input out) a k =
+      inv-page (R c .history) (k .0) (R c .newest) (R c .given) (client-inv c (a .0) (k .0)) session clock input out (a .1)
 
-    with-page : InvAt h′ (newestOf t (pageIn (after s h′) session)) (given ++ pageIn (after s h′) session)
-    with-page =
-        subst (λ (pg : List Entry). InvAt h′ (newestOf t pg) (given ++ pg)) (sym entries)
-        (inv-asks (after s h .server) (after s h .lent) (here h) (after s h′ .server) (after s h′ .lent)
-        (here h′) same-files stamped-now eq t given before-page)
-
-    page-stands : (e : Entry) → List·Memᴰ e (pageIn (after s h′) session) → Stands (after s h′) eq e
-    page-stands e m =
-        page-is (after s h .server) (after s h .lent) (here h) (after s h′ .server) (after s h′ .lent) (here h′) same-files stamped-now eq t e
-        (subst (λ (pg : List Entry). List·Memᴰ e pg) entries m) .stands
-
-    all-given : length (pageIn (after s h′) session) < s .most → (p : ℕ)
-        → Complete (filesOf (after s h′ .server) (after s h′ .lent) p)
-        → matching eq (filesOf (after s h′ .server) (after s h′ .lent) p) ≡ true
-        → List·Memᴰ (entryAt (filesOf (after s h′ .server) (after s h′ .lent)) p) (given ++ pageIn (after s h′) session)
-    all-given k p c m =
-        let n = after-most s ok h in
-        let z = ap length entries in
-        subst (λ (pg : List Entry). List·Memᴰ (entryAt (filesOf (after s h′ .server) (after s h′ .lent)) p) (given ++ pg)) (sym entries)
-        (last-page (after s h .server) (after s h .lent) (here h) (after s h′ .server) (after s h′ .lent)
-        (here h′) same-files stamped-now eq t given before-page
-        (omega arith) p c m)
-
-  client-inv : (c : Client) → Allowed s eq c → Clocks (pagedBy s eq c .history)
-      → InvAt (pagedBy s eq c .history) (pagedBy s eq c .newest) (pagedBy s eq c .given)
+  -- a page that is shorter than MAXSEL
+  client-all : (c : Client) → Allowed m₀ eq c → Clocks (R c .history) → Finished m₀ eq c
+      → (e : Entry) → Matches (S c) eq e → List·Memᴰ e (R c .given)
   unfolding pagedBy
-  client-inv (begins h) a k = inv-begins (after s h .server) (after s h .lent) eq
-  client-inv (waits c call) a k = any-call (pagedBy s eq c .history) call (pagedBy s eq c .newest) (pagedBy s eq c .given) (client-inv c a (k .0))
-  client-inv (asks c session clock out) a k =
-      with-page (pagedBy s eq c .history) (k .0) (pagedBy s eq c .newest) (pagedBy s eq c .given) (client-inv c (a .0) (k .0)) session clock out
-      (a .1)
+  client-all (begins h) a k f = absurd f
+  client-all (waits c call) a k f = absurd f
+  client-all (asks c session clock input out) a k f =
+      page-all (R c .history) (k .0) (R c .newest) (R c .given) (client-inv c (a .0) (k .0)) session clock input out (a .1) f
 
-  client-stood : (c : Client) → Allowed s eq c → Clocks (pagedBy s eq c .history) → EachStood s eq c
+  client-stood : (c : Client) → Allowed m₀ eq c → Clocks (R c .history) → EachStood m₀ eq c
   unfolding pagedBy
   client-stood (begins h) a k = tt
   client-stood (waits c call) a k = client-stood c a (k .0)
-  client-stood (asks c session clock out) a k = (
+  client-stood (asks c session clock input out) a k = (
     client-stood c (a .0) (k .0),
-    page-stands (pagedBy s eq c .history) (k .0) (pagedBy s eq c .newest) (pagedBy s eq c .given) (client-inv c (a .0) (k .0)) session clock out
-        (a .1),
+    page-stood (R c .history) (k .0) (R c .newest) (R c .given) (client-inv c (a .0) (k .0)) session clock input out (a .1),
   )
 
-  -- two entries with the same number are the same file
-  same-number : (h : History) (e f : Entry) → Stands (after s h) eq e → Stands (after s h) eq f → e .number ≡ f .number → e .time ≡ f .time
-  same-number h e f a b n =
-      let fs = files (tablePart (after s h .server) (after s h .lent)) in
-      let p = key-at Number fs (a .place) in
-      let q = key-at Number fs (b .place) in
-      let z = uploaded-file (fileAt fs (a .place)) (λ y. let c = a .complete in omega arith) in
-      let w = here h .sound .files .numbers (a .place) (b .place) (λ y. z (sym p ∙ y)) (p ∙ a .number ∙ n ∙ sym (b .number) ∙ sym q) in
-      sym (a .time) ∙ ap (λ (k : ℕ). uploaded (fileAt fs k)) w ∙ b .time
+  -- in a store from which nothing is removed, what was given stands still
+  client-each : (c : Client) → Allowed m₀ eq c → Clocks (R c .history) → (e : Entry) → List·Memᴰ e (R c .given)
+      → Stands (S c) eq e
+  unfolding pagedBy run
+  client-each (begins h) a k e i = absurd (List·Memᴰ·not-nil i)
+  client-each (waits c call) a k e i =
+      stands-kept (S c) (after (R c .history) (k .0)) eq call e (client-each c a (k .0) e i)
+  client-each (asks c session clock input out) a k e i =
+      ⊎-elim
+      (λ (j : List·Memᴰ e (R c .given)).
+      stands-kept (S c) (after (R c .history) (k .0)) eq (receive session clock input out) e
+      (client-each c (a .0) (k .0) e j))
+      (λ (j : List·Memᴰ e (pageFor m₀ eq (R c) session clock input out)). client-stood (asks c session clock input out) a k .1 e j)
+      (in-either e (R c .given) (pageFor m₀ eq (R c) session clock input out) i)
 
-  pub paging-from : (c : Client) → Allowed s eq c → Clocks (pagedBy s eq c .history) → Finished s eq c → AllGiven s eq c
-  paging-from (begins h) a k f = absurd f
-  paging-from (waits c call) a k f = absurd f
-  paging-from (asks c session clock out) a k f = go (client-inv (asks c session clock out) a k)
-    where
-      r : Paged
-      r = pagedBy s eq (asks c session clock out)
+  client-whole : (c : Client) → Allowed m₀ eq c → Clocks (R c .history) → Finished m₀ eq c
+      → R c .given ≡ map entryOf (oldestFirst eq (S c))
+  client-whole c a k f =
+      let K = after (R c .history) k in
+      rises-unique 0 0 (R c .given) (map entryOf (oldestFirst eq (S c))) (client-inv c a k .rises)
+      (rising-entries 0 (oldestFirst eq (S c)) (all-rise (S c) K eq))
+      (λ e i.
+      let j = of-matches (S c) K eq e (client-each c a k e i .matches) in
+      subst (λ (x : Entry). List·Memᴰ x (map entryOf (oldestFirst eq (S c)))) (j .same)
+      (map-in entryOf (j .file) (oldestFirst eq (S c)) (j .inside)))
+      (λ e i.
+      let j = in-map entryOf e (oldestFirst eq (S c)) i in
+      client-all c a k f e (subst (Matches (S c) eq) (sym (j .same)) (stands-of (S c) K eq (j .of) (j .inside) .matches)))
 
-      go : InvAt (r .history) (r .newest) (r .given) → AllGiven s eq (asks c session clock out)
-      go i =
-          record {
-            stood = client-stood (asks c session clock out) a k;
-            once = rises-once 0 (r .given) (i .rises) (λ e f m n. same-number (r .history) e f (i .each e m) (i .each f n));
-            oldest-first = i .rises;
-            every =
-                unfold pagedBy in
-                all-given (pagedBy s eq c .history) (k .0) (pagedBy s eq c .newest) (pagedBy s eq c .given)
-                (client-inv c (a .0) (k .0)) session clock out (a .1) f;
-          }
-
-  -- what has been given is all that matches, oldest first
-  given-whole : (h : History) (t : ℕ) (given : List Entry) → InvAt h t given
-      → ((p : ℕ) → Complete (filesOf (after s h .server) (after s h .lent) p) → matching eq (filesOf (after s h .server) (after s h .lent) p) ≡ true
-      → List·Memᴰ (entryAt (filesOf (after s h .server) (after s h .lent)) p) given)
-      → given ≡ map (entryAt (filesOf (after s h .server) (after s h .lent))) (newerPlaces (after s h .server) (after s h .lent) eq 0)
-  given-whole h t given i every =
-      rises-unique 0 0 given (map (entryAt F) (newerPlaces sv l eq 0)) (i .rises)
-      (rises-entries sv l (here h) eq 0 0 (newerPlaces sv l eq 0) (newer-rises sv l (here h) eq 0)) forth back
-    where
-      sv : Server
-      sv = after s h .server
-
-      l : Lent
-      l = after s h .lent
-
-      F : Files
-      F = filesOf (after s h .server) (after s h .lent)
-
-      forth : (e : Entry) → List·Memᴰ e given → List·Memᴰ e (map (entryAt F) (newerPlaces sv l eq 0))
-      forth e m =
-          let k = i .each e m in
-          subst (λ (x : Entry). List·Memᴰ x (map (entryAt F) (newerPlaces sv l eq 0))) (ap₂ entry (k .number) (k .time))
-          (map-in (entryAt F) (k .place) (newerPlaces sv l eq 0) (newer-all sv l (here h) eq 0 (k .place) (k .complete) (k .matched)))
-
-      back : (e : Entry) → List·Memᴰ e (map (entryAt F) (newerPlaces sv l eq 0)) → List·Memᴰ e given
-      back e m =
-          let f = in-map (entryAt F) e (newerPlaces sv l eq 0) m in
-          let d = newer-is sv l (here h) eq 0 (f .of) (f .inside) in
-          subst (λ (x : Entry). List·Memᴰ x given) (sym (f .same)) (every (f .of) (d .above) (d .matched))
-
-  pub whole-from : (c : Client) → Allowed s eq c → Clocks (pagedBy s eq c .history) → Finished s eq c
-      → numbersIn (pagedBy s eq c .given)
-      ≡ numbersAt (tablePart (after s (pagedBy s eq c .history) .server) (after s (pagedBy s eq c .history) .lent))
-      (newerPlaces (after s (pagedBy s eq c .history) .server) (after s (pagedBy s eq c .history) .lent) eq 0)
-  whole-from c a k f =
-      let h = pagedBy s eq c .history in
-      let i = client-inv c a k in
-      ap numbersIn (given-whole h (pagedBy s eq c .newest) (pagedBy s eq c .given) i (paging-from c a k f .every))
-      ∙ map-map (λ (e : Entry). e .number) (entryAt (filesOf (after s h .server) (after s h .lent)))
-      (newerPlaces (after s h .server) (after s h .lent) eq 0)
+-- the newest time that a client knows is a 32-bit number
+pub newest-small : (blocks places sessions maxsel : ℕ) (eq : List ℕ) → validityOf eq ≡ 0 → (c : Client) → Allowed (empty blocks places sessions maxsel) eq c
+    → Clocks (pagedBy (empty blocks places sessions maxsel) eq c .history) → pagedBy (empty blocks places sessions maxsel) eq c .newest < 4294967296
+newest-small blocks places sessions maxsel eq valid c a k =
+    let K = known blocks places sessions maxsel (pagedBy (empty blocks places sessions maxsel) eq c .history) k in
+    omega (arith, client-inv blocks places sessions maxsel eq valid c a k .low, K .small)
 
 -- ---- THE THEOREMS
 
 pub page-answered : PageAnswer
-page-answered s ok h clocks eq valid room t small session clock out may =
-    page-answer (after s h .server) (after s h .lent) (good-after s ok h)
-    (after-known good-after call-change s ok h clocks .stamped) eq valid room t small
-    session clock out may
+page-answered blocks places sessions maxsel h clocks eq valid t small session clock input out a =
+    answered blocks places sessions maxsel eq valid h clocks t small session clock input out a
 
 pub paging : Paging
-paging s ok eq valid room c a k f = paging-from good-after call-change s ok eq valid room c a k f
+paging blocks places sessions maxsel eq valid c a k f =
+    let i = client-inv blocks places sessions maxsel eq valid c a k in
+    record {
+      stood = client-stood blocks places sessions maxsel eq valid c a k;
+      once = i .once;
+      oldest-first = i .rises;
+      every = client-all blocks places sessions maxsel eq valid c a k f;
+    }
 
 pub paging-whole : PagingWhole
-paging-whole s ok eq valid room c a k f = whole-from good-after call-change s ok eq valid room c a k f
+paging-whole blocks places sessions maxsel eq valid c a k f = client-whole blocks places sessions maxsel eq valid c a k f

@@ -1,4 +1,4 @@
--- The upload time that the server sets in a complete file is what a reader of its header finds, whatever the other bytes are. Assumes nothing.
+-- A complete file has one upload_time, the one that the server set, and a reader of its header finds it, whatever the other bytes are. Assumes nothing.
 use mathlib.Core.Path.{_≡_, refl, sym, ap, _∙_, subst}
 use mathlib.Core.Bool.{Bool, true, false, cond}
 use mathlib.Core.List.{List, [], _∷_, _++_, append-assoc}
@@ -7,13 +7,13 @@ use native.Mathlib.Omega.{arith}
 use lib.Dec.{eqb, leb}
 use lib.ListN.{length, take, drop, length-drop, length-append, take-append-drop}
 use lib.Seq.{sets, length-take-le, take-at, drop-at}
-use borrow.Author.Tests.{eqb-false, leb-true, le-leb}
+use borrow.Author.Tests.{eqb-true, eqb-false, leb-true, le-leb}
 use Rattle.numbers.specs.Numbers.{two, four}
 use Rattle.header.specs.Items.{Field, Walk, headOf, walk, marked, fieldsOf}
 use Rattle.header.specs.Header.{listed, countIf, times, bytesOf, lengthIn, listedLength, proper, complete, headerSum, checkItems, placeFrom, placeOf}
 use Rattle.header.specs.Fields.{withFields, withSum, fieldsSet}
 use Rattle.header.proofs.Walk.{walk-broken, walk-end, walk-item}
-use Rattle.header.proofs.Order.{times-miss, complete-parts, proper-parts, length-of}
+use Rattle.header.proofs.Order.{times-hit, times-miss, complete-parts, proper-parts, length-of}
 use Rattle.header.proofs.Verdict.{passed-both}
 use Rattle.header.proofs.Replace.{withBytes, Alike, alike-count, alike-bytes, alike-with, with-same, with-other, sets-mid}
 use Rattle.equation.specs.Holds as holds
@@ -146,9 +146,9 @@ put (suc k) i at new pre bs s l h e = on (front i bs h) (put k)
 
 -- ---- the four fields
 
--- an item is there, with data of this length
+-- there is one item of an id, with data of this length
 abbrev Has : List Field → ℕ → ℕ → Type 0
-Has is i n = (1 ≤ times i is) × (length (bytesOf i is) ≡ n)
+Has is i n = (times i is ≡ 1) × (length (bytesOf i is) ≡ n)
 
 -- the items that the server sets
 record Settable (is : List Field) : Type 0 where
@@ -158,7 +158,7 @@ record Settable (is : List Field) : Type 0 where
   sum : Has is 10 2
 
 alike-has : (is js : List Field) → Alike is js → (i n : ℕ) → Has js i n → Has is i n
-alike-has is js a i n h = (rw (alike-count (λ k. eqb k i) is js a) (h .0), alike-bytes i is js a ∙ h .1)
+alike-has is js a i n h = (alike-count (λ k. eqb k i) is js a ∙ h .0, alike-bytes i is js a ∙ h .1)
 
 alike-settable : (is js : List Field) → Alike is js → Settable js → Settable is
 alike-settable is js a s =
@@ -187,7 +187,7 @@ set-one (a ∷ b ∷ bs) is i new h p = go (put (suc (length bs)) i 2 new (a ∷
     items = sym (ap (λ (t : Bool). cond t (walk 0 bs .items) []) (h .mark)) ∙ h .fields
 
     there : 1 ≤ times i (walk 0 bs .items)
-    there = rw items (p .0)
+    there = let z = ap (times i) items ∙ p .0 in omega arith
 
     long : length new ≡ length (bytesOf i (walk 0 bs .items))
     long = rw items (sym (p .1))
@@ -206,7 +206,7 @@ set-one (a ∷ b ∷ bs) is i new h p = go (put (suc (length bs)) i 2 new (a ∷
 -- a listed item is there, with the listed length
 listed-there : (is : List Field) (i k : ℕ) → proper is ≡ true → listedLength i ≡ suc k → times i is ≡ 1 → Has is i (suc k)
 listed-there is i k p l e =
-    let h : 1 ≤ times i is = omega arith in (h, length-of i k is l (proper-parts is p .fit) h)
+    (e, length-of i k is l (proper-parts is p .fit) (omega arith))
 
 settable-items : (is : List Field) → proper is ≡ true → complete is ≡ true → Settable is
 unfolding listed lengthIn
@@ -232,23 +232,25 @@ accepted-holds file e = go (marked file) refl (walk 0 (drop 2 file) .whole) e
     go true m false e = absurd (omega arith)
     go false m w e = absurd (omega arith)
 
--- the data of the first item with an id, as the equations read it
-pub record First (i : ℕ) (data′ : List ℕ) (is : List Field) : Type 0 where
-  pub more : List (List ℕ)
-  pub first : holds.bytesOf i is ≡ data′ ∷ more
-  pub own : bytesOf i is ≡ data′
-
-first-of : (i : ℕ) (is : List Field) → 1 ≤ times i is → First i (bytesOf i is) is
-unfolding holds.bytesOf bytesOf countIf
-first-of i [] h = absurd (omega arith)
-first-of i (x ∷ xs) h = go (eqb (x .id) i) refl (first-of i xs)
+-- the items of an id, as the equations read them
+none-of : (i : ℕ) (is : List Field) → times i is ≡ 0 → holds.bytesOf i is ≡ []
+unfolding holds.bytesOf countIf
+none-of i [] h = refl
+none-of i (x ∷ xs) h = go (eqb (x .id) i) refl (none-of i xs)
   where
-    go : (t : Bool) → eqb (x .id) i ≡ t → (1 ≤ times i xs → First i (bytesOf i xs) xs) → First i (bytesOf i (x ∷ xs)) (x ∷ xs)
-    go true e ih = record { more = holds.bytesOf i xs; first = rw e; own = refl }
-    go false e ih = on (ih (omega (arith, times-miss i x xs (eqb-false (x .id) i e))))
-      where
-        on : First i (bytesOf i xs) xs → First i (bytesOf i (x ∷ xs)) (x ∷ xs)
-        on r = record { more = r .more; first = rw e (r .first); own = refl }
+    go : (t : Bool) → eqb (x .id) i ≡ t → (times i xs ≡ 0 → holds.bytesOf i xs ≡ []) → cond t (x .bytes ∷ holds.bytesOf i xs) (holds.bytesOf i xs) ≡ []
+    go true e ih = absurd (omega (arith, times-hit i x xs (eqb-true (x .id) i e)))
+    go false e ih = ih (sym (times-miss i x xs (eqb-false (x .id) i e)) ∙ h)
+
+one-of : (i : ℕ) (is : List Field) → times i is ≡ 1 → holds.bytesOf i is ≡ bytesOf i is ∷ []
+unfolding holds.bytesOf bytesOf countIf
+one-of i [] h = absurd (omega arith)
+one-of i (x ∷ xs) h = go (eqb (x .id) i) refl (one-of i xs)
+  where
+    go : (t : Bool) → eqb (x .id) i ≡ t → (times i xs ≡ 1 → holds.bytesOf i xs ≡ bytesOf i xs ∷ [])
+        → cond t (x .bytes ∷ holds.bytesOf i xs) (holds.bytesOf i xs) ≡ cond t (x .bytes) (bytesOf i xs) ∷ []
+    go true e ih = ap (λ (l : List (List ℕ)). x .bytes ∷ l) (none-of i xs (omega (arith, times-hit i x xs (eqb-true (x .id) i e))))
+    go false e ih = ih (sym (times-miss i x xs (eqb-false (x .id) i e)) ∙ h)
 
 module _ (n t : ℕ) (file : List ℕ) (e : checkItems file ≡ 0) where
   abbrev first-set : List ℕ
@@ -281,15 +283,14 @@ module _ (n t : ℕ) (file : List ℕ) (e : checkItems file ≡ 0) where
       let h2 = set-one first-set (withBytes 1 (four n) (fieldsOf file)) 6 (four t) h1 (h1 .settable .modified) in
       h2 .settable .upload
 
-  -- THE LAW: upload_time is read as it was set
-  pub stamped : First 18 (four t) (fieldsOf (fieldsSet n t file))
+  -- THE LAW: there is one upload_time, and it is read as it was set
+  pub stamped : holds.bytesOf 18 (fieldsOf (fieldsSet n t file)) ≡ four t ∷ []
   stamped =
       let h3 = third-holds in
       let h4 = set-one third-set items-set 10 (two (headerSum third-set)) h3 (h3 .settable .sum) in
-      let is : fieldsOf (fieldsSet n t file) ≡ withBytes 10 (two (headerSum third-set)) items-set = ap fieldsOf fields-set ∙ h4 .fields in
-      let read : bytesOf 18 (withBytes 10 (two (headerSum third-set)) items-set) ≡ four t =
-      with-other 10 18 (two (headerSum third-set)) items-set (λ z. omega arith)
-      ∙ with-same 18 (four t) (withBytes 6 (four t) (withBytes 1 (four n) (fieldsOf file))) (upload-there .0) in
-      subst (First 18 (four t)) (sym is)
-      (subst (λ (b : List ℕ). First 18 b (withBytes 10 (two (headerSum third-set)) items-set)) read
-      (first-of 18 (withBytes 10 (two (headerSum third-set)) items-set) (h4 .settable .upload .0)))
+      let final = withBytes 10 (two (headerSum third-set)) items-set in
+      ap (holds.bytesOf 18) (ap fieldsOf fields-set ∙ h4 .fields)
+      ∙ one-of 18 final (h4 .settable .upload .0)
+      ∙ ap (λ (b : List ℕ). b ∷ [])
+      (with-other 10 18 (two (headerSum third-set)) items-set (λ z. omega arith)
+      ∙ with-same 18 (four t) (withBytes 6 (four t) (withBytes 1 (four n) (fieldsOf file))) (let k = upload-there .0 in omega arith))

@@ -1,26 +1,23 @@
 -- The worked example, by computation, and the theorems on paging applied to it. Assumes nothing.
-use mathlib.Core.Path.{_≡_, refl, sym, ap, _∙_, subst}
+use mathlib.Core.Path.{_≡_, refl, sym, ap, ap₂, _∙_, subst}
+use mathlib.Core.Bool.{true}
 use mathlib.Core.List.{List, [], _∷_, _++_, map, List·Memᴰ, List·Memᴰ·head}
-use Prim.Native.Nat.{ℕ, _<_}
-use lib.ListN.{length, drop}
+use mathlib.Core.Option.{some}
+use Prim.Native.Nat.{ℕ, _-_, _<_}
+use lib.ListN.{length, drop, length-map}
 use native.Mathlib.Omega.{arith}
-use lib.Count.{ones, onesIn, trailingZeros}
-use Rattle.packet.specs.Packet.{packetOf}
-use Rattle.packet.specs.Machine.{called, call}
-use Rattle.packet.specs.Frame.{judged, byte, withoutPacket, answerBy, answerOf}
-use Rattle.packet.specs.Frame as packet
 use Rattle.numbers.specs.Numbers.{number, two}
-use Rattle.numbers.specs.Numbers as numbers
-use Rattle.header.specs.Items.{headOf, walk, marked, fieldsOf}
-use Rattle.header.specs.Items as header
-use Rattle.header.specs.Header.{listed, every, countIf, lengthIn, lengthFits, ordered, proper, complete, sumOf, checkItems, checkValues, verdict}
-use Rattle.header.specs.Header.{placeFrom, headerOf}
-use Rattle.header.specs.Header as headerHeader
+use Rattle.packet.specs.Packet.{packetOf}
+use Rattle.packet.specs.Frame.{packet}
+use Rattle.header.specs.Items.{headOf, after, walk, marked, fieldsOf}
+use Rattle.header.specs.Header.{listed, every, countIf, bytesOf, lengthIn, lengthFits, ordered, proper, complete, sumOf, checkItems, checkValues, verdict}
+use Rattle.header.specs.Header.{placeFrom}
 use Rattle.header.specs.Fields.{withFields, withSum, fieldsSet}
-use Rattle.equation.specs.Newer.{beforeMark, unmarkedPast}
-use Rattle.equation.specs.Symbols.{starsIn, goodText, goodNumber, good, connectiveOf, relationAt, tokenOf, follow, symbolsPast, relations}
+use Rattle.equation.specs.Newer.{beforeMark, unmarkedPast, narrowed}
+use Rattle.equation.specs.Symbols.{starsIn, goodText, goodNumber, good, connectiveOf, relationAt, tokenOf, follow, symbolsPast}
 use Rattle.equation.specs.Relation.{width, compare, textMeets, numberMeets, meets}
 use Rattle.equation.specs.Holds.{holds}
+<<<<<<< HEAD
 use Rattle.equation.specs.Holds as equation
 use Rattle.equation.specs.Tree.{pushed, joined, result, bind, run, parse, truth}
 use Rattle.equation.specs.Answer.{numberOf, said, answer, refusal, validityOf}
@@ -59,25 +56,38 @@ use Rattle.server.specs.Calls.{answeredBy, heardBy, stepOf, onCheck, onLogin, l
 use Rattle.server.specs.Calls as server
 use Rattle.history.specs.Calls.{made}
 use Rattle.history.specs.Calls as history
+=======
+use Rattle.equation.specs.Holds as items
+use Rattle.equation.specs.Tree as tree
+use Rattle.equation.specs.Answer as equation
+>>>>>>> paging
 use Rattle.session.specs.declared.reply.Answer.the-variants as sent
-use Rattle.table.specs.Fit.{Distinct}
-use Rattle.header.specs.Header.{bytesOf}
-use Rattle.history.specs.Stored.{filesOf}
-use Rattle.server.specs.State.{Outcome, tablePart}
-use Rattle.history.specs.Calls.{callOf, after}
-use Rattle.files.specs.Selection.{numbersAt}
-use Rattle.paging.specs.Client.{asking, pageOf, newerPlaces, Answers}
-use Rattle.paging.specs.Paging.{Entry, entry, filesIn, begins, asked, stateOf, Rises, Stands, AllGiven, pageIn, newestOf, pagedBy}
-use Rattle.paging.proofs.Paging.{page-answered, paging, paging-whole}
+use Rattle.session.specs.Reply.{tell}
+use Rattle.calls.specs.Call.{receive}
+use Rattle.model.specs.State.{File, file, noDownload, Model, sessionAt}
+use Rattle.model.specs.Files.{find, changed, without, reserved, uploading, matching, placed, byTime}
+use Rattle.model.specs.Uplink.{uploadNew, uploadContinued, onUploadCmd, dataTo, onData, dataEndTo, onDataEnd}
+use Rattle.model.specs.Downlink.{onSelectCmd}
+use Rattle.model.specs.Step.{byType, endsIn, onEvent, refusal, unless, step, run}
 use Rattle.paging.specs.Examples.{smallest}
-use Rattle.paging.specs.Worked.{tiny, uploaded, sized, longest, reader, output, Met}
+use Rattle.paging.specs.Client.{Idle, Asks, above, oldestFirst, pageOf, Answers}
+use Rattle.paging.specs.Paging.{Entry, entry, entryOf, begins, stateOf, Once, Rises, Stands, AllGiven, pageIn, newestOf, pagedBy, asked}
+use Rattle.paging.specs.Pieces.{isPiece, piecesOnly, handed, waitsFor, AsksWith}
+use Rattle.paging.specs.Worked.{small, uploaded, third, sized, longest, pieces, rest, beginning, reader, output, Met}
+use Rattle.paging.proofs.Paging.{page-answered, paging, paging-whole}
+use Rattle.paging.proofs.Pieces.{in-pieces}
 
--- what the first request comes to
-abbrev asked-first : Outcome
-asked-first = callOf (after tiny uploaded .server) (after tiny uploaded .lent) (asking sized 0 1 8 output)
+-- an open session 1 whose downlink is idle
+idle-is : (m : Model) → sessionAt m 0 .linked ≡ true → sessionAt m 0 .down ≡ noDownload → Idle m 1
+idle-is m l d = record { from-one = omega arith; linked = l; down = d }
+
+asks-is : (m : Model) (eq : List ℕ) (t : ℕ) (input : List ℕ) → sessionAt m 0 .linked ≡ true → sessionAt m 0 .down ≡ noDownload
+    → endsIn (sessionAt m 0 .held ++ input) ≡ some (packet 16 (narrowed eq t)) → Asks m eq t 1 input output
+asks-is m eq t input l d s = record { idle = idle-is m l d; room = omega arith; sends = s }
 
 pub met : Met
 unfolding
+<<<<<<< HEAD
     tiny uploaded longest reader smallest pageIn newestOf pagedBy ones onesIn trailingZeros packetOf called call judged byte withoutPacket answerBy
     answerOf packet.receiveOf number headOf walk marked fieldsOf header.after listed every countIf lengthIn lengthFits ordered proper complete
     sumOf checkItems checkValues verdict placeFrom headerOf headerHeader.bytesOf withFields withSum fieldsSet beforeMark unmarkedPast starsIn
@@ -93,90 +103,144 @@ unfolding
     judgedAt acceptedAs acceptTurn withDisk withBlocks finishAs carry.beginWith closeTurn selectedAs selectTurn beginTurn confirmTurn onFrees
     onWrites onMoves onChooses carryOut sizesFit roomFits soundParts inState sessionCheck checkBy hearOf sizeIn putBack actOf emptyOf makeOf
     answeredBy heardBy stepOf onCheck onLogin loginOf loginBy onLose loseOf loseBy dueAs onRequest requestOf requestBy server.receiveOf made history.after
+=======
+    uploaded third longest pieces rest reader smallest waitsFor piecesOnly isPiece handed pageIn newestOf pagedBy above number packetOf headOf after
+    walk marked fieldsOf listed every countIf bytesOf lengthIn lengthFits ordered proper complete sumOf checkItems checkValues verdict placeFrom
+    withFields withSum fieldsSet beforeMark unmarkedPast starsIn goodText goodNumber good connectiveOf relationAt tokenOf follow symbolsPast width
+    compare textMeets numberMeets meets holds tree.pushed tree.joined tree.result tree.bind tree.run tree.parse tree.truth equation.said
+    equation.answer equation.isYes equation.refusal equation.validityOf tell find changed without reserved uploading matching placed byTime uploadNew
+    uploadContinued onUploadCmd dataTo onData dataEndTo onDataEnd onSelectCmd byType endsIn onEvent refusal unless step run
+>>>>>>> paging
 met =
     record {
-      sizes = refl;
       accepted = refl;
-      short = omega arith;
-      before = ((((tt, omega arith), omega arith), omega arith), omega arith);
-      may = record { first = omega arith; last = omega arith; linked = refl; idle = refl; nothing-held = refl; room = omega arith };
       bytes = refl;
-      first = refl;
-      longest-accepted = refl;
-      longest-short = omega arith;
-      allowed = (
-        (tt, record { first = omega arith; last = omega arith; linked = refl; idle = refl; nothing-held = refl; room = omega arith }),
-        record { first = omega arith; last = omega arith; linked = refl; idle = refl; nothing-held = refl; room = omega arith },
+      room = omega arith;
+      idle = idle-is _ refl refl;
+      nothing-held = refl;
+      only = refl;
+      all-bytes = refl;
+      rest-size = refl;
+      before = (
+        ((((((((((tt, tt), tt), omega arith), omega arith), omega arith), omega arith), omega arith), omega arith), omega arith), omega arith),
+        omega arith,
       );
-      clocks = ((((((tt, omega arith), omega arith), omega arith), omega arith), omega arith), omega arith);
+      held = refl;
+      asking = asks-is _ sized 0 rest refl refl refl;
+      oldest = refl;
+      page = refl;
+      longest-size = refl;
+      longest-accepted = refl;
+      longest-room = omega arith;
+      longest-before = ((((((((tt, tt), tt), omega arith), omega arith), omega arith), omega arith), omega arith), omega arith);
+      longest-asking = asks-is _ longest 4294967295 (packetOf 16 (narrowed longest 4294967295)) refl refl refl;
+      allowed = (
+        (
+          (
+            (tt, asks-is _ sized 0 rest refl refl refl),
+            asks-is _ sized 7 (packetOf 16 (narrowed sized 7)) refl refl refl,
+          ),
+          asks-is _ sized 8 (packetOf 16 (narrowed sized 8)) refl refl refl,
+        ),
+        asks-is _ sized 9 (packetOf 16 (narrowed sized 9)) refl refl refl,
+      );
+      clocks = (
+        ((
+          (
+            (
+              (
+                (
+                  (
+                    ((((((((((tt, tt), tt), omega arith), omega arith), omega arith), omega arith), omega arith), omega arith), omega arith), omega arith),
+                    omega arith,
+                  ),
+                  omega arith,
+                ),
+                omega arith,
+              ),
+              omega arith,
+            ),
+            omega arith,
+          ),
+          omega arith,
+        )),
+        omega arith,
+      );
       finished = omega arith;
       given = refl;
-      page = refl;
-      complete = omega arith;
-      matched = refl;
-      is = refl;
+      last = record { file = file 3 80 third 9; found = refl; time = refl; complete = λ z. omega arith; matched = refl };
     }
 
 -- ---- the theorems at work
 
--- the server's answer to the first request is one page, and no file is changed
-pub first-answered : Answers (after tiny uploaded .server) (after tiny uploaded .lent) sized 0 1 8 output
-first-answered = page-answered tiny (met .sizes) uploaded (met .before) sized (met .accepted) (met .short) 0 (omega arith) 1 8 output (met .may)
+-- the SELECT_CMD in three pieces asks for the first page
+pub pieces-ask : AsksWith small sized (begins uploaded) pieces 1 8 rest output
+unfolding pagedBy
+pieces-ask =
+    in-pieces 3 3 2 1 sized (met .accepted) (met .room) (begins uploaded) tt 1 (met .idle) (met .nothing-held) pieces (met .only) (met .before) 8 rest output
+    (omega arith) (λ e. let z = sym (met .rest-size) ∙ ap length e in omega arith) (met .all-bytes)
 
--- the page is file 1
-pub first-page : pageOf (asked-first .done .server) (asked-first .lent) 1 ≡ 1 ∷ []
-first-page = first-answered .page ∙ met .first
+-- the answer is one page
+pub first-answered : Answers (stateOf small sized beginning) sized 0 1 8 rest output
+first-answered =
+    page-answered 3 3 2 1 (pagedBy small sized beginning .history) (met .before) sized (met .accepted) 0 (omega arith) 1 8 rest output (met .asking)
 
--- the packet has 16 bytes, SELECT_RESP says 1, and each file is as it was
+-- file 2, which was completed first
+pub first-page : sessionAt (step (stateOf small sized beginning) (receive 1 8 rest output) .after) 0 .selected ≡ 2 ∷ []
+first-page = first-answered .page ∙ met .oldest
+
+-- the last 10 bytes of 16 are taken, SELECT_RESP says 1, and no file is changed
 pub first-told :
-    (asked-first .done .answer ≡ sent.Sent 16 4) × (asked-first .out ≡ 2 ∷ 17 ∷ 1 ∷ 0 ∷ drop 4 output)
-    × ((place : ℕ) → filesOf (asked-first .done .server) (asked-first .lent) place ≡ filesOf (after tiny uploaded .server) (after tiny uploaded .lent) place)
+    (step (stateOf small sized beginning) (receive 1 8 rest output) .told .answer ≡ sent.Sent 10 4)
+    × (step (stateOf small sized beginning) (receive 1 8 rest output) .told .out ≡ 2 ∷ 17 ∷ 1 ∷ 0 ∷ drop 4 output)
+    × (step (stateOf small sized beginning) (receive 1 8 rest output) .after .files ≡ stateOf small sized beginning .files)
 unfolding packetOf
 first-told = (
-  first-answered .told ∙ ap (λ (bs : List ℕ). sent.Sent (length bs) 4) (met .bytes),
-  first-answered .sent ∙ ap (λ (ns : List ℕ). packetOf 17 (two (length ns)) ++ drop 4 output) (met .first),
-  first-answered .unchanged,
+  first-answered .told ∙ ap₂ (λ (bs hs : List ℕ). sent.Sent (length bs - length hs) 4) (met .bytes) (met .held),
+  first-answered .sent
+      ∙ ap (λ (n : ℕ). packetOf 17 (two n) ++ drop 4 output)
+      (sym (length-map (pageOf (stateOf small sized beginning) sized 0) (λ (f : File). f .number)) ∙ ap length (met .oldest)),
+  ap (λ (m : Model). m .files) (first-answered .after),
 )
 
--- an equation of 247 bytes, and the latest time, have room too
-pub longest-answered : Answers (after tiny uploaded .server) (after tiny uploaded .lent) longest 4294967295 1 8 output
+-- an equation of 248 bytes with an end mark, and the latest time, have room too
+pub longest-answered : Answers (run small uploaded) longest 4294967295 1 8 (packetOf 16 (narrowed longest 4294967295)) output
 longest-answered =
-    page-answered tiny (met .sizes) uploaded (met .before) longest (met .longest-accepted) (met .longest-short) 4294967295 (omega arith) 1 8 output
-    (met .may)
+    page-answered 3 3 2 1 uploaded (met .longest-before) longest (met .longest-accepted) 4294967295 (omega arith) 1 8
+    (packetOf 16 (narrowed longest 4294967295)) output (met .longest-asking)
+
+pub longest-asks : AsksWith small longest (begins uploaded) [] 1 8 (packetOf 16 (narrowed longest 0)) output
+unfolding pagedBy waitsFor piecesOnly handed
+longest-asks =
+    in-pieces 3 3 2 1 longest (met .longest-accepted) (met .longest-room) (begins uploaded) tt 1 (met .idle) (met .nothing-held) [] refl
+    (met .longest-before) 8 (packetOf 16 (narrowed longest 0)) output
+    (omega arith) (λ e. unfold packetOf in let z : _≡_ {A = ℕ} 0 1 = cc e in omega arith) refl
 
 -- the client has been given every matching complete file once, oldest first
-pub all-given : AllGiven tiny sized reader
-all-given = paging tiny (met .sizes) sized (met .accepted) (met .short) reader (met .allowed) (met .clocks) (met .finished)
+pub all-given : AllGiven small sized reader
+all-given = paging 3 3 2 1 sized (met .accepted) reader (met .allowed) (met .clocks) (met .finished)
 
--- so the file with number 1 and upload time 7 is among them
-pub one-given : List·Memᴰ (entry 1 7) (pagedBy tiny sized reader .given)
-one-given = subst (λ e. List·Memᴰ e (pagedBy tiny sized reader .given)) (met .is) (all-given .every 0 (met .complete) (met .matched))
+-- so file 3, completed between its pages, is among them
+pub last-given : List·Memᴰ (entry 3 9) (pagedBy small sized reader .given)
+last-given = all-given .every (entry 3 9) (met .last)
 
--- no number twice, and the first time is above 0
-pub in-order : Distinct (1 ∷ []) × (0 < 7)
-in-order = (
-  subst (λ (es : List Entry). Distinct (map (λ (e : Entry). e .number) es)) (met .given) (all-given .once),
-  subst (λ (es : List Entry). Rises 0 es) (met .given) (all-given .oldest-first) .0,
-)
+-- no number twice, and the times rise
+pub in-order : Once (entry 2 7 ∷ entry 1 8 ∷ entry 3 9 ∷ []) × Rises 0 (entry 2 7 ∷ entry 1 8 ∷ entry 3 9 ∷ [])
+in-order = (subst Once (met .given) (all-given .once), subst (Rises 0) (met .given) (all-given .oldest-first))
 
--- when the first page was given, the file stood, and its header had its upload time
-pub stood : Stands (after tiny (asked tiny sized (pagedBy tiny sized (begins uploaded)) 1 8 output)) sized (entry 1 7)
+-- so 2 is not 1, and 8 is below 9
+pub apart : (_≡_ {A = ℕ} 2 1 → ⊥) × (8 < 9)
+apart = (in-order .0 .0 (entry 1 8) (List·Memᴰ·head refl), in-order .1 .1 .1 .0)
+
+-- when the first page was given file 2 stood, and its header had one upload_time, 7
+pub stood : Stands (run small (asked small sized (pagedBy small sized beginning) 1 8 rest output)) sized (entry 2 7)
 unfolding reader
 stood =
-    all-given .stood .0 .1 (entry 1 7) (subst (λ (es : List Entry). List·Memᴰ (entry 1 7) es) (sym (met .page)) (List·Memᴰ·head refl))
+    all-given .stood .0 .0 .0 .1 (entry 2 7) (subst (λ (es : List Entry). List·Memᴰ (entry 2 7) es) (sym (met .page)) (List·Memᴰ·head refl))
 
-pub stood-so :
-    (filesIn (after tiny (asked tiny sized (pagedBy tiny sized (begins uploaded)) 1 8 output)) (stood .place) .file .number ≡ 1)
-    × (numbers.number
-    (bytesOf 18 (fieldsOf (filesIn (after tiny (asked tiny sized (pagedBy tiny sized (begins uploaded)) 1 8 output)) (stood .place) .bytes)))
-    ≡ 7)
-stood-so = (stood .number, stood .header)
+pub stood-so : map number (items.bytesOf 18 (fieldsOf (stood .matches .file .bytes))) ≡ 7 ∷ []
+stood-so = stood .header
 
--- in the words of the paper: what was given are the numbers of all matching complete files of the store, oldest first
-pub whole-given :
-    1 ∷ []
-    ≡ numbersAt (tablePart (stateOf tiny sized reader .server) (stateOf tiny sized reader .lent))
-    (newerPlaces (stateOf tiny sized reader .server) (stateOf tiny sized reader .lent) sized 0)
-whole-given =
-    ap (λ (es : List Entry). map (λ (e : Entry). e .number) es) (sym (met .given))
-    ∙ paging-whole tiny (met .sizes) sized (met .accepted) (met .short) reader (met .allowed) (met .clocks) (met .finished)
+-- in the words of the paper: what was given are all matching complete files of the store, oldest first
+pub whole-given : entry 2 7 ∷ entry 1 8 ∷ entry 3 9 ∷ [] ≡ map entryOf (oldestFirst sized (stateOf small sized reader))
+whole-given = sym (met .given) ∙ paging-whole 3 3 2 1 sized (met .accepted) reader (met .allowed) (met .clocks) (met .finished)

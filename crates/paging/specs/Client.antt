@@ -1,78 +1,65 @@
--- What a client sends to ask for a page, and the page that the server's answer leaves (document 01, "Equations", last paragraph; demand 3:
--- "whoever selects from upload time 0, then again above each page's newest time"). Assumes nothing.
+-- What a client sends to ask for a page, and the page that the answer leaves (document 01, "Equations", last paragraph; demand 3: "whoever selects
+-- from upload time 0, then again above each page's newest time, with an equation that has room for that condition"). All is said of the machine of
+-- crates/model; sessions are numbered from 1. Assumes nothing.
 use mathlib.Core.Path.{_≡_}
-use mathlib.Core.Bool.{Bool, true}
-use mathlib.Core.List.{List, _++_}
-use Prim.Native.Nat.{ℕ, _-_, _*_, _≤_, _<_}
+use mathlib.Core.Bool.{true, cond}
+use mathlib.Core.List.{List, [], _∷_, _++_, map}
+use mathlib.Core.Option.{some}
+use Prim.Native.Nat.{ℕ, _-_, _≤_}
+use lib.Dec.{ltb}
 use lib.ListN.{length, take, drop}
 use Rattle.numbers.specs.Numbers.{two}
 use Rattle.packet.specs.Packet.{packetOf}
-use Rattle.header.specs.Items.{fieldsOf}
+use Rattle.packet.specs.Frame.{packet}
 use Rattle.equation.specs.Newer.{narrowed}
-use Rattle.equation.specs.Answer.{selects}
-use Rattle.table.specs.Table.{files, uploaded}
-use Rattle.table.specs.Order.{inOrder}
-use Rattle.files.specs.View.{View}
-use Rattle.files.specs.Selection.{passing, numbersAt}
-use Rattle.session.specs.declared.state.Downlink.the-variants as down
 use Rattle.session.specs.declared.reply.Answer.the-variants as answer
-use Rattle.server.specs.declared.Server.{Server}
-use Rattle.server.specs.State.{Lent, linkOf, tablePart, part}
-use Rattle.history.specs.Calls.{Call, receive, callOf}
-use Rattle.history.specs.Stored.{filesOf}
-
--- ---- files
-
--- a complete file: it has an upload time, and that is never 0
-abbrev pub Complete : View → Type 0
-Complete v = 0 < uploaded (v .file)
-
--- the equation is accepted, and true on the items of the file's header
-abbrev pub matching : List ℕ → View → Bool
-matching eq v = selects eq (fieldsOf (v .bytes))
+use Rattle.calls.specs.Call.{receive}
+use Rattle.model.specs.State.{File, noDownload, withSelection, withHeld, Model, sessionAt, inSession}
+use Rattle.model.specs.Files.{matching, byTime}
+use Rattle.model.specs.Step.{endsIn, step}
 
 -- ---- asking
 
--- The bytes of a SELECT_CMD (16): the equation, the condition "upload_time greater than t", and AND. An end mark of the equation is left out.
-abbrev pub selectBytes : List ℕ → ℕ → List ℕ
-selectBytes eq t = packetOf 16 (narrowed eq t)
+-- a session that is open, and whose downlink is idle
+pub record Idle (m : Model) (session : ℕ) : Type 0 where
+  pub from-one : 1 ≤ session
+  pub linked : sessionAt m (session - 1) .linked ≡ true
+  pub down : sessionAt m (session - 1) .down ≡ noDownload
 
--- the call in which a session takes these bytes
-abbrev pub asking : List ℕ → ℕ → ℕ → ℕ → List ℕ → Call
-asking eq t session clock out = receive session clock (selectBytes eq t) out
-
--- A client may ask on a session (numbered from 1) that is open, whose downlink is idle, and which has no unfinished packet. The driver lends
--- an output with room for any packet.
-pub record MayAsk (sv : Server) (session : ℕ) (out : List ℕ) : Type 0 where
-  pub first : 1 ≤ session
-  pub last : session ≤ sv .sessions
-  pub linked : linkOf sv (session - 1) .linked ≡ true
-  pub idle : linkOf sv (session - 1) .down ≡ down.Idle
-  pub nothing-held : linkOf sv (session - 1) .held ≡ 0
+-- A CALL ASKS for the files above upload time t: its bytes, behind those that the link holds, end in SELECT_CMD (16) for the equation, the condition
+-- "upload_time greater than t", and AND; an end mark of the equation is left out. So the packet's bytes may have come in any pieces, the first of them
+-- in earlier calls. The driver lends an output with room for any packet. An equation has room for the condition where there is such a packet, whose
+-- information is at most 256 bytes.
+pub record Asks (m : Model) (eq : List ℕ) (t session : ℕ) (input out : List ℕ) : Type 0 where
+  pub idle : Idle m session
   pub room : 258 ≤ length out
+  pub sends : endsIn (sessionAt m (session - 1) .held ++ input) ≡ some (packet 16 (narrowed eq t))
 
 -- ---- the page
 
--- "In demand 3 a page is the selection that one SELECT leaves": the first numbers of the session's part of the selections, as many as it counts
-abbrev pub pageOf : Server → Lent → ℕ → List ℕ
-pageOf sv l session = take (linkOf sv (session - 1) .count) (part ((session - 1) * sv .most) (sv .most) (l .selected))
+-- the matching complete files, oldest first
+abbrev pub oldestFirst : List ℕ → Model → List File
+oldestFirst eq m = byTime (matching eq (m .files))
 
--- the places of the matching complete files with an upload time above t, oldest first
-abbrev pub newerPlaces : Server → Lent → List ℕ → ℕ → List ℕ
-newerPlaces sv l eq t = passing (λ place. matching eq (filesOf sv l place)) (inOrder t (files (tablePart sv l)))
+-- those with an upload time above t
+unfoldable pub above : ℕ → List File → List File
+above t [] = []
+above t (f ∷ fs) = cond (ltb t (f .time)) (f ∷ above t fs) (above t fs)
 
--- "The selection is the oldest MAXSEL matching complete files by upload time": their numbers, of those above t
-abbrev pub oldest : Server → Lent → List ℕ → ℕ → List ℕ
-oldest sv l eq t = numbersAt (tablePart sv l) (take (sv .most) (newerPlaces sv l eq t))
+-- "The selection is the oldest MAXSEL matching complete files by upload time": of those above t
+abbrev pub pageOf : Model → List ℕ → ℕ → List File
+pageOf m eq t = take (m .maxsel) (above t (oldestFirst eq m))
 
--- What the server answers to the client's bytes, and what it leaves: all bytes are taken, "SELECT_RESP has their number, 2 bytes" goes out (17),
--- the page is the oldest MAXSEL matching complete files above t, and no file is changed.
-pub record Answers (sv : Server) (l : Lent) (eq : List ℕ) (t session clock : ℕ) (out : List ℕ) : Type 0 where
-  pub told : callOf sv l (asking eq t session clock out) .done .answer ≡ answer.Sent (length (selectBytes eq t)) 4
-  pub sent : callOf sv l (asking eq t session clock out) .out ≡ packetOf 17 (two (length (oldest sv l eq t))) ++ drop 4 out
-  pub page :
-      pageOf (callOf sv l (asking eq t session clock out) .done .server) (callOf sv l (asking eq t session clock out) .lent) session
-      ≡ oldest sv l eq t
-  pub unchanged : (place : ℕ)
-      → filesOf (callOf sv l (asking eq t session clock out) .done .server) (callOf sv l (asking eq t session clock out) .lent) place
-      ≡ filesOf sv l place
+abbrev pub numbersOf : List File → List ℕ
+numbersOf fs = map (λ f. f .number) fs
+
+-- What a call that asks is answered, and what it leaves: it takes the packet's bytes that the link did not hold; "SELECT_RESP has their number, 2 bytes"
+-- goes out (17); the session's selection is the page. The session has no unfinished packet then, and nothing else is changed, so no file.
+pub record Answers (m : Model) (eq : List ℕ) (t session clock : ℕ) (input out : List ℕ) : Type 0 where
+  pub told :
+      step m (receive session clock input out) .told .answer
+      ≡ answer.Sent (length (packetOf 16 (narrowed eq t)) - length (sessionAt m (session - 1) .held)) 4
+  pub sent : step m (receive session clock input out) .told .out ≡ packetOf 17 (two (length (pageOf m eq t))) ++ drop 4 out
+  pub page : sessionAt (step m (receive session clock input out) .after) (session - 1) .selected ≡ numbersOf (pageOf m eq t)
+  pub after :
+      step m (receive session clock input out) .after ≡ inSession (session - 1) (λ s. withSelection (numbersOf (pageOf m eq t)) (withHeld [] s)) m

@@ -1,6 +1,6 @@
--- The proved examples of document 01, P1 to P12, in one table. Each row has what the server's own definitions give and what the paper says.
--- Assumes nothing.
-use mathlib.Core.Bool.{Bool, true, false}
+-- The proved examples of document 01, P1 to P12, in one statement: what the server's own definitions give is what the paper says. Assumes nothing.
+use mathlib.Core.Path.{_≡_}
+use mathlib.Core.Bool.{true, false}
 use mathlib.Core.List.{List, [], _∷_, map}
 use Prim.Native.Nat.{ℕ}
 use lib.ListN.{take, replicate}
@@ -11,25 +11,14 @@ use Rattle.packet.specs.declared.frame.Frame.the-variants.{TooLong}
 use Rattle.text.specs.Match.{matches}
 use Rattle.header.specs.Header.{verdict}
 use Rattle.equation.specs.Answer.{validityOf}
-use Rattle.table.specs.declared.Given.{Given}
 use Rattle.table.specs.declared.Given.the-variants.{Next}
 use Rattle.table.specs.Given.{blocksFor, uploadTime}
 use Rattle.session.specs.declared.reply.Reply.{Reply}
 use Rattle.session.specs.declared.reply.Reply.the-variants.{Login, UploadError, Selected}
 use Rattle.session.specs.State.{freshSession}
 use Rattle.session.specs.Reply.{answered}
-use Rattle.decide.specs.declared.act.Act.{Act}
 use Rattle.decide.specs.declared.act.Act.the-variants as act
 use Rattle.decide.specs.Decide.{decideOf}
-
--- what a definition gives, and what the paper says of it; rows are of several types
-pub record Row : Type 1 where
-  pub Of : Type 0
-  pub got : Of
-  pub want : Of
-
-abbrev pub row : (A : Type 0) → A → A → Row
-row A g w = record { Of = A; got = g; want = w }
 
 -- the first n bytes of the output that a reply leaves, the output having been 258 zeros
 abbrev pub sent : ℕ → Reply → List ℕ
@@ -60,44 +49,33 @@ land = 42 ∷ 108 ∷ 97 ∷ 110 ∷ 100 ∷ 42 ∷ []
 abbrev pub Landrover : List ℕ
 Landrover = 76 ∷ 97 ∷ 110 ∷ 100 ∷ 114 ∷ 111 ∷ 118 ∷ 101 ∷ 114 ∷ []
 
-unfoldable pub table : List Row
-table =
-    -- P1 "DATA of 256 bytes begins 00 20."
-    row (List ℕ) (take 2 (packetOf 0 (replicate 256 0))) (0 ∷ 32 ∷ [])
-    -- P2 "01 20 closes.": the length is above 256, and this closes the link
-    ∷ row Frame (headOf 1 32) TooLong
-    ∷ row Act (decideOf freshSession [] (headOf 1 32) (replicate 256 0) [] []) act.Close
-    -- P3 "LOGIN_RESP at time 0: 05 02 00 00 00 00 04."
-    ∷ row (List ℕ) (sent 7 (Login 0)) (5 ∷ 2 ∷ 0 ∷ 0 ∷ 0 ∷ 0 ∷ 4 ∷ [])
-    -- P4 "SELECT_RESP begins 02 11."
-    ∷ row (List ℕ) (sent 2 (Selected 3)) (2 ∷ 17 ∷ [])
-    -- P5 "UL_ERROR 13: 01 05 0d."
-    ∷ row (List ℕ) (sent 3 (UploadError 13)) (1 ∷ 5 ∷ 13 ∷ [])
-    -- P6 "lengths 0, 256, 257 take 0, 1, 2 blocks."
-    ∷ row (List ℕ) (map blocksFor (0 ∷ 256 ∷ 257 ∷ [])) (0 ∷ 1 ∷ 2 ∷ [])
-    -- P7 "last time 1000, clock 900: 1001; clock 2000: 2000."
-    ∷ row Given (uploadTime 900 1000) (Next 1001)
-    ∷ row Given (uploadTime 2000 1000) (Next 2000)
-    -- P8 the file of 80 bytes "is accepted; its first 79 bytes, announced as 79: 14."
-    ∷ row ℕ (verdict smallest 80) 0
-    ∷ row ℕ (verdict (take 79 smallest) 79) 14
-    -- P9 "title greater than "m": 8."
-    ∷ row ℕ (validityOf aboveM) 8
-    -- P10 "`*land*` matches "Landrover"; `?` does not match ""."
-    ∷ row Bool (matches land Landrover) true
-    ∷ row Bool (matches (63 ∷ []) []) false
-    -- P11 "five `*`: 8."
-    ∷ row ℕ (validityOf fiveStars) 8
-    -- P12 "the empty equation: 8."
-    ∷ row ℕ (validityOf []) 8
-    ∷ []
-
--- what is computed, row by row, and what the paper says; a pair keeps the row's type
-abbrev pub Value : Type 1
-Value = (A : Type 0) × A
-
-abbrev pub got : Row → Value
-got r = (r .Of, r .got)
-
-abbrev pub want : Row → Value
-want r = (r .Of, r .want)
+-- what the definitions give, and what the paper says
+pub record Examples : Type 0 where
+  -- P1 "DATA of 256 bytes begins 00 20."
+  pub p1 : take 2 (packetOf 0 (replicate 256 0)) ≡ 0 ∷ 32 ∷ []
+  -- P2 "01 20 closes.": the length is above 256, and this closes the link
+  pub p2 : headOf 1 32 ≡ TooLong
+  pub p2-closes : decideOf freshSession [] (headOf 1 32) (replicate 256 0) [] [] ≡ act.Close
+  -- P3 "LOGIN_RESP at time 0: 05 02 00 00 00 00 04."
+  pub p3 : sent 7 (Login 0) ≡ 5 ∷ 2 ∷ 0 ∷ 0 ∷ 0 ∷ 0 ∷ 4 ∷ []
+  -- P4 "SELECT_RESP begins 02 11."
+  pub p4 : sent 2 (Selected 3) ≡ 2 ∷ 17 ∷ []
+  -- P5 "UL_ERROR 13: 01 05 0d."
+  pub p5 : sent 3 (UploadError 13) ≡ 1 ∷ 5 ∷ 13 ∷ []
+  -- P6 "lengths 0, 256, 257 take 0, 1, 2 blocks."
+  pub p6 : map blocksFor (0 ∷ 256 ∷ 257 ∷ []) ≡ 0 ∷ 1 ∷ 2 ∷ []
+  -- P7 "last time 1000, clock 900: 1001; clock 2000: 2000."
+  pub p7 : uploadTime 900 1000 ≡ Next 1001
+  pub p7-later : uploadTime 2000 1000 ≡ Next 2000
+  -- P8 the file of 80 bytes "is accepted; its first 79 bytes, announced as 79: 14."
+  pub p8 : verdict smallest 80 ≡ 0
+  pub p8-short : verdict (take 79 smallest) 79 ≡ 14
+  -- P9 "title greater than "m": 8."
+  pub p9 : validityOf aboveM ≡ 8
+  -- P10 "`*land*` matches "Landrover"; `?` does not match ""."
+  pub p10 : matches land Landrover ≡ true
+  pub p10-empty : matches (63 ∷ []) [] ≡ false
+  -- P11 "five `*`: 8."
+  pub p11 : validityOf fiveStars ≡ 8
+  -- P12 "the empty equation: 8."
+  pub p12 : validityOf [] ≡ 8

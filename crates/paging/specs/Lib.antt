@@ -1,4 +1,5 @@
 pub mod Examples
 pub mod Client
 pub mod Paging
+pub mod Pieces
 pub mod Worked

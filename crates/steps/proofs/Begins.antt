@@ -23,6 +23,7 @@ use Rattle.model.specs.Downlink.{destinationsIn, downloadOf, downloadNumbered, 
 use Rattle.model.specs.Step.{ifNoDownload, byType, onPacket, endsIn, onEvent, refusal, unless, step}
 use Rattle.steps.specs.Downloads.{Downloading, numberAsked, Begins, DownloadBegins}
 use Rattle.steps.proofs.Cutting.{link-held}
+use Rattle.steps.proofs.Uplink.{goes}
 
 -- no other reply is silent
 pub quiet-nothing : (r : Reply) (taken n : ℕ) (out : List ℕ) → tell r taken out .answer ≡ answer.Quiet n → r ≡ reply.Nothing
@@ -136,10 +137,6 @@ not-refused n m out s taken e = go (eqb n 0) refl e
     go : (b : Bool) → eqb n 0 ≡ b → cond b s (stepped (told (answer.Refused n) out) m) .told .answer ≡ answer.Quiet taken → n ≡ 0
     go true q e = eqb-true n 0 q
     go false q e = let z : _≡_ {A = ℕ} 0 1 = cc in absurd (omega arith)
-
-goes : (n : ℕ) (m : Model) (out : List ℕ) (s : Stepped) → n ≡ 0 → unless n m out s ≡ s
-unfolding unless
-goes n m out s e = rw e
 
 module _ (m : Model) (session clock taken : ℕ) (input out info : List ℕ) (came : endsIn (sessionAt m (session - 1) .held ++ input) ≡ some (packet 8 info))
     (quiet : step m (receive session clock input out) .told .answer ≡ answer.Quiet taken) where

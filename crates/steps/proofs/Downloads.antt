@@ -1,7 +1,7 @@
--- Whoever downloads a file gets its bytes: by induction over the calls, each of which sends the session nothing, the next DATA or DATA_END, and leaves the
+-- Whoever downloads a file gets its bytes: by induction over the calls, each of which sends the session the next DATA, DATA_END or neither, and leaves the
 -- file, which is complete, as it was. Assumes nothing.
 use mathlib.Core.Path.{_≡_, refl, sym, ap, _∙_, subst}
-use mathlib.Core.Bool.{Bool, true, false, cond}
+use mathlib.Core.Bool.{Bool, true, false, cond, not}
 use mathlib.Core.List.{List, [], _∷_, _++_, append-assoc}
 use mathlib.Core.Option.{Option, none, some}
 use Prim.Native.Nat.{ℕ, zero, suc, min, _+_, _-_, _/_, _%_, _*_, _≤_, _<_}
@@ -18,20 +18,18 @@ use Rattle.calls.specs.Call.{Call, login, receive, request, lose}
 use Rattle.model.specs.State.{File, Downlink, sending, ended, Session, closedSession, withDown, Model, sessionAt, inSession, Stepped, stepped}
 use Rattle.model.specs.Files.{find}
 use Rattle.model.specs.Downlink.{dataDue, onRequest}
-use Rattle.model.specs.Step.{refusal, unless, step}
+use Rattle.model.specs.Step.{endsIn, refusal, unless, step}
 use Rattle.steps.specs.Parts.{sessionIn, sentBy, typeOf}
 use Rattle.steps.specs.Sound.{Sound}
 use Rattle.steps.specs.Naming.{UpOk, DownOk, Named}
-use Rattle.steps.specs.Downloads.{isRequest, requestOrOther, requestsOnly, asksIn, asks, sentTo, dataIn, dataTo, endTo}
+use Rattle.steps.specs.Downloads.{forUplink, requestOrUplink, ownOrOther, requestsAndUplink, asksIn, asks, sentTo, dataIn, dataTo, endTo}
 use Rattle.steps.specs.Downloads.{Downloading, DownloadBrings, DownloadEnds}
 use Rattle.steps.proofs.Changes.{own-session, sound-step}
 use Rattle.steps.proofs.Naming.{find-past, not-both, named-step}
 use Rattle.steps.proofs.Own.{own-file}
+use Rattle.steps.proofs.Uplink.{clash, sentIn, sent-info, NoData, silence, open-refusal, short-step, goes, uplink-beside}
 
-clash : {A : Type 0} → false ≡ true → A
-clash e = let z : _≡_ {A = ℕ} 0 1 = cc in absurd (omega arith)
-
-by-lt : {P : Type 0} (a b : ℕ) → (a < b → P) → (b ≤ a → P) → P
+pub by-lt : {P : Type 0} (a b : ℕ) → (a < b → P) → (b ≤ a → P) → P
 by-lt {P} a b f g = go (ltb a b) refl
   where
     go : (t : Bool) → ltb a b ≡ t → P
@@ -43,26 +41,18 @@ first-is : (b t : Bool) → cond b t false ≡ true → (b ≡ true) × (t ≡ t
 first-is true t e = (refl, e)
 first-is false t e = clash e
 
--- a call of the session itself is a request
-record Allowed (session : ℕ) (c : Call) (cs : List Call) : Type 0 where
-  own : sessionIn c ≡ session → isRequest c ≡ true
-  others : requestsOnly session cs ≡ true
+-- a call of the session itself is a request or for its uplink
+record Allowed (m : Model) (session : ℕ) (c : Call) (cs : List Call) : Type 0 where
+  own : sessionIn c ≡ session → requestOrUplink m c ≡ true
+  others : requestsAndUplink (step m c .after) session cs ≡ true
 
-allowed : (session : ℕ) (c : Call) (cs : List Call) → requestsOnly session (c ∷ cs) ≡ true → Allowed session c cs
-unfolding requestsOnly requestOrOther
-allowed session c cs e =
-    let p = first-is (requestOrOther session c) (requestsOnly session cs) e in
+allowed : (m : Model) (session : ℕ) (c : Call) (cs : List Call) → requestsAndUplink m session (c ∷ cs) ≡ true → Allowed m session c cs
+unfolding requestsAndUplink ownOrOther
+allowed m session c cs e =
+    let p = first-is (ownOrOther m session c) (requestsAndUplink (step m c .after) session cs) e in
     record { own = λ q. rw (eq-eqb (sessionIn c) session q) at (p .0); others = p .1 }
 
 -- ---- packets
-
--- the packet of what a call tells
-abbrev sentIn : Told → List ℕ
-sentIn t = sentBy (t .answer) (t .out)
-
-sent-info : (kind : ℕ) (info : List ℕ) (out : List ℕ) → sentIn (sentInfo kind info 0 out) ≡ packetOf kind info
-unfolding sentBy packetOf
-sent-info kind info out = take-at (packetOf kind info) (drop (2 + length info) out) (2 + length info) (omega arith)
 
 data-packet : (info : List ℕ) → dataIn (packetOf 0 info) ≡ info
 unfolding dataIn packetOf
@@ -71,10 +61,6 @@ data-packet info = rw (eq-eqb ((0 + 32 * (length info / 256)) % 32) 0 (omega ari
 data-type : (info : List ℕ) → typeOf (packetOf 0 info) ≡ 0
 unfolding packetOf
 data-type info = omega arith
-
-data-none : dataIn [] ≡ []
-unfolding dataIn
-data-none = refl
 
 data-end : dataIn (packetOf 1 []) ≡ []
 unfolding dataIn packetOf
@@ -118,20 +104,15 @@ zero-stays m (receive session clock input out) e = none-moves _ m out _ (zero-re
 zero-stays m (request session out) e = none-moves _ m out _ (zero-refused m session true (length out) e)
 zero-stays m (lose session) e = none-moves _ m [] _ (zero-refused m session true 258 e)
 
--- a call of an open session is refused by 32 alone
-open-refusal : (m : Model) (session room : ℕ) → 1 ≤ session → session - 1 < length (m .sessions) → sessionAt m (session - 1) .linked ≡ true
-    → refusal m session true room ≡ cond (ltb room 258) 32 0
-unfolding refusal
-open-refusal m session room one there linked =
-    rw (ne-eqb session 0 (λ e. omega arith), le-ltb (length (m .sessions)) session (omega arith), linked)
-
-short-step : (n : ℕ) (m : Model) (out : List ℕ) (s : Stepped) → n ≡ 32 → unless n m out s ≡ stepped (told (answer.Refused 32) out) m
-unfolding unless
-short-step n m out s e = rw e
-
-goes : (n : ℕ) (m : Model) (out : List ℕ) (s : Stepped) → n ≡ 0 → unless n m out s ≡ s
-unfolding unless
-goes n m out s e = rw e
+-- a call for another session leaves this one as it was
+pub others-leave : (session : ℕ) → 1 ≤ session → (m : Model) (c : Call) → (sessionIn c ≡ session → ⊥)
+    → sessionAt (step m c .after) (session - 1) ≡ sessionAt m (session - 1)
+others-leave session one m c z = by-zero (eqb (sessionIn c) 0) refl
+  where
+    by-zero : (b : Bool) → eqb (sessionIn c) 0 ≡ b → sessionAt (step m c .after) (session - 1) ≡ sessionAt m (session - 1)
+    by-zero true e = ap (λ (x : Model). sessionAt x (session - 1)) (zero-stays m c (eqb-true (sessionIn c) 0 e))
+    by-zero false e =
+        own-session m c (session - 1) (λ q. z (let y : sessionIn c ≡ session = omega (arith, eqb-false (sessionIn c) 0 e) in y))
 
 -- ---- a session that is being sent the file f, of number n
 
@@ -157,7 +138,7 @@ module _ (session : ℕ) (one : 1 ≤ session) (n : ℕ) (f : File) where
 
   -- what a call comes to while the file is being sent
   data Turn (m : Model) (c : Call) (at : ℕ) : Type 0 where
-    silent : sentTo m session c ≡ [] → asked c ≡ 0 → Has (step m c .after) at → Turn m c at
+    silent : NoData (sentTo m session c) → asked c ≡ 0 → Has (step m c .after) at → Turn m c at
     more : sentTo m session c ≡ packetOf 0 (take 256 (drop at (f .bytes)))
         → asked c ≡ 1
         → at < length (f .bytes)
@@ -200,25 +181,18 @@ module _ (session : ℕ) (one : 1 ≤ session) (n : ℕ) (f : File) where
 
   -- ---- calls for other sessions
 
-  away : (m : Model) (c : Call) → (sessionIn c ≡ session → ⊥) → sessionAt (step m c .after) i ≡ sessionAt m i
-  away m c z =
-      by-zero (eqb (sessionIn c) 0) refl
-    where
-      by-zero : (b : Bool) → eqb (sessionIn c) 0 ≡ b → sessionAt (step m c .after) i ≡ sessionAt m i
-      by-zero true e = ap (λ (x : Model). sessionAt x i) (zero-stays m c (eqb-true (sessionIn c) 0 e))
-      by-zero false e =
-          own-session m c i
-          (λ q. z (let y : sessionIn c ≡ session = omega (arith, eqb-false (sessionIn c) 0 e) in y))
-
-  other-sent : (m : Model) (c : Call) → eqb (sessionIn c) session ≡ false → sentTo m session c ≡ []
+  other-sent : (m : Model) (c : Call) → eqb (sessionIn c) session ≡ false → NoData (sentTo m session c)
   unfolding sentTo
-  other-sent m c q = rw q
+  other-sent m c q = rw q silence
 
   -- ---- its own requests
 
-  own-sent : (m : Model) (out : List ℕ) (t : Stepped) → step m (request session out) ≡ t → sentTo m session (request session out) ≡ sentIn (t .told)
+  sent-by : (m : Model) (c : Call) → sessionIn c ≡ session → sentTo m session c ≡ sentIn (step m c .told)
   unfolding sentTo
-  own-sent m out t e = rw (eq-eqb session session refl) (ap (λ (s : Stepped). sentIn (s .told)) e)
+  sent-by m c q = rw (eq-eqb (sessionIn c) session q)
+
+  own-sent : (m : Model) (out : List ℕ) (t : Stepped) → step m (request session out) ≡ t → sentTo m session (request session out) ≡ sentIn (t .told)
+  own-sent m out t e = sent-by m (request session out) refl ∙ ap (λ (s : Stepped). sentIn (s .told)) e
 
   own-asked : (out : List ℕ) → asked (request session out) ≡ cond (ltb (length out) 258) 0 1
   unfolding asksIn
@@ -261,7 +235,7 @@ module _ (session : ℕ) (one : 1 ≤ session) (n : ℕ) (f : File) where
 
   end-sent : (out : List ℕ) → sentIn (tell reply.DataEnd 0 out) ≡ packetOf 1 []
   unfolding tell
-  end-sent out = sent-info 1 [] out
+  end-sent out = sent-info 1 [] 0 out
 
   module _ (m : Model) (at : ℕ) (a : Has m at) (out : List ℕ) where
     inside : i < length (m .sessions)
@@ -277,7 +251,7 @@ module _ (session : ℕ) (one : 1 ≤ session) (n : ℕ) (f : File) where
     unfolding sentBy
     turn-short t =
         let s = short m inside (a .linked) out t in
-        silent (own-sent m out _ s) (own-asked out ∙ ap (λ (b : Bool). cond b 0 1) t)
+        silent (subst NoData (sym (own-sent m out _ s)) silence) (own-asked out ∙ ap (λ (b : Bool). cond b 0 1) t)
         (has m (request session out) at at a (ap (λ (x : Stepped). sessionAt (x .after) i .linked) s ∙ a .linked)
         (ap (λ (x : Stepped). sessionAt (x .after) i .down) s ∙ a .down))
 
@@ -285,7 +259,7 @@ module _ (session : ℕ) (one : 1 ≤ session) (n : ℕ) (f : File) where
     turn-more room k =
         let s = roomy m inside (a .linked) out (sending n at) (a .down) room ∙ due-is m at out (a .found) ∙ due-more m at out k in
         let q = moved m inside (a .linked) out (sending n (at + length (take 256 (drop at (f .bytes))))) in
-        more (own-sent m out _ s ∙ sent-info 0 (take 256 (drop at (f .bytes))) out) (asked-once room) k
+        more (own-sent m out _ s ∙ sent-info 0 (take 256 (drop at (f .bytes))) 0 out) (asked-once room) k
         (has m (request session out) at (at + length (take 256 (drop at (f .bytes)))) a
         (ap (λ (x : Stepped). sessionAt (x .after) i .linked) s ∙ ap (λ (x : Session). x .linked) q ∙ a .linked)
         (ap (λ (x : Stepped). sessionAt (x .after) i .down) s ∙ ap (λ (x : Session). x .down) q))
@@ -307,13 +281,13 @@ module _ (session : ℕ) (one : 1 ≤ session) (n : ℕ) (f : File) where
 
   -- of one that was sent all
   record Rests (m : Model) (c : Call) : Type 0 where
-    none : sentTo m session c ≡ []
+    none : NoData (sentTo m session c)
     over : Over (step m c .after)
 
   rest-by : (m : Model) (out : List ℕ) (t : Told) → Over m → step m (request session out) ≡ stepped t m → sentIn t ≡ [] → Rests m (request session out)
   rest-by m out t a s e =
       record {
-        none = own-sent m out _ s ∙ e;
+        none = subst NoData (sym (own-sent m out _ s ∙ e)) silence;
         over = record {
           linked = ap (λ (x : Stepped). sessionAt (x .after) i .linked) s ∙ a .linked;
           down = ap (λ (x : Stepped). sessionAt (x .after) i .down) s ∙ a .down;
@@ -329,33 +303,68 @@ module _ (session : ℕ) (one : 1 ≤ session) (n : ℕ) (f : File) where
 
   -- ---- any call
 
-  -- its own call is a request
-  by-request : (P : Call → Type 0) → ((out : List ℕ) → P (request session out)) → (c : Call) → sessionIn c ≡ session → isRequest c ≡ true → P c
-  unfolding isRequest
-  by-request P g (login k clock out) e q = clash q
-  by-request P g (receive k clock input out) e q = clash q
-  by-request P g (request k out) e q = subst (λ (x : ℕ). P (request x out)) (sym e) (g out)
-  by-request P g (lose k) e q = clash q
+  -- ---- its own bytes
 
-  turn : (m : Model) (c : Call) (at : ℕ) → Has m at → (sessionIn c ≡ session → isRequest c ≡ true) → Turn m c at
+  record Uploads (m : Model) (c : Call) : Type 0 where
+    sent : NoData (sentTo m session c)
+    linked : sessionAt (step m c .after) i .linked ≡ true
+    down : sessionAt (step m c .after) i .down ≡ sessionAt m i .down
+
+  uploads : (m : Model) (clock : ℕ) (input out : List ℕ) → i < length (m .sessions) → sessionAt m i .linked ≡ true
+      → requestOrUplink m (receive session clock input out) ≡ true
+      → Uploads m (receive session clock input out)
+  unfolding requestOrUplink
+  uploads m clock input out inside linked e =
+      let p = first-is (forUplink (endsIn (sessionAt m i .held ++ input))) (sessionAt (step m (receive session clock input out) .after) i .linked) e in
+      let b = uplink-beside m session clock input out one inside linked (p .0) in
+      record { sent = subst NoData (sym (sent-by m (receive session clock input out) refl)) (b .sent); linked = p .1; down = b .down (p .1) }
+
+  no-request : (clock : ℕ) (input out : List ℕ) → asked (receive session clock input out) ≡ 0
+  unfolding asksIn
+  no-request clock input out = rw (eq-eqb session session refl)
+
+  turn-uploads : (m : Model) (at : ℕ) → Has m at → (clock : ℕ) (input out : List ℕ) → requestOrUplink m (receive session clock input out) ≡ true
+      → Turn m (receive session clock input out) at
+  turn-uploads m at a clock input out e =
+      let u = uploads m clock input out (sends-there m at (a .down)) (a .linked) e in
+      silent (u .sent) (no-request clock input out) (has m (receive session clock input out) at at a (u .linked) (u .down ∙ a .down))
+
+  rest-uploads : (m : Model) → Over m → (clock : ℕ) (input out : List ℕ) → requestOrUplink m (receive session clock input out) ≡ true
+      → Rests m (receive session clock input out)
+  rest-uploads m a clock input out e =
+      let u = uploads m clock input out (over-there m (a .down)) (a .linked) e in
+      record { none = u .sent; over = record { linked = u .linked; down = u .down ∙ a .down } }
+
+  -- its own call is a request, or bytes for its uplink
+  by-call : (m : Model) (P : Call → Type 0) → ((out : List ℕ) → P (request session out))
+      → ((clock : ℕ) (input out : List ℕ) → requestOrUplink m (receive session clock input out) ≡ true → P (receive session clock input out))
+      → (c : Call) → sessionIn c ≡ session → requestOrUplink m c ≡ true → P c
+  unfolding requestOrUplink
+  by-call m P g h (login k clock out) e q = clash q
+  by-call m P g h (receive k clock input out) e q =
+      subst (λ (x : ℕ). requestOrUplink m (receive x clock input out) ≡ true → P (receive x clock input out)) (sym e) (h clock input out) q
+  by-call m P g h (request k out) e q = subst (λ (x : ℕ). P (request x out)) (sym e) (g out)
+  by-call m P g h (lose k) e q = clash q
+
+  turn : (m : Model) (c : Call) (at : ℕ) → Has m at → (sessionIn c ≡ session → requestOrUplink m c ≡ true) → Turn m c at
   turn m c at a g = go (eqb (sessionIn c) session) refl
     where
       go : (b : Bool) → eqb (sessionIn c) session ≡ b → Turn m c at
       go true q =
-          let e = eqb-true (sessionIn c) session q in by-request (λ (x : Call). Turn m x at) (λ out. own-turn m at a out) c e (g e)
+          let e = eqb-true (sessionIn c) session q in by-call m (λ (x : Call). Turn m x at) (λ out. own-turn m at a out) (turn-uploads m at a) c e (g e)
       go false q =
-          let w = away m c (eqb-false (sessionIn c) session q) in
+          let w = others-leave session one m c (eqb-false (sessionIn c) session q) in
           silent (other-sent m c q) (ap (λ (b : Bool). cond b (asksIn c) 0) q)
           (has m c at at a (ap (λ (x : Session). x .linked) w ∙ a .linked) (ap (λ (x : Session). x .down) w ∙ a .down))
 
-  rest : (m : Model) (c : Call) → Over m → (sessionIn c ≡ session → isRequest c ≡ true) → Rests m c
+  rest : (m : Model) (c : Call) → Over m → (sessionIn c ≡ session → requestOrUplink m c ≡ true) → Rests m c
   rest m c a g = go (eqb (sessionIn c) session) refl
     where
       go : (b : Bool) → eqb (sessionIn c) session ≡ b → Rests m c
       go true q =
-          let e = eqb-true (sessionIn c) session q in by-request (λ (x : Call). Rests m x) (λ out. own-rest m out a) c e (g e)
+          let e = eqb-true (sessionIn c) session q in by-call m (λ (x : Call). Rests m x) (λ out. own-rest m out a) (rest-uploads m a) c e (g e)
       go false q =
-          let w = away m c (eqb-false (sessionIn c) session q) in
+          let w = others-leave session one m c (eqb-false (sessionIn c) session q) in
           record {
             none = other-sent m c q;
             over = record { linked = ap (λ (x : Session). x .linked) w ∙ a .linked; down = ap (λ (x : Session). x .down) w ∙ a .down };
@@ -368,16 +377,16 @@ module _ (session : ℕ) (one : 1 ≤ session) (n : ℕ) (f : File) where
     none : dataTo m session cs ≡ []
     no-end : endTo m session cs ≡ false
 
-  quiet : (cs : List Call) (m : Model) → Over m → requestsOnly session cs ≡ true → Nothing m cs
-  unfolding dataTo endTo dataIn
+  quiet : (cs : List Call) (m : Model) → Over m → requestsAndUplink m session cs ≡ true → Nothing m cs
+  unfolding dataTo endTo
   quiet [] m a e = record { none = refl; no-end = refl }
   quiet (c ∷ cs) m a e =
-      let p = allowed session c cs e in
+      let p = allowed m session c cs e in
       let r = rest m c a (p .own) in
       on r (quiet cs (step m c .after) (r .over) (p .others))
     where
       on : Rests m c → Nothing (step m c .after) cs → Nothing m (c ∷ cs)
-      on r q = record { none = rw (r .none) (q .none); no-end = rw (r .none) (q .no-end) }
+      on r q = record { none = rw (r .none .none) (q .none); no-end = rw (r .none .no-end) (q .no-end) }
 
   -- what is sent, of what is left
   record Sent (m : Model) (cs : List Call) (left : List ℕ) : Type 0 where
@@ -385,11 +394,11 @@ module _ (session : ℕ) (one : 1 ≤ session) (n : ℕ) (f : File) where
     front : dataTo m session cs ++ back ≡ left
     whole : endTo m session cs ≡ true → dataTo m session cs ≡ left
 
-  sent-all : (cs : List Call) (m : Model) (at : ℕ) → Has m at → requestsOnly session cs ≡ true → Sent m cs (drop at (f .bytes))
+  sent-all : (cs : List Call) (m : Model) (at : ℕ) → Has m at → requestsAndUplink m session cs ≡ true → Sent m cs (drop at (f .bytes))
   unfolding dataTo endTo
   sent-all [] m at a e = record { back = drop at (f .bytes); front = refl; whole = λ q. clash q }
   sent-all (c ∷ cs) m at a e =
-      let p = allowed session c cs e in
+      let p = allowed m session c cs e in
       on (turn m c at a (p .own)) (λ to b. sent-all cs (step m c .after) to b (p .others)) (p .others)
     where
       info : List ℕ
@@ -405,24 +414,24 @@ module _ (session : ℕ) (one : 1 ≤ session) (n : ℕ) (f : File) where
             whole = rw (q, data-packet info, data-type info) (λ t. ap (λ (l : List ℕ). info ++ l) (r .whole t) ∙ j);
           }
 
-      on : Turn m c at → ((to : ℕ) → Has (step m c .after) to → Sent (step m c .after) cs (drop to (f .bytes))) → requestsOnly session cs ≡ true
+      on : Turn m c at → ((to : ℕ) → Has (step m c .after) to → Sent (step m c .after) cs (drop to (f .bytes))) → requestsAndUplink (step m c .after) session cs ≡ true
           → Sent m (c ∷ cs) (drop at (f .bytes))
       on (silent q _ b) ih o =
           let r = ih at b in
-          record { back = r .back; front = rw (q, data-none) (r .front); whole = rw (q, data-none) (r .whole) }
+          record { back = r .back; front = rw (q .none) (r .front); whole = rw (q .none, q .no-end) (r .whole) }
       on (more q _ k b) ih o = behind _ (next-left (f .bytes) at) (ih (at + length info) b) q
       on (ends q _ k b) ih o =
           let r = quiet cs (step m c .after) b o in
           let left = sym (drop-of-length-le (f .bytes) k) in
           record { back = []; front = rw (q, data-end, r .none) left; whole = λ _. rw (q, data-end, r .none) left }
 
-  all-ended : (cs : List Call) (m : Model) (at : ℕ) → Has m at → requestsOnly session cs ≡ true
+  all-ended : (cs : List Call) (m : Model) (at : ℕ) → Has m at → requestsAndUplink m session cs ≡ true
       → (length (f .bytes) - at + 255) / 256 + 1 ≤ asks session cs
       → endTo m session cs ≡ true
   unfolding endTo asks
   all-ended [] m at a e k = absurd (omega arith)
   all-ended (c ∷ cs) m at a e k =
-      let p = allowed session c cs e in
+      let p = allowed m session c cs e in
       on (turn m c at a (p .own)) (λ to b l. all-ended cs (step m c .after) to b (p .others) l) k
     where
       info : List ℕ
@@ -438,7 +447,7 @@ module _ (session : ℕ) (one : 1 ≤ session) (n : ℕ) (f : File) where
           → ((to : ℕ) → Has (step m c .after) to → (length (f .bytes) - to + 255) / 256 + 1 ≤ asks session cs → endTo (step m c .after) session cs ≡ true)
           → (length (f .bytes) - at + 255) / 256 + 1 ≤ asked c + asks session cs
           → cond (eqb (typeOf (sentTo m session c)) 1) true (endTo (step m c .after) session cs) ≡ true
-      on (silent q z b) ih k = rw q (ih at b (omega arith))
+      on (silent q z b) ih k = rw (q .no-end) (ih at b (omega arith))
       on (more q z j b) ih k = rw (q, data-type info) (ih (at + length info) b (fewer j z k))
       on (ends q z j b) ih k = rw (q, end-type)
 
@@ -457,3 +466,39 @@ download-brings m s k session n offset f d cs only =
 pub download-ends : DownloadEnds
 download-ends m s k session n offset f d cs only many =
     all-ended session (d .from-one) n f cs m offset (begins m s k session n offset f d) only (omega arith)
+
+-- ---- requests alone
+
+-- each call for this session is a request
+unfoldable pub requestOnly : ℕ → Call → Bool
+requestOnly session (login k clock out) = not (eqb k session)
+requestOnly session (receive k clock input out) = not (eqb k session)
+requestOnly session (request k out) = true
+requestOnly session (lose k) = not (eqb k session)
+
+unfoldable pub requestsOnly : ℕ → List Call → Bool
+requestsOnly session [] = true
+requestsOnly session (c ∷ cs) = cond (requestOnly session c) (requestsOnly session cs) false
+
+other : (b x : Bool) → not b ≡ true → cond b x true ≡ true
+other true x e = clash e
+other false x e = refl
+
+one-only : (m : Model) (session : ℕ) (c : Call) → requestOnly session c ≡ true → ownOrOther m session c ≡ true
+unfolding requestOnly ownOrOther requestOrUplink
+one-only m session (login k clock out) e = other (eqb k session) false e
+one-only m session (receive k clock input out) e = other (eqb k session) _ e
+one-only m session (request k out) e = either (eqb k session)
+  where
+    either : (b : Bool) → cond b true true ≡ true
+    either true = refl
+    either false = refl
+one-only m session (lose k) e = other (eqb k session) false e
+
+-- THEOREM: such calls may come, whatever the state
+pub requests-only : (m : Model) (session : ℕ) (cs : List Call) → requestsOnly session cs ≡ true → requestsAndUplink m session cs ≡ true
+unfolding requestsOnly requestsAndUplink
+requests-only m session [] e = refl
+requests-only m session (c ∷ cs) e =
+    let p = first-is (requestOnly session c) (requestsOnly session cs) e in
+    rw (one-only m session c (p .0)) (requests-only (step m c .after) session cs (p .1))

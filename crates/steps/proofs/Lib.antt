@@ -3,6 +3,7 @@ pub mod Changes
 pub mod Naming
 pub mod Own
 pub mod Neighbour
+pub mod Uplink
 pub mod Downloads
 pub mod Begins
 pub mod Start

@@ -35,7 +35,7 @@ use Rattle.steps.specs.Naming.{Partial, Complete, UpOk, DownOk, Named, N
 clash : {P : Type 0} {f : File} → none ≡ some f → P
 clash e = let z : _≡_ {A = ℕ} 0 1 = cc in absurd (omega arith)
 
-by-eq : {P : Type 0} (a b : ℕ) → (a ≡ b → P) → ((a ≡ b → ⊥) → P) → P
+pub by-eq : {P : Type 0} (a b : ℕ) → (a ≡ b → P) → ((a ≡ b → ⊥) → P) → P
 by-eq {P} a b f g = go (eqb a b) refl
   where
     go : (t : Bool) → eqb a b ≡ t → P
@@ -74,7 +74,7 @@ module _ (m : Model) (number time : ℕ) (fs : List File) (i : ℕ) (x : Session
 
 -- ---- finding in other files
 
-find-changed : (n k : ℕ) (h : File → File) (fs : List File) (f : File) → ((g : File) → h g .number ≡ g .number) → find n fs ≡ some f
+pub find-changed : (n k : ℕ) (h : File → File) (fs : List File) (f : File) → ((g : File) → h g .number ≡ g .number) → find n fs ≡ some f
     → find n (changed k h fs) ≡ some (cond (eqb n k) (h f) f)
 unfolding find changed
 find-changed n k h [] f u e = clash e

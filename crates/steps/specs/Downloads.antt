@@ -3,11 +3,11 @@
 use mathlib.Core.Path.{_≡_}
 use mathlib.Core.Bool.{Bool, true, false, cond}
 use mathlib.Core.List.{List, [], _∷_, _++_}
-use mathlib.Core.Option.{some}
+use mathlib.Core.Option.{Option, none, some}
 use Prim.Native.Nat.{ℕ, _+_, _-_, _/_, _≤_}
 use lib.Dec.{eqb, ltb}
 use lib.ListN.{length, getD, drop}
-use Rattle.packet.specs.Frame.{packet}
+use Rattle.packet.specs.Frame.{Event, packet, too-long}
 use Rattle.session.specs.declared.reply.Answer.the-variants as answer
 use Rattle.decide.specs.Words.{wordAt}
 use Rattle.calls.specs.Call.{Call, login, receive, request, lose}
@@ -20,21 +20,30 @@ use Rattle.steps.specs.Naming.{Named}
 
 -- ---- the calls
 
--- the driver asks for a packet
-unfoldable pub isRequest : Call → Bool
-isRequest (login session clock out) = false
-isRequest (receive session clock input out) = false
-isRequest (request session out) = true
-isRequest (lose session) = false
+-- bytes that are none of the downlink's business: what they end in is nothing, DATA (0), DATA_END (1) or UPLOAD_CMD (3)
+unfoldable pub forUplink : Option Event → Bool
+forUplink none = true
+forUplink (some too-long) = false
+forUplink (some (packet kind info)) = cond (eqb kind 0) true (cond (eqb kind 1) true (eqb kind 3))
 
--- a request of this session, or any call for another one
-unfoldable pub requestOrOther : ℕ → Call → Bool
-requestOrOther session c = cond (eqb (sessionIn c) session) (isRequest c) true
+-- the driver asks for a packet, or hands over bytes of the link, in any pieces, that are for the uplink and do not close the link
+unfoldable pub requestOrUplink : Model → Call → Bool
+requestOrUplink m (login session clock out) = false
+requestOrUplink m (receive session clock input out) =
+    cond (forUplink (endsIn (sessionAt m (session - 1) .held ++ input)))
+    (sessionAt (step m (receive session clock input out) .after) (session - 1) .linked)
+    false
+requestOrUplink m (request session out) = true
+requestOrUplink m (lose session) = false
 
--- each call for this session is a request
-unfoldable pub requestsOnly : ℕ → List Call → Bool
-requestsOnly session [] = true
-requestsOnly session (c ∷ cs) = cond (requestOrOther session c) (requestsOnly session cs) false
+-- such a call of this session, or any call for another one
+unfoldable pub ownOrOther : Model → ℕ → Call → Bool
+ownOrOther m session c = cond (eqb (sessionIn c) session) (requestOrUplink m c) true
+
+-- "Each session carries an uplink state and a downlink state that move separately": each call for this session is a request or brings its uplink bytes
+unfoldable pub requestsAndUplink : Model → ℕ → List Call → Bool
+requestsAndUplink m session [] = true
+requestsAndUplink m session (c ∷ cs) = cond (ownOrOther m session c) (requestsAndUplink (step m c .after) session cs) false
 
 -- a request whose output has room for any packet: one of fewer than 258 bytes is refused by 32
 unfoldable pub asksIn : Call → ℕ
@@ -83,12 +92,12 @@ pub record Brings (m : Model) (session : ℕ) (cs : List Call) (bytes : List ℕ
   pub front : dataTo m session cs ++ back ≡ bytes
   pub whole : endTo m session cs ≡ true → dataTo m session cs ≡ bytes
 
--- WHO DOWNLOADS A FILE GETS ITS BYTES, those that it had when the download began, whatever the other sessions do meanwhile
+-- WHO DOWNLOADS A FILE GETS ITS BYTES, those that it had when the download began, whatever the other sessions do and whatever it uploads meanwhile
 abbrev pub DownloadBrings : Type 0
 DownloadBrings =
     (m : Model) → Sound m → Named m → (session n offset : ℕ) (f : File) → Downloading m session n offset f
     → (cs : List Call)
-    → requestsOnly session cs ≡ true
+    → requestsAndUplink m session cs ≡ true
     → Brings m session cs (drop offset (f .bytes))
 
 -- and gets all of them: each request with room brings 256 bytes or what is left, and one more DATA_END
@@ -96,7 +105,7 @@ abbrev pub DownloadEnds : Type 0
 DownloadEnds =
     (m : Model) → Sound m → Named m → (session n offset : ℕ) (f : File) → Downloading m session n offset f
     → (cs : List Call)
-    → requestsOnly session cs ≡ true
+    → requestsAndUplink m session cs ≡ true
     → length (f .bytes) / 256 + 2 ≤ asks session cs
     → endTo m session cs ≡ true
 
