@@ -15,12 +15,12 @@ use Rattle.server.specs.declared.Server.{Server}
 use Rattle.server.specs.State.{Lent, Outcome}
 use Rattle.history.specs.Calls.{Call, callOf}
 use Rattle.refines.specs.Refines.{EveryCall, EveryHistory}
-use Rattle.demands.specs.Closing.{ClosingIsLosing, EveryClosing}
-use Rattle.demands.specs.Cut.{CutElsewhere, LentEarlier}
-use Rattle.demands.specs.Uncut.{UncutSame}
-use Rattle.demands.specs.Feeding.{EnoughCalls, PiecesElsewhere}
+use Rattle.promises.specs.Closing.{ClosingIsLosing, EveryClosing}
+use Rattle.promises.specs.Cut.{CutElsewhere, LentEarlier}
+use Rattle.promises.specs.Uncut.{UncutSame}
+use Rattle.promises.specs.Feeding.{EnoughCalls, PiecesElsewhere}
 use Rattle.steps.specs.Downloads.{DownloadBegins, DownloadBrings, DownloadEnds}
-use Rattle.demands.specs.Downloads.{NothingDue}
+use Rattle.promises.specs.Requests.{NothingDue}
 
 -- the reader finds this type and this information in front of the bytes
 pub record Reads (bytes : List ℕ) (kind : ℕ) (info : List ℕ) : Type 0 where

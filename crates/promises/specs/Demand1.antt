@@ -17,7 +17,7 @@ use Rattle.server.specs.State.{Lent, lent, Outcome, outcome, doneWith, linkOf, 
 use Rattle.server.specs.Check.{fits, soundParts}
 use Rattle.server.specs.Making.{newServer, emptied, emptyOf, makes, makeOf}
 use Rattle.history.specs.Calls.{Call, receive, callOf, Start, legal, History, after}
-use Rattle.demands.specs.Parts.{sessionIn, bytesIn, outIn, openIn, roomIn, oneOf}
+use Rattle.promises.specs.Parts.{sessionIn, bytesIn, outIn, openIn, roomIn, oneOf}
 
 -- ---- the answers of a call
 
