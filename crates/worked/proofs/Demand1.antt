@@ -1,19 +1,24 @@
 -- Demand 1 at work: each statement is applied to small cases that meet its hypotheses, and what it gives is stated. Assumes nothing.
-use mathlib.Core.Path.{_≡_, refl, ap, _∙_, sym, subst}
-use mathlib.Core.Bool.{Bool, true, false, cond}
-use mathlib.Core.List.{List, [], _∷_, _++_}
-use Prim.Native.Nat.{ℕ, _+_, _≤_, _<_}
+use mathlib.Core.Path.{_≡_, _∙_, sym}
+use mathlib.Core.Bool.{true, false}
+use mathlib.Core.List.{List, [], _∷_}
+use Prim.Native.Nat.{ℕ, _-_, _≤_}
 use native.Mathlib.Omega.{arith}
 use lib.ListN.{length, replicate, length-replicate}
-use Rattle.server.specs.State.{linkOf, withPart}
+use Rattle.session.specs.declared.state.Uplink.{Uplink}
+use Rattle.session.specs.declared.state.Uplink.the-variants as up
+use Rattle.session.specs.declared.reply.Answer.the-variants as answer
+use Rattle.session.specs.State.{withHeld, withUp}
+use Rattle.server.specs.declared.Server.{Server}
+use Rattle.server.specs.State.{Lent, linkOf, withLink, withPart}
 use Rattle.server.specs.Making.{newServer, emptied, emptyOf, makes, makeOf}
-use Rattle.history.specs.Calls.{Call, login, receive, callOf}
+use Rattle.history.specs.Calls.{Call, login, receive, lose, callOf}
 use Rattle.history.specs.Good.{Good}
 use Rattle.history.proofs.Histories.{good-after}
 use Rattle.promises.specs.Parts.{oneOf}
-use Rattle.promises.specs.Demand1.{RefusedBy, Reachable, Naks, NothingElse, Demand1}
+use Rattle.promises.specs.Demand1.{Says, Reachable, UploadOver, over, overrun, Naks, NothingElse, Demand1}
 use Rattle.worked.proofs.Passes.{small, small-legal, output, rx, upload, dataEnd, shortUpload, largeUpload, nextFile, titleAboveM, data41}
-use Rattle.worked.proofs.Passes.{opened, halfway, serverAfter, lentAfter}
+use Rattle.worked.proofs.Passes.{opened, halfway, on, serverAfter, lentAfter, answerOf}
 use Rattle.worked.proofs.Computed.{with255, withOwner, computed}
 
 room : 258 ≤ length {A = ℕ} output
@@ -36,6 +41,9 @@ good = good-after small small-legal opened
 reached : (clock : ℕ) (bytes out : List ℕ) → Reachable (serverAfter opened) (receive 1 clock bytes out)
 reached clock bytes out =
     record { from-one = omega arith; in-range = omega (arith, computed .locals .sessions); in-state = computed .locals .linked }
+
+clash : false ≡ true → ⊥
+clash e = let z : _≡_ {A = ℕ} 0 1 = cc in omega arith
 
 module _ (d : Demand1) where
   -- UL_ERROR_RESP 1 to an UPLOAD_CMD of one byte
@@ -69,27 +77,51 @@ module _ (d : Demand1) where
       ≡ withPart 0 258 (replicate 258 0) (lentAfter halfway .held))
   too-few-left = (too-few-naks .selected, too-few-naks .held)
 
+  -- after a NAK by another number than 16 the session uploads nothing; of the server nothing else changes, but that no packet is unfinished
+  pub idle-after :
+      (sv : Server) (l : Lent) (session clock : ℕ) (input out : List ℕ) (e : ℕ) → Says sv l session clock input out 7 e → (e ≡ 16 → ⊥)
+      → callOf sv l (receive session clock input out) .done .server
+      ≡ withLink sv (session - 1) (withUp (withHeld (linkOf sv (session - 1)) 0) up.Idle)
+  idle-after sv l session clock input out e s n =
+      let r = d .naks sv l session clock input out e s in
+      go (r .uplink) (r .over) (r .server)
+    where
+      go : (u : Uplink) → UploadOver e u
+          → callOf sv l (receive session clock input out) .done .server ≡ withLink sv (session - 1) (withUp (withHeld (linkOf sv (session - 1)) 0) u)
+          → callOf sv l (receive session clock input out) .done .server
+          ≡ withLink sv (session - 1) (withUp (withHeld (linkOf sv (session - 1)) 0) up.Idle)
+      go up.Idle over q = q
+      go up.Ignoring (overrun is) q = absurd (n is)
+
   -- 33: whatever is called with a disk that is one byte too short
-  pub short-disk-by-33 : (c : Call) → RefusedBy (serverAfter opened) (with255 (lentAfter opened)) c 33
+  pub short-disk-by-33 : (c : Call) → answerOf (serverAfter opened) (with255 (lentAfter opened)) c ≡ answer.Refused 33
   short-disk-by-33 c = d .locals _ _ c .by33 (computed .locals .short-disk)
 
   -- 35: whatever is called in a state that names a file place which is not there
-  pub unsound-by-35 : (c : Call) → RefusedBy (serverAfter opened) (withOwner 2 (lentAfter opened)) c 35
+  pub unsound-by-35 : (c : Call) → answerOf (serverAfter opened) (withOwner 2 (lentAfter opened)) c ≡ answer.Refused 35
   unsound-by-35 c = d .locals _ _ c .by35 (computed .locals .lost-block) (computed .locals .unsound)
 
   -- 34: a login of session 2, where there is one session
-  pub second-by-34 : RefusedBy (serverAfter opened) (lentAfter opened) (login 2 6 output) 34
+  pub second-by-34 : answerOf (serverAfter opened) (lentAfter opened) (login 2 6 output) ≡ answer.Refused 34
   second-by-34 =
       d .locals _ _ (login 2 6 output) .by34 (good .fits) (good .sound) (λ r. omega (arith, r .in-range, computed .locals .sessions))
 
+  -- a call for session 0, since sessions are numbered from 1
+  pub zero-by-34 : answerOf (serverAfter opened) (lentAfter opened) (lose 0) ≡ answer.Refused 34
+  zero-by-34 = d .locals _ _ (lose 0) .by34 (good .fits) (good .sound) (λ r. omega (arith, r .from-one))
+
+  -- a login of session 1, which is open
+  pub open-by-34 : answerOf (serverAfter opened) (lentAfter opened) (on 6) ≡ answer.Refused 34
+  open-by-34 = d .locals _ _ (on 6) .by34 (good .fits) (good .sound) (λ r. clash (sym (r .in-state) ∙ computed .locals .linked))
+
   -- 32: an output of 257 bytes
-  pub output-by-32 : RefusedBy (serverAfter opened) (lentAfter opened) (receive 1 6 (upload 0) (replicate 257 0)) 32
+  pub output-by-32 : answerOf (serverAfter opened) (lentAfter opened) (receive 1 6 (upload 0) (replicate 257 0)) ≡ answer.Refused 32
   output-by-32 =
       d .locals _ _ (receive 1 6 (upload 0) (replicate 257 0)) .by32 (good .fits) (good .sound) (reached _ _ _)
       (omega (arith, length-replicate {A = ℕ} 257 0))
 
   -- none of these: an output of 258 bytes
-  pub none-refused : (n : ℕ) → RefusedBy (serverAfter opened) (lentAfter opened) (rx 6 (upload 0)) n → ⊥
+  pub none-refused : (n : ℕ) → answerOf (serverAfter opened) (lentAfter opened) (rx 6 (upload 0)) ≡ answer.Refused n → ⊥
   none-refused = d .locals _ _ (rx 6 (upload 0)) .by-none (good .fits) (good .sound) (reached _ _ _) room
 
   -- this login is a call after a history, so its number is 32 or 34

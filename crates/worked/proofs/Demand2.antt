@@ -3,6 +3,7 @@
 use mathlib.Core.Path.{_≡_, refl, ap, _∙_, sym, subst}
 use mathlib.Core.Bool.{Bool, true, false, cond}
 use mathlib.Core.List.{List, [], _∷_, _++_, flatten}
+use mathlib.Core.Option.{Option, some}
 use Prim.Native.Nat.{ℕ, _+_, _≤_, _<_}
 use native.Mathlib.Omega.{arith}
 use lib.Dec.{eqb}
@@ -10,15 +11,21 @@ use lib.ListN.{length, replicate, take, drop, length-replicate}
 use borrow.Author.Tests.{eqb-true, eqb-false}
 use Rattle.packet.specs.Packet.{writeAnswer, leftIn, readAnswer}
 use Rattle.packet.specs.declared.plain.Plain.the-variants as plain
-use Rattle.server.specs.State.{linkOf}
-use Rattle.history.specs.Calls.{lose, callOf, _▸_, after}
-use Rattle.promises.specs.Closing.{ClosesBy, Unwelcome, eventAt}
-use Rattle.promises.specs.Cut.{SameAfter, seen, joined, passed, untaken, _▸▸_}
+use Rattle.packet.specs.Frame.{Event, packet, too-long}
+use Rattle.session.specs.declared.reply.Answer.the-variants as answer
+use Rattle.session.specs.Expected.{expected}
+use Rattle.server.specs.declared.Server.{Server}
+use Rattle.server.specs.declared.check.Check.the-variants.{Go}
+use Rattle.server.specs.State.{Lent, linkOf}
+use Rattle.history.specs.Calls.{receive, lose, callOf, _▸_, after}
+use Rattle.promises.specs.Parts.{checkIn}
+use Rattle.promises.specs.Closing.{Unwelcome, long, unexpected, eventAt}
+use Rattle.promises.specs.Cut.{SameAfter, seen, same, back, chain, also, joined, empty, passed, untaken, _▸▸_}
 use Rattle.promises.specs.Uncut.{uncutOf, SameUncut}
 use Rattle.promises.specs.Feeding.{feed, feedAll, feedPieces}
 use Rattle.promises.specs.Demand2.{SentReads, Demand2}
 use Rattle.worked.proofs.Passes.{small, small-legal, pair, pair-legal, output, rx, of, upload, dataEnd, type18, length257, opened, beforeUpload}
-use Rattle.worked.proofs.Passes.{uploads, chopped, unchopped, serverAfter, lentAfter, computing}
+use Rattle.worked.proofs.Passes.{uploads, chopped, unchopped, serverAfter, lentAfter, answerOf, computing}
 use Rattle.worked.proofs.Computed.{computed}
 
 room : 258 ≤ length {A = ℕ} output
@@ -81,20 +88,35 @@ module _ (d : Demand2) where
       (n, go-reads .reads .accepted ∙ ap (plain.Packet (go-reads .kind)) n)
 
   -- a packet of type 18 closes the link at its second byte
-  pub type-18-closes : ClosesBy (serverAfter opened) (lentAfter opened) 1 6 type18 output 2
+  pub type-18-closes : answerOf (serverAfter opened) (lentAfter opened) (rx 6 type18) ≡ answer.Closed 2
   type-18-closes =
-      subst (ClosesBy (serverAfter opened) (lentAfter opened) 1 6 type18 output) (computed .closings .taken-18)
+      subst (λ (n : ℕ). answerOf (serverAfter opened) (lentAfter opened) (rx 6 type18) ≡ answer.Closed n) (computed .closings .taken-18)
       (d .closing _ _ 1 6 type18 output 0 (computed .closings .goes) .closes (computed .closings .type-18))
 
   -- so does an announced length of 257
-  pub length-257-closes : ClosesBy (serverAfter opened) (lentAfter opened) 1 6 length257 output 2
+  pub length-257-closes : answerOf (serverAfter opened) (lentAfter opened) (rx 6 length257) ≡ answer.Closed 2
   length-257-closes =
-      subst (ClosesBy (serverAfter opened) (lentAfter opened) 1 6 length257 output) (computed .closings .taken-257)
+      subst (λ (n : ℕ). answerOf (serverAfter opened) (lentAfter opened) (rx 6 length257) ≡ answer.Closed n) (computed .closings .taken-257)
       (d .closing _ _ 1 6 length257 output 0 (computed .closings .goes) .closes (computed .closings .length-257))
 
-  -- and where a link was closed, its bytes ended in something unwelcome
-  pub closed-for-a-reason : Unwelcome (linkOf (serverAfter opened) 0) (eventAt (serverAfter opened) (lentAfter opened) 0 length257)
-  closed-for-a-reason = d .closing _ _ 1 6 length257 output 0 (computed .closings .goes) .only 2 length-257-closes
+  -- "The server closes a link in no other case": where a packet closed it, this packet was not expected
+  pub closed-for-a-reason :
+      (sv : Server) (l : Lent) (session clock : ℕ) (input out : List ℕ) (i kind : ℕ) (info : List ℕ) (taken : ℕ)
+      → checkIn sv l (receive session clock input out) ≡ Go i
+      → eventAt sv l i input ≡ some (packet kind info)
+      → answerOf sv l (receive session clock input out) ≡ answer.Closed taken
+      → expected (linkOf sv i .up) (linkOf sv i .down) kind (length info) ≡ false
+  closed-for-a-reason sv l session clock input out i kind info taken goes e c =
+      go (eventAt sv l i input) (d .closing sv l session clock input out i goes .only taken c) e
+    where
+      go : (v : Option Event) → Unwelcome (linkOf sv i) v → v ≡ some (packet kind info)
+          → expected (linkOf sv i .up) (linkOf sv i .down) kind (length info) ≡ false
+      go (some too-long) long q = let z : _≡_ {A = ℕ} 0 1 = cc in absurd (omega arith)
+      go (some (packet k xs)) (unexpected _ _ u) q =
+          let a : k ≡ kind = cc in
+          let b : xs ≡ info = cc in
+          subst (λ (n : ℕ). expected (linkOf sv i .up) (linkOf sv i .down) n (length info) ≡ false) a
+          (subst (λ (ys : List ℕ). expected (linkOf sv i .up) (linkOf sv i .down) k (length ys) ≡ false) b u)
 
   -- the closed link leaves what a lost one leaves
   pub type-18-as-lost :
@@ -114,6 +136,16 @@ module _ (d : Demand2) where
       let r =
       d .cut small small-legal _ _
       (joined beforeUpload 1 10 11 (8 ∷ 3 ∷ []) (drop 2 (upload 1)) output output (computed .packets .two-bytes) room room) in
+      (r .state, r .seen)
+
+  -- a call that is lent no byte, before the call that ends a packet: with it or without it
+  pub with-no-byte :
+      (after pair (uploads ▸ of 1 7 dataEnd) ≡ after pair (uploads ▸ of 1 6 [] ▸ of 1 7 dataEnd))
+      × (seen pair (uploads ▸ of 1 7 dataEnd) ≡ seen pair (uploads ▸ of 1 6 [] ▸ of 1 7 dataEnd))
+  with-no-byte =
+      let r =
+      d .cut pair pair-legal (uploads ▸ of 1 7 dataEnd) (uploads ▸ of 1 6 [] ▸ of 1 7 dataEnd)
+      (chain _ _ _ (same _) (back _ _ (also _ _ (empty uploads 1 6 output) (of 1 7 dataEnd)))) in
       (r .state, r .seen)
 
   -- the first byte of the one link's DATA_END before or after the other link's DATA_END

@@ -2,9 +2,10 @@
 use mathlib.Core.Path.{_≡_, refl, ap, _∙_, sym, subst}
 use mathlib.Core.Bool.{true, false}
 use mathlib.Core.List.{List, [], _∷_, _++_}
-use Prim.Native.Nat.{ℕ, zero, suc}
+use mathlib.Core.Option.{some}
+use Prim.Native.Nat.{ℕ, zero, suc, _≤_}
 use native.Mathlib.Omega.{arith}
-use lib.ListN.{length, drop}
+use lib.ListN.{length, getD, take, drop}
 use Rattle.header.proofs.Examples.{smallest}
 use Rattle.header.specs.Fields.{fieldsSet}
 use Rattle.session.specs.declared.reply.Answer.the-variants as answer
@@ -12,19 +13,19 @@ use Rattle.session.specs.Reply.{told}
 use Rattle.server.specs.State.{outcome, doneWith}
 use Rattle.history.specs.Calls.{Call, request, callOf, History, _▸_}
 use Rattle.model.specs.State as model
-use Rattle.model.specs.State.{File, file, noUpload, receiving, Model, sessionAt}
-use Rattle.model.specs.Files.{reserved}
+use Rattle.model.specs.State.{File, file, noUpload, receiving, ignoring, Session, closedSession, Model, sessionAt}
+use Rattle.model.specs.Files.{find}
 use Rattle.model.specs.Step.{step}
 use Rattle.steps.specs.Parts.{sentBy}
 use Rattle.steps.specs.Sound.{Sound}
-use Rattle.steps.specs.Naming.{UpOk, DownOk, Named}
+use Rattle.steps.specs.Naming.{Complete, UpOk, DownOk, Named}
 use Rattle.steps.specs.Downloads.{forUplink, requestOrUplink, ownOrOther, requestsAndUplink, asksIn, asks, sentTo, dataIn, dataTo, endTo, Downloading}
 use Rattle.steps.specs.Downloads.{numberAsked, Begins}
 use Rattle.promises.specs.Demand2.{Demand2}
-use Rattle.worked.proofs.Passes.{small, pair, output, rx, nak, download, nextFile, lostOnce, picked, sending, sending40, sentAll, complete80}
-use Rattle.worked.proofs.Passes.{two, busy, atOnce, serverAfter, lentAfter, machineAfter}
+use Rattle.worked.proofs.Passes.{small, output, rx, nak, download, nextFile, lostOnce, picked, downloading, downloading40, sentAll, complete80}
+use Rattle.worked.proofs.Passes.{two, crowded, atOnce, serverAfter, lentAfter, machine, crowd, crowdedModel}
 use Rattle.worked.proofs.Computed.{packetTold, computed}
-use Rattle.worked.proofs.Machine.{tells, machine, at-work, as-the-machine}
+use Rattle.worked.proofs.Machine.{tells, at-work, as-the-machine}
 
 -- the small server is asked by its driver: this packet is sent; nothing is sent
 abbrev pub Brings : History → List ℕ → Type 0
@@ -38,64 +39,82 @@ unfoldable pub sentIn : Model → ℕ → List Call → List (List ℕ)
 sentIn m session [] = []
 sentIn m session (c ∷ cs) = sentTo m session c ∷ sentIn (step m c .after) session cs
 
--- ---- states of the machine are sound, and what their sessions name is there
+-- ---- what the sessions of a state name is there
 
--- no session uploads
-named-by : (m : Model) → ((j : ℕ) → sessionAt m j .up ≡ noUpload) → ((j : ℕ) → DownOk (m .files) (sessionAt m j .down)) → Named m
-named-by m u d =
+-- what is so of each session of a list, and of a closed one, is so at every place
+abbrev Each : (Session → Type 0) → List Session → Type 0
+Each P [] = P closedSession
+Each P (s ∷ ss) = P s × Each P ss
+
+each-at : (P : Session → Type 0) (ss : List Session) → Each P ss → (j : ℕ) → P (getD ss j closedSession)
+each-at P [] p zero = p
+each-at P [] p (suc j) = p
+each-at P (s ∷ ss) p zero = p .0
+each-at P (s ∷ ss) p (suc j) = each-at P ss (p .1) j
+
+-- a session that uploads no file
+abbrev NoFile : Session → Type 0
+NoFile s = (n : ℕ) → s .up ≡ receiving n → ⊥
+
+idle : (n : ℕ) → noUpload ≡ receiving n → ⊥
+idle n e = let z : _≡_ {A = ℕ} 0 1 = cc in omega arith
+
+ignores : (n : ℕ) → ignoring ≡ receiving n → ⊥
+ignores n e = let z : _≡_ {A = ℕ} 0 1 = cc in omega arith
+
+-- the first session alone may upload one
+named-by : (m : Model) (s : Session) (ss : List Session) → m .sessions ≡ s ∷ ss → Each (λ x. UpOk (m .files) (x .up)) (s ∷ ss)
+    → Each (λ x. DownOk (m .files) (x .down)) (s ∷ ss)
+    → Each NoFile ss
+    → Named m
+named-by m s ss e u d p =
     record {
-      up = λ j. subst (UpOk (m .files)) (sym (u j)) tt;
-      down = d;
-      alone = λ j k n a b. let e : noUpload ≡ receiving n = sym (u j) ∙ a in let z : _≡_ {A = ℕ} 0 1 = cc in absurd (omega arith);
+      up = λ j. subst (λ (xs : List Session). UpOk (m .files) (getD xs j closedSession .up)) (sym e) (each-at (λ x. UpOk (m .files) (x .up)) (s ∷ ss) u j);
+      down = λ j.
+          subst (λ (xs : List Session). DownOk (m .files) (getD xs j closedSession .down)) (sym e) (each-at (λ x. DownOk (m .files) (x .down)) (s ∷ ss) d j);
+      alone = λ j k n a b. first j n (at j n a) ∙ sym (first k n (at k n b));
     }
-
-sound-sending : Sound (machine sending)
-unfolding at-work
-sound-sending = record { numbers = (omega arith, omega arith, omega arith, tt); room = omega arith }
-
-named-sending : Named (machine sending)
-unfolding at-work
-named-sending = named-by (machine sending) up down
   where
-    up : (j : ℕ) → sessionAt (machine sending) j .up ≡ noUpload
-    up zero = refl
-    up (suc j) = refl
+    at : (j n : ℕ) → sessionAt m j .up ≡ receiving n → getD (s ∷ ss) j closedSession .up ≡ receiving n
+    at j n a = subst (λ (xs : List Session). getD xs j closedSession .up ≡ receiving n) e a
 
-    down : (j : ℕ) → DownOk (machine sending .files) (sessionAt (machine sending) j .down)
-    down zero = record { file = file 1 80 complete80 4; found = refl; time = λ e. omega (arith, e) }
-    down (suc j) = tt
-
-sound-sending40 : Sound (machine sending40)
-unfolding at-work
-sound-sending40 = record { numbers = (omega arith, omega arith, omega arith, tt); room = omega arith }
-
-named-sending40 : Named (machine sending40)
-unfolding at-work
-named-sending40 = named-by (machine sending40) up down
-  where
-    up : (j : ℕ) → sessionAt (machine sending40) j .up ≡ noUpload
-    up zero = refl
-    up (suc j) = refl
-
-    down : (j : ℕ) → DownOk (machine sending40 .files) (sessionAt (machine sending40) j .down)
-    down zero = record { file = file 1 80 complete80 4; found = refl; time = λ e. omega (arith, e) }
-    down (suc j) = tt
-
--- ---- a whole download
+    first : (j n : ℕ) → getD (s ∷ ss) j closedSession .up ≡ receiving n → j ≡ 0
+    first zero n a = refl
+    first (suc j) n a = absurd (each-at NoFile ss p j n a)
 
 -- file 1, complete at time 4
 abbrev file80 : File
 file80 = file 1 80 complete80 4
 
+sound-downloading : Sound (machine downloading)
+unfolding at-work
+sound-downloading = record { numbers = (omega arith, omega arith, omega arith, tt); room = omega arith }
+
+named-downloading : Named (machine downloading)
+unfolding at-work
+named-downloading =
+    named-by (machine downloading) _ [] refl (tt, tt) (record { file = file80; found = refl; time = λ e. omega (arith, e) }, tt) idle
+
+sound-40 : Sound (machine downloading40)
+unfolding at-work
+sound-40 = record { numbers = (omega arith, omega arith, omega arith, tt); room = omega arith }
+
+named-40 : Named (machine downloading40)
+unfolding at-work
+named-40 =
+    named-by (machine downloading40) _ [] refl (tt, tt) (record { file = file80; found = refl; time = λ e. omega (arith, e) }, tt) idle
+
+-- ---- a whole download
+
 size-80 : length (file80 .bytes) ≡ 80
 unfolding complete80
 size-80 = refl
 
-begun-0 : Downloading (machine sending) 1 1 0 file80
+begun-0 : Downloading (machine downloading) 1 1 0 file80
 unfolding at-work
 begun-0 = record { from-one = omega arith; linked = refl; down = refl; found = refl }
 
-begun-40 : Downloading (machine sending40) 1 1 40 file80
+begun-40 : Downloading (machine downloading40) 1 1 40 file80
 unfolding at-work
 begun-40 = record { from-one = omega arith; linked = refl; down = refl; found = refl }
 
@@ -112,11 +131,11 @@ pub record FrontOf (sent file : List ℕ) : Type 0 where
   pub back : List ℕ
   pub is : sent ++ back ≡ file
 
-only-one : requestsAndUplink (machine sending) 1 (request 1 output ∷ []) ≡ true
+only-one : requestsAndUplink (machine downloading) 1 (request 1 output ∷ []) ≡ true
 unfolding requestsAndUplink ownOrOther requestOrUplink
 only-one = refl
 
-pub not-yet : endTo (machine sending) 1 (request 1 output ∷ []) ≡ false
+pub not-yet : endTo (machine downloading) 1 (request 1 output ∷ []) ≡ false
 unfolding at-work endTo sentTo sentBy
 not-yet = refl
 
@@ -126,34 +145,34 @@ not-yet = refl
 abbrev file7 : File
 file7 = file 1 80 (fieldsSet 1 7 smallest) 7
 
-begun-busy : Downloading (machineAfter pair busy) 1 1 0 file7
-unfolding at-work
-begun-busy = record { from-one = omega arith; linked = refl; down = refl; found = refl }
+-- it is what the pass leaves
+pub crowded-is : crowd crowded ≡ crowdedModel
+unfolding at-work crowdedModel
+crowded-is = refl
 
-sound-busy : Sound (machineAfter pair busy)
-unfolding at-work
-sound-busy = record { numbers = (omega arith, omega arith, omega arith, tt); room = omega arith }
+begun-crowded : Downloading crowdedModel 3 1 0 file7
+unfolding at-work crowdedModel
+begun-crowded = record { from-one = omega arith; linked = refl; down = refl; found = refl }
 
-named-busy : Named (machineAfter pair busy)
-unfolding at-work
-named-busy = named-by (machineAfter pair busy) up down
+sound-crowded : Sound crowdedModel
+unfolding at-work crowdedModel
+sound-crowded = record { numbers = (omega arith, omega arith, omega arith, (omega arith, omega arith, omega arith, tt)); room = omega arith }
+
+named-crowded : Named crowdedModel
+unfolding at-work crowdedModel
+named-crowded =
+    named-by crowdedModel _ _ refl (record { file = file 3 80 (take 40 smallest) 0; found = refl; time = refl }, (tt, (tt, tt)))
+    (whole, (whole, (whole, tt))) (ignores, (idle, idle))
   where
-    up : (j : ℕ) → sessionAt (machineAfter pair busy) j .up ≡ noUpload
-    up zero = refl
-    up (suc zero) = refl
-    up (suc (suc j)) = refl
-
-    down : (j : ℕ) → DownOk (machineAfter pair busy .files) (sessionAt (machineAfter pair busy) j .down)
-    down zero = record { file = file7; found = refl; time = λ e. omega (arith, e) }
-    down (suc zero) = tt
-    down (suc (suc j)) = tt
+    whole : Complete 1 (crowdedModel .files)
+    whole = record { file = file7; found = refl; time = λ e. omega (arith, e) }
 
 -- each of its calls is a request or for its uplink, and two of them are requests
-may-come : requestsAndUplink (machineAfter pair busy) 1 atOnce ≡ true
-unfolding at-work requestsAndUplink ownOrOther requestOrUplink forUplink
+may-come : requestsAndUplink crowdedModel 3 atOnce ≡ true
+unfolding at-work crowdedModel requestsAndUplink ownOrOther requestOrUplink forUplink
 may-come = refl
 
-asks-at-once : asks 1 atOnce ≡ 2
+asks-at-once : asks 3 atOnce ≡ 2
 unfolding asks asksIn
 asks-at-once = refl
 
@@ -161,11 +180,12 @@ size-7 : length (file7 .bytes) ≡ 80
 unfolding at-work
 size-7 = refl
 
--- what it is sent, packet by packet: UL_GO_RESP for file 2, DATA, nothing for the first piece, DATA_END, nothing for the DATA of the upload, UL_ACK_RESP
+-- what it is sent, call by call: UL_GO_RESP for file 4, DATA, nothing for a piece, nothing at the calls of others and for the DATA of the upload, DATA_END,
+-- UL_ACK_RESP
 pub sent-at-once :
-    sentIn (machineAfter pair busy) 1 atOnce
-    ≡ (8 ∷ 4 ∷ 2 ∷ 0 ∷ 0 ∷ 0 ∷ 0 ∷ 0 ∷ 0 ∷ 0 ∷ []) ∷ (80 ∷ 0 ∷ fieldsSet 1 7 smallest) ∷ [] ∷ (0 ∷ 1 ∷ []) ∷ [] ∷ (0 ∷ 6 ∷ []) ∷ []
-unfolding at-work sentIn sentTo sentBy
+    sentIn crowdedModel 3 atOnce
+    ≡ (8 ∷ 4 ∷ 4 ∷ 0 ∷ 0 ∷ 0 ∷ 0 ∷ 0 ∷ 0 ∷ 0 ∷ []) ∷ (80 ∷ 0 ∷ fieldsSet 1 7 smallest) ∷ [] ∷ [] ∷ [] ∷ [] ∷ (0 ∷ 1 ∷ []) ∷ (0 ∷ 6 ∷ []) ∷ []
+unfolding at-work crowdedModel sentIn sentTo sentBy
 sent-at-once = refl
 
 module _ (d : Demand2) where
@@ -182,27 +202,27 @@ module _ (d : Demand2) where
   nothing-changed = d .nothing-due (serverAfter sentAll) (lentAfter sentAll) 1 output 0 (computed .requests .goes) (computed .requests .not-due)
 
   -- the file from 0 on: one DATA with all 80 bytes; from 40 on: one with the last 40
-  pub all-80 : Brings sending (80 ∷ 0 ∷ complete80)
+  pub all-80 : Brings downloading (80 ∷ 0 ∷ complete80)
   unfolding at-work
-  all-80 = as-the-machine d sending (request 1 output) _ refl
+  all-80 = as-the-machine d downloading (request 1 output) _ refl
 
-  pub last-40 : Brings sending40 (40 ∷ 0 ∷ drop 40 complete80)
+  pub last-40 : Brings downloading40 (40 ∷ 0 ∷ drop 40 complete80)
   unfolding at-work
-  last-40 = as-the-machine d sending40 (request 1 output) _ refl
+  last-40 = as-the-machine d downloading40 (request 1 output) _ refl
 
   -- behind them DATA_END, and then nothing
-  pub then-end : Brings (sending ▸ request 1 output) (0 ∷ 1 ∷ [])
+  pub then-end : Brings (downloading ▸ request 1 output) (0 ∷ 1 ∷ [])
   unfolding at-work
-  then-end = as-the-machine d (sending ▸ request 1 output) (request 1 output) _ refl
+  then-end = as-the-machine d (downloading ▸ request 1 output) (request 1 output) _ refl
 
   pub then-nothing : BringsNothing sentAll
   unfolding at-work
   then-nothing = as-the-machine d sentAll (request 1 output) _ refl
 
   -- after a DL_NAK_CMD that brought DATA_END: DL_ABORTED_RESP
-  pub aborted : Brings (sending ▸ rx 13 nak) (0 ∷ 10 ∷ [])
+  pub aborted : Brings (downloading ▸ rx 13 nak) (0 ∷ 10 ∷ [])
   unfolding at-work
-  aborted = as-the-machine d (sending ▸ rx 13 nak) (request 1 output) _ refl
+  aborted = as-the-machine d (downloading ▸ rx 13 nak) (request 1 output) _ refl
 
   -- ---- DOWNLOAD_CMD
 
@@ -215,9 +235,21 @@ module _ (d : Demand2) where
   unfolding at-work numberAsked
   its-number = refl
 
-  pub its-offset : sessionAt (step (machine lostOnce) (rx 12 (download 40 0)) .after) 0 .down ≡ model.sending 1 40
+  -- it is there, and complete
+  pub its-file : (by-number .file ≡ file80) × (by-number .file .time ≡ 0 → ⊥)
   unfolding at-work numberAsked
-  its-offset = by-number .downloading .down
+  its-file =
+      let q : some file80 ≡ some (by-number .file) = by-number .was in
+      let e : by-number .file ≡ file80 = cc in
+      (e, by-number .complete)
+
+  -- the session is linked, and is to be sent it from byte 40 on
+  pub its-offset :
+      (1 ≤ 1) × (sessionAt (step (machine lostOnce) (rx 12 (download 40 0)) .after) 0 .linked ≡ true)
+      × (sessionAt (step (machine lostOnce) (rx 12 (download 40 0)) .after) 0 .down ≡ model.sending 1 40)
+      × (find 1 (step (machine lostOnce) (rx 12 (download 40 0)) .after .files) ≡ some (by-number .file))
+  unfolding at-work numberAsked
+  its-offset = (by-number .downloading .from-one, by-number .downloading .linked, by-number .downloading .down, by-number .downloading .found)
 
   -- the next selected file
   pub next-selected : Begins (machine picked) 1 13 nextFile output (drop 2 nextFile)
@@ -231,33 +263,33 @@ module _ (d : Demand2) where
   -- ---- a whole download
 
   -- 80 bytes in one DATA, and DATA_END: two requests are enough
-  pub whole-ends : endTo (machine sending) 1 two ≡ true
+  pub whole-ends : endTo (machine downloading) 1 two ≡ true
   whole-ends =
-      d .download-ends (machine sending) sound-sending named-sending 1 1 0 file80 begun-0 two (only-two sending)
+      d .download-ends (machine downloading) sound-downloading named-downloading 1 1 0 file80 begun-0 two (only-two downloading)
       (omega (arith, size-80, asks-two))
 
-  pub whole-80 : dataTo (machine sending) 1 two ≡ complete80
-  whole-80 = d .download (machine sending) sound-sending named-sending 1 1 0 file80 begun-0 two (only-two sending) .whole whole-ends
+  pub whole-80 : dataTo (machine downloading) 1 two ≡ complete80
+  whole-80 = d .download (machine downloading) sound-downloading named-downloading 1 1 0 file80 begun-0 two (only-two downloading) .whole whole-ends
 
   -- from byte 40 on
-  pub behind-40 : dataTo (machine sending40) 1 two ≡ drop 40 complete80
+  pub behind-40 : dataTo (machine downloading40) 1 two ≡ drop 40 complete80
   behind-40 =
-      d .download (machine sending40) sound-sending40 named-sending40 1 1 40 file80 begun-40 two (only-two sending40) .whole
-      (d .download-ends (machine sending40) sound-sending40 named-sending40 1 1 40 file80 begun-40 two (only-two sending40)
+      d .download (machine downloading40) sound-40 named-40 1 1 40 file80 begun-40 two (only-two downloading40) .whole
+      (d .download-ends (machine downloading40) sound-40 named-40 1 1 40 file80 begun-40 two (only-two downloading40)
       (omega (arith, size-80, asks-two)))
 
   -- before DATA_END it is a front of the file
-  pub first-front : FrontOf (dataTo (machine sending) 1 (request 1 output ∷ [])) complete80
+  pub first-front : FrontOf (dataTo (machine downloading) 1 (request 1 output ∷ [])) complete80
   first-front =
       let r =
-      d .download (machine sending) sound-sending named-sending 1 1 0 file80 begun-0 (request 1 output ∷ []) only-one in
+      d .download (machine downloading) sound-downloading named-downloading 1 1 0 file80 begun-0 (request 1 output ∷ []) only-one in
       record { back = r .back; is = r .front }
 
-  -- 80 bytes and DATA_END: the two requests among the calls of the upload are enough
-  pub at-once-ends : endTo (machineAfter pair busy) 1 atOnce ≡ true
+  -- 80 bytes and DATA_END: the two requests among its uploads are enough
+  pub at-once-ends : endTo crowdedModel 3 atOnce ≡ true
   at-once-ends =
-      d .download-ends (machineAfter pair busy) sound-busy named-busy 1 1 0 file7 begun-busy atOnce may-come (omega (arith, size-7, asks-at-once))
+      d .download-ends crowdedModel sound-crowded named-crowded 3 1 0 file7 begun-crowded atOnce may-come (omega (arith, size-7, asks-at-once))
 
   -- and what it is sent is the file
-  pub at-once-brings : dataTo (machineAfter pair busy) 1 atOnce ≡ fieldsSet 1 7 smallest
-  at-once-brings = d .download (machineAfter pair busy) sound-busy named-busy 1 1 0 file7 begun-busy atOnce may-come .whole at-once-ends
+  pub at-once-brings : dataTo crowdedModel 3 atOnce ≡ fieldsSet 1 7 smallest
+  at-once-brings = d .download crowdedModel sound-crowded named-crowded 3 1 0 file7 begun-crowded atOnce may-come .whole at-once-ends

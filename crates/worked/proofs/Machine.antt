@@ -9,13 +9,14 @@ use Rattle.session.specs.declared.reply.Answer.the-variants as answer
 use Rattle.session.specs.Reply.{Told, told}
 use Rattle.history.specs.Calls.{Call, callOf, History, _▸_}
 use Rattle.history.proofs.Histories.{good-after}
-use Rattle.model.specs.State.{Model}
+use Rattle.model.specs.State.{file, Model}
 use Rattle.model.specs.Step.{step, run}
 use Rattle.cases.specs.Computing.{computing}
+use Rattle.views.specs.View.{view}
 use Rattle.promises.specs.Demand2.{Demand2}
 use Rattle.worked.proofs.Passes.{small, small-legal, output, rx, upload, dataEnd, shortUpload, largeUpload, nextFile, titleAboveM, size80, otherLength}
-use Rattle.worked.proofs.Passes.{ack, nak, directory, data41, type18, download, opened, halfway, beforeUpload, lostOnce, picked, sending}
-use Rattle.worked.proofs.Passes.{sending40, complete80, sentAll, continued, rest, pair, uploads, both, handed, busy, serverAfter, lentAfter, machineAfter}
+use Rattle.worked.proofs.Passes.{ack, nak, directory, data41, type18, download, opened, halfway, beforeUpload, lostOnce, picked, downloading}
+use Rattle.worked.proofs.Passes.{downloading40, complete80, sentAll, continued, rest, pair, uploads, both, handed, crowded, serverAfter, lentAfter, machine}
 
 -- what the small server tells at a call, and at bytes of its link
 abbrev pub tells : History → Call → Told
@@ -34,14 +35,10 @@ GetsNothing h clock bytes = answersTo h clock bytes ≡ told (answer.Quiet (leng
 abbrev pub GetsClosed : History → ℕ → List ℕ → Type 0
 GetsClosed h clock bytes = answersTo h clock bytes ≡ told (answer.Closed (length bytes)) output
 
--- the machine after the same calls
-abbrev pub machine : History → Model
-machine h = machineAfter small h
-
 -- whoever unfolds this unfolds all that the machine computes with in these cases
 unfoldable pub at-work : ℕ
 unfolding
-    computing run small smallest opened halfway beforeUpload continued lostOnce picked sending sending40 complete80 sentAll pair uploads both handed busy
+    computing run small smallest opened halfway beforeUpload continued lostOnce picked downloading downloading40 complete80 sentAll pair uploads both handed crowded
 at-work = 0
 
 module _ (d : Demand2) where
@@ -51,6 +48,13 @@ module _ (d : Demand2) where
       d .machine (serverAfter h) (lentAfter h) (good-after small small-legal h) c .told
       ∙ ap (λ (m : Model). step m c .told) (d .machine-after small small-legal h)
       ∙ e
+
+  -- and what the server leaves stands for what the machine leaves
+  pub left-as-the-machine : (h : History) (c : Call)
+      → view (callOf (serverAfter h) (lentAfter h) c .done .server) (callOf (serverAfter h) (lentAfter h) c .lent) ≡ step (machine h) c .after
+  left-as-the-machine h c =
+      d .machine (serverAfter h) (lentAfter h) (good-after small small-legal h) c .after
+      ∙ ap (λ (m : Model). step m c .after) (d .machine-after small small-legal h)
 
   by-machine : (h : History) (clock : ℕ) (bytes : List ℕ) (t : Told) → step (machine h) (rx clock bytes) .told ≡ t → answersTo h clock bytes ≡ t
   by-machine h clock bytes t e = as-the-machine h (rx clock bytes) t e
@@ -113,6 +117,14 @@ module _ (d : Demand2) where
   unfolding at-work
   end-accepted = by-machine (continued ▸ rest) 4 dataEnd _ refl
 
+  -- and the file is complete, its four fields set and its time 4
+  pub end-completes :
+      view (callOf (serverAfter (continued ▸ rest)) (lentAfter (continued ▸ rest)) (rx 4 dataEnd) .done .server)
+      (callOf (serverAfter (continued ▸ rest)) (lentAfter (continued ▸ rest)) (rx 4 dataEnd) .lent) .files
+      ≡ file 1 80 complete80 4 ∷ []
+  unfolding at-work
+  end-completes = ap (λ (m : Model). m .files) (left-as-the-machine (continued ▸ rest) (rx 4 dataEnd))
+
   -- ---- DOWNLOAD_CMD
 
   -- of a file that is not there: DL_ERROR_RESP 4; of a partial one: 11
@@ -159,9 +171,9 @@ module _ (d : Demand2) where
   no-such-destination = by-machine sentAll 13 (ack 1) _ refl
 
   -- before DATA_END went out: DATA_END; after it: DL_ABORTED_RESP
-  pub nak-before : Gets sending 13 nak (0 ∷ 1 ∷ [])
+  pub nak-before : Gets downloading 13 nak (0 ∷ 1 ∷ [])
   unfolding at-work
-  nak-before = by-machine sending 13 nak _ refl
+  nak-before = by-machine downloading 13 nak _ refl
 
   pub nak-after : Gets sentAll 13 nak (0 ∷ 10 ∷ [])
   unfolding at-work

@@ -6,11 +6,13 @@ use Prim.Native.Nat.{ℕ}
 use lib.Count.{ones, trailingZeros}
 use lib.ListN.{replicate, take, drop}
 use Rattle.header.proofs.Examples.{smallest}
+use Rattle.header.specs.Fields.{fieldsSet}
+use Rattle.session.specs.declared.reply.Answer.{Answer}
 use Rattle.server.specs.declared.Server.{Server}
 use Rattle.server.specs.State.{Lent, lent}
-use Rattle.model.specs.State.{Model, empty}
+use Rattle.model.specs.State.{file, Uplink, noUpload, receiving, ignoring, Downlink, sending, ended, aborting, Session, Model, empty}
 use Rattle.model.specs.Step.{run}
-use Rattle.history.specs.Calls.{Call, login, receive, request, lose, Start, legal, History, start, _▸_, after}
+use Rattle.history.specs.Calls.{Call, login, receive, request, lose, callOf, Start, legal, History, start, _▸_, after}
 use Rattle.packet.specs.Frame as packet-frame
 use Rattle.packet.specs.Machine as packet-machine
 use Rattle.numbers.specs.Numbers as byte-numbers
@@ -166,15 +168,15 @@ unfoldable pub picked : History
 picked = lostOnce ▸ rx 12 size80
 
 -- it is downloaded: DATA is due, and then DATA_END has gone out
-unfoldable pub sending : History
-sending = lostOnce ▸ rx 12 (download 0 0)
+unfoldable pub downloading : History
+downloading = lostOnce ▸ rx 12 (download 0 0)
 
 unfoldable pub sentAll : History
-sentAll = sending ▸ request 1 output ▸ request 1 output
+sentAll = downloading ▸ request 1 output ▸ request 1 output
 
 -- it is downloaded from byte 40 on
-unfoldable pub sending40 : History
-sending40 = lostOnce ▸ rx 12 (download 40 0)
+unfoldable pub downloading40 : History
+downloading40 = lostOnce ▸ rx 12 (download 40 0)
 
 -- two requests: for the DATA of at most 80 bytes, and for DATA_END
 abbrev pub two : List Call
@@ -231,15 +233,24 @@ abbrev pub meanwhile : List Call
 meanwhile =
     of 1 10 (upload 0) ∷ request 2 output ∷ request 1 output ∷ lose 1 ∷ request 2 (replicate 257 0) ∷ login 1 11 output ∷ request 2 output ∷ []
 
--- one link uploads the file and downloads it
-unfoldable pub busy : History
-busy =
-    start ▸ login 1 5 output ▸ of 1 6 (upload 0) ▸ of 1 6 (80 ∷ 0 ∷ smallest) ▸ of 1 7 dataEnd ▸ of 1 8 (download 0 0)
+-- ---- three links at once, on the machine with three blocks, three file places, three sessions and MAXSEL 1
 
--- Meanwhile it uploads the next one: UPLOAD_CMD before the first request, DATA in two pieces with the second request between them, DATA_END.
+-- File 1 is complete. Session 1 broke its download off, so that DL_ABORTED_RESP is due, and has uploaded 40 bytes of file 3. Session 2 was sent the file,
+-- and ignores DATA since an overrun. Session 3 begins to download it.
+unfoldable pub crowded : History
+crowded =
+    start ▸ login 1 5 output ▸ login 2 5 output ▸ login 3 5 output ▸ of 1 6 (upload 0) ▸ of 1 6 (80 ∷ 0 ∷ smallest) ▸ of 1 7 dataEnd
+    ▸ of 2 8 (download 0 0) ▸ request 2 output ▸ request 2 output ▸ of 2 8 (upload 0) ▸ of 2 8 (81 ∷ 0 ∷ replicate 81 0)
+    ▸ of 1 8 (download 0 0) ▸ of 1 8 nak ▸ of 1 9 (upload 0) ▸ of 1 9 (40 ∷ 0 ∷ take 40 smallest) ▸ of 3 9 (download 0 0)
+
+-- Meanwhile session 3 uploads too: UPLOAD_CMD before its first request, DATA in two pieces, DATA_END behind its second one. Between them session 2 is lost,
+-- and the driver asks for session 1.
 abbrev pub atOnce : List Call
 atOnce =
-    of 1 9 (upload 0) ∷ request 1 output ∷ of 1 10 (80 ∷ 0 ∷ take 30 smallest) ∷ request 1 output ∷ of 1 11 (drop 30 smallest) ∷ of 1 12 dataEnd ∷ []
+    of 3 10 (upload 0) ∷ request 3 output ∷ of 3 11 (80 ∷ 0 ∷ take 30 smallest) ∷ lose 2 ∷ request 1 output ∷ of 3 12 (drop 30 smallest)
+    ∷ request 3 output ∷ of 3 13 dataEnd ∷ []
+
+-- ---- bytes in pieces
 
 -- UPLOAD_CMD of the first link in three pieces, with a byte behind its end, which is not taken. Between them UPLOAD_CMD of the second link, a
 -- request, a call for a session 3 that there is not, which is refused, and the first of two bytes of the second link that end nothing.
@@ -265,10 +276,33 @@ serverAfter h = after small h .server
 abbrev pub lentAfter : History → Lent
 lentAfter h = after small h .lent
 
--- ---- the machine after a history
+-- what a call of a server answers
+abbrev pub answerOf : Server → Lent → Call → Answer
+answerOf sv l c = callOf sv l c .done .answer
 
-abbrev pub machineAfter : Start → History → Model
-machineAfter s h = run (empty (s .blocks) (s .files) (s .sessions) (s .most)) h
+-- ---- the machine after a history: the small one, and that of three links
+
+abbrev pub machine : History → Model
+machine h = run (empty (small .blocks) (small .files) (small .sessions) (small .most)) h
+
+abbrev pub crowd : History → Model
+crowd h = run (empty 3 3 3 1) h
+
+-- what `crowded` leaves
+abbrev pub linkedWith : Uplink → Downlink → Session
+linkedWith up down = record { linked = true; up = up; down = down; selected = []; next = 0; held = [] }
+
+unfoldable pub crowdedModel : Model
+crowdedModel =
+    record {
+      blocks = 3;
+      places = 3;
+      maxsel = 1;
+      lastNumber = 3;
+      lastTime = 7;
+      files = file 1 80 (fieldsSet 1 7 smallest) 7 ∷ file 3 80 (take 40 smallest) 0 ∷ [];
+      sessions = linkedWith (receiving 3) (aborting 1) ∷ linkedWith ignoring (ended 1) ∷ linkedWith noUpload (sending 1 0) ∷ [];
+    }
 
 -- ---- whoever unfolds this unfolds all that the cases compute with
 
@@ -305,10 +339,10 @@ unfolding
     files-selection.selectOf equation-symbols.starsIn equation-symbols.goodText equation-symbols.goodNumber equation-symbols.good
     equation-symbols.connectiveOf equation-symbols.relationAt equation-symbols.tokenOf equation-symbols.follow equation-symbols.symbolsPast
     equation-tree.pushed equation-tree.joined equation-tree.result equation-tree.bind equation-tree.run equation-tree.parse equation-answer.refusal
-    equation-answer.validityOf equation-relation.width picked sending sentAll table-order.leastAbove table-order.nextAbove table-order.placesAbove
+    equation-answer.validityOf equation-relation.width picked downloading sentAll table-order.leastAbove table-order.nextAbove table-order.placesAbove
     stored-answers.truthAt stored-answers.headerAt header-header.headerOf files-selection.isYes files-selection.passing equation-answer.said
     equation-answer.answer equation-answer.isYes equation-relation.compare equation-relation.numberMeets equation-relation.meets equation-holds.holds
     equation-holds.bytesOf equation-tree.truth files-completion.destinationsAt carry-download.beginTurn blocks-answers.readOut links-sound.namedAt
     server-sending.leastOf server-sending.dataOf server-sending.sendingOf server-sending.dueOf server-calls.dueAs server-calls.onRequest
-    server-calls.requestOf sending40 complete80 handed decide-downlink.onNak promises-requests.isDue
+    server-calls.requestOf downloading40 complete80 handed decide-downlink.onNak promises-requests.isDue
 computing = 0

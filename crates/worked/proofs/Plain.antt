@@ -9,16 +9,13 @@ use lib.ListN.{length, drop}
 use borrow.Author.Tests.{leb-true, eqb-true}
 use Rattle.packet.specs.Packet.{packetOf}
 use Rattle.session.specs.declared.state.Session.{Session}
-use Rattle.session.specs.declared.state.Uplink.{Uplink}
-use Rattle.session.specs.declared.state.Uplink.the-variants as up
 use Rattle.session.specs.declared.reply.Answer.the-variants as answer
 use Rattle.server.specs.declared.Server.{Server}
 use Rattle.server.specs.State.{Lent, Outcome, outcome, doneWith, linkOf}
 use Rattle.history.specs.Calls.{Call, callOf, Start, legal, History, after}
 use Rattle.promises.specs.Parts.{sessionIn, bytesIn, outIn, oneOf}
 use Rattle.steps.specs.Parts.{typeOf}
-use Rattle.promises.specs.Demand1.{RefusedBy, Demand1}
-use Rattle.promises.specs.Demand1.{Answers, refuses, silent, closes, sends, Says, UploadOver, over, overrun, uploadErrors, downloadErrors, naks}
+use Rattle.promises.specs.Demand1.{Answers, refuses, silent, closes, sends, Says, uploadErrors, downloadErrors, naks, Demand1}
 
 -- ---- numbers in a list, by a test on the list
 
@@ -76,11 +73,6 @@ packet-type kind info rest = refl
 
 below-32 : (kind q : ℕ) → kind ≤ 17 → (kind + 32 * q) % 32 ≡ kind
 below-32 kind q h = omega (arith, h)
-
--- a session that ignores further DATA got number 16
-pub ignoring-after-16 : (e : ℕ) (u : Uplink) → UploadOver e u → u ≡ up.Ignoring → e ≡ 16
-ignoring-after-16 e up.Idle over q = let z : _≡_ {A = ℕ} 0 1 = cc in absurd (omega arith)
-ignoring-after-16 e up.Ignoring (overrun is) q = is
 
 module _ (d : Demand1) where
   -- ---- the four answers
@@ -178,7 +170,7 @@ module _ (d : Demand1) where
   -- ---- after a history
 
   -- no call is refused by 33 or 35
-  pub not-after-calls : (s : Start) → legal s ≡ true → (h : History) (c : Call) (n : ℕ) → RefusedBy (after s h .server) (after s h .lent) c n
+  pub not-after-calls : (s : Start) → legal s ≡ true → (h : History) (c : Call) (n : ℕ) → callOf (after s h .server) (after s h .lent) c .done .answer ≡ answer.Refused n
       → oneOf n (33 ∷ 35 ∷ []) ≡ false
   unfolding noneIn
   not-after-calls s lawful h c n e =
