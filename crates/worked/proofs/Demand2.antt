@@ -36,17 +36,23 @@ abbrev longest : ℕ → List ℕ
 longest b = leftIn (writeAnswer 17 (replicate 2047 b) (replicate 2049 b)) 17 (replicate 2047 b) (replicate 2049 b)
 
 -- the bytes that wait for a session are those that were set last
-skip : (b : Bool) (x y z : List ℕ) → b ≡ false → y ≡ z → cond b x y ≡ z
-skip true x y z e q = let n : _≡_ {A = ℕ} 0 1 = cc in absurd (omega arith)
-skip false x y z e q = q
+skip : (b : Bool) (x y : List ℕ) → b ≡ false → y ≡ [] → cond b x y ≡ []
+skip true x y e q = let n : _≡_ {A = ℕ} 0 1 = cc in absurd (omega arith)
+skip false x y e q = q
 
 -- none wait for another session than these two
 no-others : (k : ℕ) → eqb k 1 ≡ false → eqb k 2 ≡ false → (uncutOf pair chopped .waiting k ≡ []) × (uncutOf pair unchopped .waiting k ≡ [])
 unfolding computing
 no-others k p q = (
-  skip (eqb k 2) _ _ [] q (skip (eqb k 1) _ _ [] p (skip (eqb k 2) _ _ [] q (skip (eqb k 1) _ _ [] p (skip (eqb k 2) _ _ [] q (skip (eqb k 1) _ _ [] p (skip (eqb k 2) _ _ [] q (skip (eqb k 1) _ _ [] p refl))))))),
-  skip (eqb k 2) _ _ [] q (skip (eqb k 1) _ _ [] p (skip (eqb k 2) _ _ [] q (skip (eqb k 2) _ _ [] q (skip (eqb k 1) _ _ [] p refl)))),
+  two _ _ (one _ _ (two _ _ (one _ _ (two _ _ (one _ _ (two _ _ (one _ _ refl))))))),
+  two _ _ (one _ _ (two _ _ (two _ _ (one _ _ refl)))),
 )
+  where
+    one : (x y : List ℕ) → y ≡ [] → cond (eqb k 1) x y ≡ []
+    one x y e = skip (eqb k 1) x y p e
+
+    two : (x y : List ℕ) → y ≡ [] → cond (eqb k 2) x y ≡ []
+    two x y e = skip (eqb k 2) x y q e
 
 -- the first link's UPLOAD_CMD in three pieces among the second link's calls, or in one: the two histories are the same without their cuts
 pub chopped-uncut : SameUncut pair chopped unchopped

@@ -170,7 +170,8 @@ module _ (d : Demand1) where
   -- ---- after a history
 
   -- no call is refused by 33 or 35
-  pub not-after-calls : (s : Start) → legal s ≡ true → (h : History) (c : Call) (n : ℕ) → callOf (after s h .server) (after s h .lent) c .done .answer ≡ answer.Refused n
+  pub not-after-calls : (s : Start) → legal s ≡ true → (h : History) (c : Call) (n : ℕ)
+      → callOf (after s h .server) (after s h .lent) c .done .answer ≡ answer.Refused n
       → oneOf n (33 ∷ 35 ∷ []) ≡ false
   unfolding noneIn
   not-after-calls s lawful h c n e =
