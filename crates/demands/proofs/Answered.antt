@@ -34,10 +34,10 @@ use Rattle.server.specs.Calls.{onLogin, loginOf, onLose, loseOf, dueAs, onReque
 use Rattle.server.specs.Making.{newServer, makeOf}
 use Rattle.server.proofs.Answering.{isRefused, tell-not, answered-not, due-not}
 use Rattle.history.specs.Calls.{Call, login, receive, request, lose, callOf}
-use Rattle.demands.specs.Parts.{sessionIn, bytesIn, outIn, openIn, roomIn, checkIn, oneOf}
-use Rattle.demands.specs.Demand1.{Sends, Answers, refuses, silent, closes, sends, EveryCallAnswers, RefusedBy, Fits, IsSound}
-use Rattle.demands.specs.Demand1.{Reachable, EveryLocalRefusal, Says, forgotten, cleared, NothingElse, uploadErrors, downloadErrors}
-use Rattle.demands.specs.Demand1.{naks, PacketRefusal, UploadOver, EveryUploadError, EveryDownloadError, Naks, EveryNak, EveryMaking}
+use Rattle.promises.specs.Parts.{sessionIn, bytesIn, outIn, openIn, roomIn, checkIn, oneOf}
+use Rattle.promises.specs.Demand1.{Sends, Answers, refuses, silent, closes, sends, EveryCallAnswers, RefusedBy, Fits, IsSound}
+use Rattle.promises.specs.Demand1.{Reachable, EveryLocalRefusal, Says, forgotten, cleared, NothingElse, uploadErrors, downloadErrors}
+use Rattle.promises.specs.Demand1.{naks, PacketRefusal, UploadOver, EveryUploadError, EveryDownloadError, Naks, EveryNak, EveryMaking}
 use Rattle.demands.proofs.Checks.{check-33, check-35, check-sound, session-34, session-through, check-through, check-refuses, not-true}
 use Rattle.demands.proofs.Carried.{isPlain}
 use Rattle.demands.proofs.Receiving as steps

@@ -40,8 +40,8 @@ use Rattle.server.specs.Calls.{onLogin, loginOf, onLose, loseOf, receiveOf, log
 use Rattle.history.specs.Calls as history
 use Rattle.history.specs.Calls.{login, receive, request, lose, callOf}
 use Rattle.history.specs.Good.{Good}
-use Rattle.demands.specs.Parts.{sessionIn}
-use Rattle.demands.specs.Closing.{eventAt}
+use Rattle.promises.specs.Parts.{sessionIn}
+use Rattle.promises.specs.Closing.{eventAt}
 use Rattle.demands.proofs.Checks.{Through, check-through, state-facts}
 use Rattle.demands.proofs.Hearing.{Hears, unended, ended, Ended}
 use Rattle.demands.proofs.Parts.{part-own}

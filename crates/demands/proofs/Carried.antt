@@ -44,8 +44,8 @@ use Rattle.carry.specs.Download as download
 use Rattle.carry.specs.Carry.{onFrees, onWrites, onMoves, onChooses, carryOut}
 use Rattle.decide.specs.declared.act.Act.{Act}
 use Rattle.decide.proofs.Closing.{closes, close-alone}
-use Rattle.demands.specs.Parts.{oneOf}
-use Rattle.demands.specs.Demand1.{uploadErrors, downloadErrors, naks, UploadOver, over, overrun}
+use Rattle.promises.specs.Parts.{oneOf}
+use Rattle.promises.specs.Demand1.{uploadErrors, downloadErrors, naks, UploadOver, over, overrun}
 use Rattle.demands.proofs.Deciding as decided
 
 -- ---- what a turn leaves, by its reply

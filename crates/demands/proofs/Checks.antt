@@ -21,8 +21,8 @@ use Rattle.server.specs.declared.check.Check.the-variants.{Go, Refuse}
 use Rattle.server.specs.State.{Lent, linkOf, mapPart, ownerPart, tablePart, part}
 use Rattle.server.specs.Check.{sizesFit, fits, soundParts, inState, sessionCheck, checkBy, checkOf}
 use Rattle.server.proofs.CheckLaws as laws
-use Rattle.demands.specs.Parts.{oneOf}
-use Rattle.demands.specs.Demand1.{Fits, IsSound}
+use Rattle.promises.specs.Parts.{oneOf}
+use Rattle.promises.specs.Demand1.{Fits, IsSound}
 
 clash : false ≡ true → ⊥
 clash e = let z : _≡_ {A = ℕ} 0 1 = cc in omega arith

@@ -25,7 +25,7 @@ use Rattle.server.specs.State.{Lent, lent, Outcome, outcome, doneWith, linkOf, 
 use Rattle.server.specs.Check.{checkOf}
 use Rattle.server.specs.Calls.{onLose, loseOf, stepOf, onCheck, receiveOf, receiveBy, loseBy}
 use Rattle.history.specs.Calls.{lose, callOf}
-use Rattle.demands.specs.Closing.{ClosesBy, SameAsLost, ClosingIsLosing, Unwelcome, long, unexpected, ClosesExactly, EveryClosing}
+use Rattle.promises.specs.Closing.{ClosesBy, SameAsLost, ClosingIsLosing, Unwelcome, long, unexpected, ClosesExactly, EveryClosing}
 use Rattle.demands.proofs.Checks.{Through, check-sound, check-through, through-again}
 use Rattle.demands.proofs.Hearing.{Ended, Hears, unended, ended}
 use Rattle.demands.proofs.Carried.{isPlain}

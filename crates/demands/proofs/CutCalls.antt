@@ -26,10 +26,10 @@ use Rattle.history.specs.Good.{Good}
 use Rattle.history.proofs.GoodFacts.{good-check}
 use Rattle.history.proofs.Kept.{good-kept}
 use Rattle.history.proofs.Histories.{good-after}
-use Rattle.demands.specs.Parts.{sessionIn}
-use Rattle.demands.specs.Closing.{eventAt}
-use Rattle.demands.specs.Cut.{Seen, seenIn, seenOf, seen, endsIn, Recut, same, back, chain, also, joined, empty, passed, untaken}
-use Rattle.demands.specs.Cut.{SameAfter, CutElsewhere}
+use Rattle.promises.specs.Parts.{sessionIn}
+use Rattle.promises.specs.Closing.{eventAt}
+use Rattle.promises.specs.Cut.{Seen, seenIn, seenOf, seen, endsIn, Recut, same, back, chain, also, joined, empty, passed, untaken}
+use Rattle.promises.specs.Cut.{SameAfter, CutElsewhere}
 use Rattle.demands.proofs.Checks.{check-through, state-facts, through-again}
 use Rattle.demands.proofs.Hearing.{Unended}
 use Rattle.demands.proofs.Held.{hold, keep, withLinks, hold-seen}

@@ -26,8 +26,8 @@ use Rattle.decide.specs.Decide.{onPacket, onFrame, decideOf}
 use Rattle.decide.specs.declared.act.Act.{Act}
 use Rattle.decide.specs.declared.act.Act.the-variants as act
 use Rattle.server.specs.Turns.{sizeIn}
-use Rattle.demands.specs.Parts.{oneOf}
-use Rattle.demands.specs.Demand1.{uploadErrors, downloadErrors}
+use Rattle.promises.specs.Parts.{oneOf}
+use Rattle.promises.specs.Demand1.{uploadErrors, downloadErrors}
 
 -- the session is uploading the file at a place
 pub record Uploads (u : Uplink) (place : ℕ) : Type 0 where

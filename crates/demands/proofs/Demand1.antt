@@ -11,8 +11,8 @@ use Rattle.server.specs.declared.Server.{Server}
 use Rattle.server.specs.State.{Lent, Outcome}
 use Rattle.history.specs.Calls.{callOf, after}
 use Rattle.history.proofs.Histories.{never-33, never-35}
-use Rattle.demands.specs.Parts.{oneOf}
-use Rattle.demands.specs.Demand1.{Answers, refuses, silent, closes, sends, OnlyByTheCaller, Demand1}
+use Rattle.promises.specs.Parts.{oneOf}
+use Rattle.promises.specs.Demand1.{Answers, refuses, silent, closes, sends, OnlyByTheCaller, Demand1}
 use Rattle.demands.proofs.Answered.{every-call-answers, every-local-refusal, every-making, every-upload-error, every-download-error, every-nak}
 
 -- of the four numbers two are left

@@ -10,8 +10,8 @@ use Rattle.session.specs.declared.reply.Answer.the-variants as answer
 use Rattle.server.specs.State.{Outcome}
 use Rattle.history.specs.Calls.{callOf}
 use Rattle.refines.proofs.Refining.{every-call, every-history}
-use Rattle.demands.specs.Demand1.{Answers, refuses, silent, closes, sends}
-use Rattle.demands.specs.Demand2.{WrittenReadsBack, SentReads, SentReadsBack, Demand2}
+use Rattle.promises.specs.Demand1.{Answers, refuses, silent, closes, sends}
+use Rattle.promises.specs.Demand2.{WrittenReadsBack, SentReads, SentReadsBack, Demand2}
 use Rattle.demands.proofs.Answered.{every-call-answers}
 use Rattle.demands.proofs.ClosingIsLosing.{closing-is-losing, every-closing}
 use Rattle.demands.proofs.CutCalls.{cut-elsewhere}

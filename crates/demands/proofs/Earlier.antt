@@ -14,9 +14,9 @@ use Rattle.session.specs.declared.state.Session.{Session}
 use Rattle.server.specs.declared.Server.{Server}
 use Rattle.server.specs.State.{Lent, linkOf, part}
 use Rattle.history.specs.Calls.{Call, receive, callOf, Start, History, _▸_, after}
-use Rattle.demands.specs.Parts.{sessionIn}
-use Rattle.demands.specs.Closing.{eventAt}
-use Rattle.demands.specs.Cut.{endsIn, Recut, same, chain, also, joined, passed, _▸▸_, others, LentEarlier}
+use Rattle.promises.specs.Parts.{sessionIn}
+use Rattle.promises.specs.Closing.{eventAt}
+use Rattle.promises.specs.Cut.{endsIn, Recut, same, chain, also, joined, passed, _▸▸_, others, LentEarlier}
 use Rattle.demands.proofs.CutCalls.{cut-elsewhere}
 use Rattle.demands.proofs.Others.{others-link, others-part}
 

@@ -20,10 +20,10 @@ use Rattle.history.specs.Calls.{receive, callOf, State, state, after}
 use Rattle.history.specs.Good.{Good}
 use Rattle.history.proofs.Kept.{good-kept}
 use Rattle.history.proofs.Histories.{good-after}
-use Rattle.demands.specs.Closing.{eventAt}
-use Rattle.demands.specs.Demand1.{Answers, refuses, silent, closes, sends}
-use Rattle.demands.specs.Cut.{Seen, seenIn}
-use Rattle.demands.specs.Feeding.{Fed, fed, andThen, onward, feed, feedAll, EnoughCalls, feedPieces, PiecesElsewhere}
+use Rattle.promises.specs.Closing.{eventAt}
+use Rattle.promises.specs.Demand1.{Answers, refuses, silent, closes, sends}
+use Rattle.promises.specs.Cut.{Seen, seenIn}
+use Rattle.promises.specs.Feeding.{Fed, fed, andThen, onward, feed, feedAll, EnoughCalls, feedPieces, PiecesElsewhere}
 use Rattle.demands.proofs.Joined.{shift, shifted, rest-untouched}
 use Rattle.demands.proofs.Answered.{Tells, quiet, closing, sending, tells, every-call-answers}
 use Rattle.demands.proofs.CutCalls.{refused-receive, no-packet, joined-call, seen-shift, unended-seen}

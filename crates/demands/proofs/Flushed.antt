@@ -17,9 +17,9 @@ use Rattle.history.specs.Good.{Good}
 use Rattle.history.proofs.GoodFacts.{good-check}
 use Rattle.history.proofs.Kept.{good-kept}
 use Rattle.history.proofs.Histories.{good-after}
-use Rattle.demands.specs.Parts.{sessionIn, outIn}
-use Rattle.demands.specs.Cut.{Seen, seenIn, seenOf, seen, endsIn, SameAfter}
-use Rattle.demands.specs.Uncut.{waitingWith}
+use Rattle.promises.specs.Parts.{sessionIn, outIn}
+use Rattle.promises.specs.Cut.{Seen, seenIn, seenOf, seen, endsIn, SameAfter}
+use Rattle.promises.specs.Uncut.{waitingWith}
 use Rattle.demands.proofs.Checks.{state-facts, through-again}
 use Rattle.demands.proofs.Held.{hold, keep, hold-seen}
 use Rattle.demands.proofs.Own.{lose-over}

@@ -28,7 +28,7 @@ use Rattle.server.specs.State.{Lent, lent, Outcome, outcome, doneWith, linkOf, 
 use Rattle.server.specs.Check.{checkOf}
 use Rattle.server.specs.Turns.{hearOf, actOf}
 use Rattle.server.specs.Calls.{answeredBy, heardBy, stepOf, onCheck, receiveOf, receiveBy}
-use Rattle.demands.specs.Closing.{eventAt}
+use Rattle.promises.specs.Closing.{eventAt}
 use Rattle.demands.proofs.Checks.{Through, check-through, state-facts}
 use Rattle.demands.proofs.Hearing.{Unended}
 use Rattle.demands.proofs.Parts.{part-own, with-over}

@@ -38,8 +38,6 @@ pub mod Offering
 pub mod Naming
 pub mod Whole
 pub mod Demands
-pub mod Plain
 pub mod Example
 pub mod AtWork
-pub mod MachineAtWork
 pub mod DownloadsAtWork

@@ -26,7 +26,7 @@ use Rattle.history.specs.Calls.{Call, login, receive, request, lose, callOf}
 use Rattle.history.specs.Good.{Good}
 use Rattle.history.proofs.GoodFacts.{good-check}
 use Rattle.links.proofs.Facts.{part-end}
-use Rattle.demands.specs.Parts.{sessionIn, openIn, roomIn, checkIn}
+use Rattle.promises.specs.Parts.{sessionIn, openIn, roomIn, checkIn}
 use Rattle.demands.proofs.Checks.{Through, StateFacts, check-through, state-facts}
 use Rattle.demands.proofs.Hearing.{Hears, unended, ended}
 use Rattle.demands.proofs.Parts.{part-other, with-comm}

@@ -23,7 +23,7 @@ use Rattle.sending.specs.Sending.{Due, asked, askedOf, dataOf, sendingOf, dueOf
 use Rattle.server.specs.Calls.{onLose, loseOf, dueAs, onRequest, requestOf, requestBy, loseBy}
 use Rattle.history.specs.Calls.{Call, request, lose, callOf}
 use Rattle.history.specs.Good.{Good}
-use Rattle.demands.specs.Parts.{sessionIn}
+use Rattle.promises.specs.Parts.{sessionIn}
 use Rattle.demands.proofs.Checks.{check-through, state-facts}
 use Rattle.demands.proofs.Parts.{with-over}
 use Rattle.demands.proofs.Held.{hold, keep, withLinks, hold-own}

@@ -32,8 +32,8 @@ use Rattle.server.specs.State.{Lent, lent, outcome, doneWith, linkOf, withLink,
 use Rattle.server.specs.Check.{checkOf}
 use Rattle.server.specs.Turns.{hearOf, sizeIn, partsOf, putBack, actOf}
 use Rattle.server.specs.Calls.{answeredBy, heardBy, stepOf, onCheck, receiveOf, receiveBy}
-use Rattle.demands.specs.Parts.{oneOf}
-use Rattle.demands.specs.Demand1.{uploadErrors, downloadErrors, naks, UploadOver}
+use Rattle.promises.specs.Parts.{oneOf}
+use Rattle.promises.specs.Demand1.{uploadErrors, downloadErrors, naks, UploadOver}
 use Rattle.demands.proofs.Checks.{Through, StateFacts, check-through, check-refuses, state-facts, part-length, held-few}
 use Rattle.demands.proofs.Hearing.{Unended, Ended, Hears, unended, ended, hears}
 use Rattle.demands.proofs.Deciding as decided

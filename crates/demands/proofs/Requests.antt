@@ -17,7 +17,7 @@ use Rattle.sending.specs.Sending as sending
 use Rattle.server.specs.Calls as server
 use Rattle.server.specs.Calls.{dueAs, requestOf, requestBy}
 use Rattle.table.specs.Table.{files}
-use Rattle.demands.specs.Downloads.{isDue, NothingDue}
+use Rattle.promises.specs.Requests.{isDue, NothingDue}
 
 not-due : (d : Downlink) (s : Session) (disk owner : List ℕ) (fs : List table.File) (out : List ℕ) → isDue d ≡ false
     → dueOf d s disk owner fs out ≡ sending.asked (sending.askedOf s (answer.Quiet 0)) out

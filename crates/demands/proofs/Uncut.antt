@@ -23,10 +23,10 @@ use Rattle.server.specs.Making.{newServer, emptyOf, makeOf}
 use Rattle.history.specs.Calls.{Call, login, receive, request, lose, callOf, State, Start, legal, made, History, start, _▸_, after}
 use Rattle.history.specs.Good.{Good}
 use Rattle.history.proofs.Histories.{good-after, sizes-after}
-use Rattle.demands.specs.Parts.{sessionIn, outIn, openIn, roomIn, checkIn}
-use Rattle.demands.specs.Demand1.{Answers, refuses, silent, closes, sends}
-use Rattle.demands.specs.Cut.{endsIn, SameAfter}
-use Rattle.demands.specs.Uncut.{Uncut, uncut, waitingWith, onBytes, withCall, unlessRefused, uncutOf, UncutSame}
+use Rattle.promises.specs.Parts.{sessionIn, outIn, openIn, roomIn, checkIn}
+use Rattle.promises.specs.Demand1.{Answers, refuses, silent, closes, sends}
+use Rattle.promises.specs.Cut.{endsIn, SameAfter}
+use Rattle.promises.specs.Uncut.{Uncut, uncut, waitingWith, onBytes, withCall, unlessRefused, uncutOf, UncutSame}
 use Rattle.demands.proofs.Checks.{Through, check-through, state-facts}
 use Rattle.demands.proofs.Answered.{refused-call, every-call-answers}
 use Rattle.demands.proofs.Others.{others-link}

@@ -6,8 +6,8 @@ use Rattle.history.specs.Calls.{Start, legal, History}
 use Rattle.paging.specs.Examples.{Examples}
 use Rattle.paging.specs.Paging.{PageAnswer, Paging, PagingWhole}
 use Rattle.paging.specs.Pieces.{InPieces}
-use Rattle.demands.specs.Demand1.{Demand1}
-use Rattle.demands.specs.Demand2.{Demand2}
+use Rattle.promises.specs.Demand1.{Demand1}
+use Rattle.promises.specs.Demand2.{Demand2}
 use Rattle.demands.specs.Demand3.{Demand3}
 use Rattle.demands.specs.Downloads.{FromPupilToPupil, AskedAndSent}
 

@@ -1,46 +1,20 @@
--- What a request of the driver brings with nothing due, and what a whole download brings from one station to another. What one request brings is the
--- machine's `onRequest` (crates/model/specs/Downlink.antt); that a download brings the file is `DownloadBrings` (crates/steps/specs/Downloads.antt). The
--- proofs are in proofs/Requests.antt and Downloads.antt. Assumes nothing.
+-- What a whole download brings from one station to another, with calls of others and uploads of the session itself between. That a download brings the
+-- file is `DownloadBrings` (crates/steps/specs/Downloads.antt). The proofs are in proofs/Downloads.antt. Assumes nothing.
 use mathlib.Core.Path.{_≡_}
-use mathlib.Core.Bool.{Bool, true, false}
+use mathlib.Core.Bool.{true}
 use mathlib.Core.List.{List, _++_}
 use mathlib.Core.Option.{some}
 use Prim.Native.Nat.{ℕ, _-_}
 use Rattle.packet.specs.Frame.{packet}
 use Rattle.header.specs.Fields.{fieldsSet}
-use Rattle.session.specs.declared.state.Downlink.{Downlink}
-use Rattle.session.specs.declared.state.Downlink.the-variants as down
 use Rattle.session.specs.declared.reply.Answer.the-variants as answer
 use Rattle.decide.specs.Words.{wordAt}
-use Rattle.server.specs.declared.Server.{Server}
-use Rattle.server.specs.declared.check.Check.the-variants.{Go}
-use Rattle.server.specs.State.{Lent, outcome, doneWith, linkOf}
-use Rattle.history.specs.Calls.{Call, receive, request, callOf, Start, legal, History}
+use Rattle.history.specs.Calls.{Call, receive, Start, legal, History}
 use Rattle.model.specs.State.{File, Model, empty, sessionAt}
 use Rattle.model.specs.Files.{find}
 use Rattle.model.specs.Step.{endsIn, step, run}
 use Rattle.steps.specs.Downloads.{requestsAndUplink, dataTo, endTo, Downloading, numberAsked}
-use Rattle.demands.specs.Parts.{checkIn}
 use Rattle.demands.specs.Accepted.{accepted}
-
--- ---- one request
-
--- whether a packet is due
-unfoldable pub isDue : Downlink → Bool
-isDue down.Idle = false
-isDue (down.Sending place offset sent) = true
-isDue (down.Ended place) = false
-isDue (down.Aborting place) = true
-
--- "with nothing due it yields nothing and changes nothing": the server, what is lent and the output are as they were
-abbrev pub NothingDue : Type 0
-NothingDue =
-    (sv : Server) (l : Lent) (session : ℕ) (out : List ℕ) (i : ℕ)
-    → checkIn sv l (request session out) ≡ Go i
-    → isDue (linkOf sv i .down) ≡ false
-    → callOf sv l (request session out) ≡ outcome (doneWith sv (answer.Quiet 0)) l out
-
--- ---- a whole download, with calls of others and uploads of the session itself between
 
 -- the machine after a history; the server stands for it (`EveryHistory`)
 abbrev pub modelAt : Start → History → Model

@@ -1,13 +1,6 @@
-pub mod Parts
-pub mod Demand1
-pub mod Closing
-pub mod Cut
-pub mod Uncut
-pub mod Feeding
-pub mod Downloads
-pub mod Demand2
 pub mod Events
 pub mod Effect
 pub mod Accepted
 pub mod Demand3
+pub mod Downloads
 pub mod Demands

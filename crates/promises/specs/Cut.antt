@@ -12,8 +12,8 @@ use Rattle.session.specs.declared.reply.Answer.{Answer}
 use Rattle.session.specs.declared.reply.Answer.the-variants as answer
 use Rattle.server.specs.State.{Outcome}
 use Rattle.history.specs.Calls.{Call, receive, callOf, Start, legal, History, start, _▸_, after}
-use Rattle.demands.specs.Parts.{sessionIn}
-use Rattle.demands.specs.Closing.{eventAt}
+use Rattle.promises.specs.Parts.{sessionIn}
+use Rattle.promises.specs.Closing.{eventAt}
 
 -- ---- what the links see of a history
 

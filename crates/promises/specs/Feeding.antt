@@ -8,7 +8,7 @@ use lib.ListN.{length, drop}
 use Rattle.session.specs.declared.reply.Answer.{Answer}
 use Rattle.session.specs.declared.reply.Answer.the-variants as answer
 use Rattle.history.specs.Calls.{receive, callOf, State, next, Start, legal, History, after}
-use Rattle.demands.specs.Cut.{Seen, seenOf}
+use Rattle.promises.specs.Cut.{Seen, seenOf}
 
 -- what the bytes came to: the state, and what the links saw
 pub record Fed : Type 0 where

@@ -1,7 +1,6 @@
 -- Demand 1: "Every byte sequence, clock reading and lent buffer gets an answer. The program always ends, asks nothing of its caller beforehand,
 -- and refuses by a number from the table or closes the link. A refusal leaves the files, the session and the output buffer as that table says."
--- The statements hold for EVERY server and everything lent, also for a state that no calls made. proofs/AtWork.antt shows them at work. Assumes
--- nothing.
+-- The statements hold for EVERY server and everything lent, also for a state that no calls made. crates/worked shows them at work. Assumes nothing.
 use mathlib.Core.Path.{_≡_}
 use mathlib.Core.Bool.{true}
 use mathlib.Core.List.{List, [], _∷_, _++_}
@@ -17,7 +16,7 @@ use Rattle.server.specs.State.{Lent, lent, Outcome, outcome, doneWith, linkOf, 
 use Rattle.server.specs.Check.{fits, soundParts}
 use Rattle.server.specs.Making.{newServer, emptied, emptyOf, makes, makeOf}
 use Rattle.history.specs.Calls.{Call, receive, callOf, Start, legal, History, after}
-use Rattle.demands.specs.Parts.{sessionIn, bytesIn, outIn, openIn, roomIn, oneOf}
+use Rattle.promises.specs.Parts.{sessionIn, bytesIn, outIn, openIn, roomIn, oneOf}
 
 -- ---- the answers of a call
 

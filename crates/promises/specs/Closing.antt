@@ -15,7 +15,7 @@ use Rattle.server.specs.declared.Server.{Server}
 use Rattle.server.specs.declared.check.Check.the-variants.{Go}
 use Rattle.server.specs.State.{Lent, linkOf, part}
 use Rattle.history.specs.Calls.{receive, lose, callOf}
-use Rattle.demands.specs.Parts.{checkIn}
+use Rattle.promises.specs.Parts.{checkIn}
 
 -- a receive call closes the link, having taken so many bytes
 abbrev pub ClosesBy : Server → Lent → ℕ → ℕ → List ℕ → List ℕ → ℕ → Type 0

@@ -2,8 +2,7 @@
 -- our marked house rules define." What the server answers and leaves at every call is the machine of crates/model, which is written from the papers: the
 -- server is this machine, `EveryCall` (crates/refines). Its parts are the contracts of the functions. "A packet written reads back as
 -- itself. Cutting elsewhere the bytes that a link takes, with each packet and closing byte at the same clock and in the same place among the other
--- calls, changes no packet sent and no state after it." proofs/AtWork.antt, MachineAtWork.antt and DownloadsAtWork.antt show the statements at work.
--- Assumes nothing.
+-- calls, changes no packet sent and no state after it." crates/worked shows the statements at work. Assumes nothing.
 use mathlib.Core.Path.{_≡_}
 use mathlib.Core.List.{List}
 use Prim.Native.Nat.{ℕ, _≤_, _+_}
@@ -15,12 +14,12 @@ use Rattle.server.specs.declared.Server.{Server}
 use Rattle.server.specs.State.{Lent, Outcome}
 use Rattle.history.specs.Calls.{Call, callOf}
 use Rattle.refines.specs.Refines.{EveryCall, EveryHistory}
-use Rattle.demands.specs.Closing.{ClosingIsLosing, EveryClosing}
-use Rattle.demands.specs.Cut.{CutElsewhere, LentEarlier}
-use Rattle.demands.specs.Uncut.{UncutSame}
-use Rattle.demands.specs.Feeding.{EnoughCalls, PiecesElsewhere}
+use Rattle.promises.specs.Closing.{ClosingIsLosing, EveryClosing}
+use Rattle.promises.specs.Cut.{CutElsewhere, LentEarlier}
+use Rattle.promises.specs.Uncut.{UncutSame}
+use Rattle.promises.specs.Feeding.{EnoughCalls, PiecesElsewhere}
 use Rattle.steps.specs.Downloads.{DownloadBegins, DownloadBrings, DownloadEnds}
-use Rattle.demands.specs.Downloads.{NothingDue}
+use Rattle.promises.specs.Requests.{NothingDue}
 
 -- the reader finds this type and this information in front of the bytes
 pub record Reads (bytes : List ℕ) (kind : ℕ) (info : List ℕ) : Type 0 where

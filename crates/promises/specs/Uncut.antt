@@ -12,7 +12,7 @@ use Rattle.packet.specs.Frame.{Event, none-held, byte}
 use Rattle.session.specs.declared.reply.Answer.{Answer}
 use Rattle.session.specs.declared.reply.Answer.the-variants as answer
 use Rattle.history.specs.Calls.{Call, login, receive, request, lose, callOf, Start, legal, History, start, _▸_, after}
-use Rattle.demands.specs.Cut.{SameAfter}
+use Rattle.promises.specs.Cut.{SameAfter}
 
 -- A history without its cuts: one receive call for each packet and for each announced length that is too long, which is lent just its bytes; and for
 -- each session the bytes that came since and end nothing yet.
