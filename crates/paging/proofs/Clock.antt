@@ -6,33 +6,6 @@ use mathlib.Core.Path.{_≡_, refl}
 use Prim.Native.Nat.{ℕ, _+_, _-_, _<_}
 use native.Mathlib.Omega.{arith}
 use borrow.Author.Tests.{eqb-false}
-<<<<<<< HEAD
-use Rattle.session.specs.declared.state.Session.{Session}
-use Rattle.table.specs.declared.Given.{Given}
-use Rattle.table.specs.declared.Given.the-variants.{UsedUp, Next}
-use Rattle.table.specs.Given.{nextNumber}
-use Rattle.files.specs.declared.Begun.{Begun}
-use Rattle.files.specs.declared.Begun.the-variants.{Refused, Started}
-use Rattle.files.specs.Uploads as files
-use Rattle.files.specs.Completion.{checkOf, completeOf, destinationsAt}
-use Rattle.files.specs.Selection.{Selects, selectOf}
-use Rattle.decide.specs.declared.act.Act.{Act}
-use Rattle.decide.specs.declared.act.Act.the-variants as act
-use Rattle.carry.specs.declared.turn.Last.{Last}
-use Rattle.carry.specs.declared.turn.Turn.{Turn}
-use Rattle.carry.specs.Turn.{Mem}
-use Rattle.carry.specs.Upload as upload
-use Rattle.carry.specs.Download as download
-use Rattle.carry.specs.Carry.{onFrees, onWrites, onMoves, onChooses, carryOut}
-use Rattle.server.specs.declared.Server.{Server}
-use Rattle.server.specs.declared.check.Check.{Check}
-use Rattle.server.specs.declared.check.Check.the-variants.{Go, Refuse}
-use Rattle.server.specs.State.{Lent}
-use Rattle.server.specs.Check as check
-use Rattle.server.specs.Turns.{putBack, actOf}
-use Rattle.server.specs.Calls.{answeredBy, heardBy, stepOf, onCheck, receiveOf, onLogin, loginOf, onLose, loseOf, dueAs, onRequest, requestOf, loginBy, requestBy, receiveBy, loseBy}
-use Rattle.history.specs.Calls.{Call, login, receive, request, lose, callOf}
-=======
 use lib.Dec.{eqb, leb, ltb}
 use lib.ListN.{length}
 use Rattle.packet.specs.Frame.{Event, packet, too-long}
@@ -49,7 +22,6 @@ use Rattle.model.specs.Files.{find, free, uploading}
 use Rattle.model.specs.Uplink.{uploadNew, uploadContinued, onUploadCmd, dataTo, onData, timeAt, dataEndTo, onDataEnd}
 use Rattle.model.specs.Downlink.{destinationsIn, downloadOf, downloadNumbered, onDownloadCmd, onDirCmd, dataDue, onRequest, onDlAckCmd, onDlNakCmd, onSelectCmd}
 use Rattle.model.specs.Step.{ifNoUpload, ifNoDownload, byType, onPacket, endsIn, onEvent, refusal, unless, step}
->>>>>>> paging
 use Rattle.paging.specs.Paging.{Clocked}
 
 abbrev Small : Model → Type 0
@@ -199,36 +171,6 @@ unless-small n m out x s h = go (eqb n 0)
     go true = h
     go false = s
 
-<<<<<<< HEAD
-  receive-small : (k : Check) (clock : ℕ) (input out : List ℕ) → clock < 4294967296
-      → onCheck k sv l out clock input .done .server .last .time < 4294967296
-  unfolding onCheck
-  receive-small (Refuse n) clock input out c = small
-  receive-small (Go i) clock input out c = heard-small i clock input out c
-
-  login-small : (k : Check) (out : List ℕ) (clock : ℕ) → onLogin k sv out clock .done .server .last .time < 4294967296
-  unfolding onLogin
-  login-small (Refuse n) out clock = small
-  login-small (Go i) out clock = small
-
-  lose-small : (k : Check) (selected held : List ℕ) → onLose k sv selected held .done .server .last .time < 4294967296
-  unfolding onLose
-  lose-small (Refuse n) selected held = small
-  lose-small (Go i) selected held = small
-
-  request-small : (k : Check) (out : List ℕ) → onRequest k sv l out .done .server .last .time < 4294967296
-  unfolding onRequest dueAs
-  request-small (Refuse n) out = small
-  request-small (Go i) out = small
-
-  -- THE LAW: a call with a 32-bit clock leaves a 32-bit time
-  pub call-small : (c : Call) → Clocked c → callOf sv l c .done .server .last .time < 4294967296
-  unfolding receiveOf receiveBy loginOf loginBy loseOf loseBy requestOf requestBy
-  call-small (login session clock out) k = login-small (check.checkOf sv l session false (length out)) out clock
-  call-small (receive session clock input out) k = receive-small (check.checkOf sv l session true (length out)) clock input out k
-  call-small (request session out) k = request-small (check.checkOf sv l session true (length out)) out
-  call-small (lose session) k = lose-small (check.checkOf sv l session true 258) (l .selected) (l .held)
-=======
 -- THEOREM
 pub step-small : (m : Model) (c : Call) → Small m → Clocked c → Small (step m c .after)
 unfolding step
@@ -239,4 +181,3 @@ step-small m (receive session clock input out) s h =
 step-small m (request session out) s h =
     unless-small (refusal m session true (length out)) m out _ s (due-small m (session - 1) s (sessionAt m (session - 1) .down) out)
 step-small m (lose session) s h = unless-small (refusal m session true 258) m [] _ s s
->>>>>>> paging

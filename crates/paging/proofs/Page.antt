@@ -18,22 +18,6 @@ use Rattle.equation.proofs.Append.{narrowed-valid}
 use Rattle.equation.proofs.Selects.{narrowed-selects}
 use Rattle.header.specs.Items.{fieldsOf}
 use Rattle.session.specs.declared.reply.Answer.the-variants as answer
-<<<<<<< HEAD
-use Rattle.session.specs.declared.reply.Reply.the-variants.{Selected}
-use Rattle.carry.specs.declared.turn.Turn.{Turn}
-use Rattle.carry.specs.Turn.{turnOf}
-use Rattle.server.specs.State.{Lent, outcome, Outcome, doneWith, withTurn, linkOf, mapPart, ownerPart, tablePart, part, withPart}
-use Rattle.server.specs.Calls.{onCheck, receiveOf, receiveBy}
-use Rattle.history.specs.Calls.{callOf}
-use Rattle.history.specs.Good.{Good}
-use Rattle.history.specs.Change.{Files}
-use Rattle.history.specs.Stored.{filesOf}
-use Rattle.paging.specs.Client.{Complete, matching, selectBytes, asking, MayAsk, pageOf, newerPlaces, oldest, Answers}
-use Rattle.paging.proofs.Stamp.{First}
-use Rattle.paging.proofs.Asking.{goes, within, slices-left, steps}
-use Rattle.paging.proofs.Facts.{Facts, facts}
-use Rattle.paging.proofs.Above.{passing-same, order-newer}
-=======
 use Rattle.session.specs.declared.reply.Reply.the-variants as reply
 use Rattle.session.specs.Reply.{told, tell}
 use Rattle.calls.specs.Call.{receive}
@@ -50,7 +34,6 @@ use Rattle.paging.specs.Client.{Asks, pageOf, numbersOf, Answers}
 use Rattle.paging.proofs.Bytes.{at-most-a-mark, narrowed-size}
 use Rattle.paging.proofs.Files.{in-find, above-by-time, matching-above}
 use Rattle.paging.proofs.Known.{Known, found-low}
->>>>>>> paging
 
 -- an open session is there
 pub open-there : (m : Model) (i : ℕ) → sessionAt m i .linked ≡ true → i < length (m .sessions)
@@ -152,45 +135,9 @@ module _ (m : Model) (k : Known m) (eq : List ℕ) (valid : validityOf eq ≡ 0)
       (set-set (m .sessions) i (withHeld [] (sessionAt m i)) (withSelection page (sessionAt M i))
       ∙ ap (λ (s : Session). set (m .sessions) i (withSelection page s)) (link-held m i there []))
 
-<<<<<<< HEAD
-  whole : callOf sv l (asking eq t session clock out)
-      ≡ outcome (doneWith (withTurn sv i turned) (answer.Sent (2 + length q) 4)) slices (packetOf 17 (two (length places)) ++ drop 4 out)
-  unfolding receiveOf receiveBy onCheck
-  whole =
-      rw (goes sv l session out good may)
-      (steps sv l i clock q out some few names packets short accepted (may .idle) (may .nothing-held) (may .room))
-
-  -- the numbers are those of the places
-  numbers-oldest : numbersAt (tablePart sv l) places ≡ oldest sv l eq t
-  numbers-oldest = ap (numbersAt (tablePart sv l)) (chosen-newer sv l g eq t valid room small st)
-
-  count-oldest : length places ≡ length (oldest sv l eq t)
-  count-oldest = sym (length-map places (λ place. recordAt (tablePart sv l) place .number)) ∙ ap length numbers-oldest
-
-  taken : 2 + length q ≡ length (selectBytes eq t)
-  unfolding packetOf
-  taken = omega arith
-
-  own : linkOf (withTurn sv i turned) i ≡ turned .session
-  own = getD-set-same (sv .links) i (turned .session) closedSession (omega (arith, good .links, g .sessions, index))
-
-  paged : pageOf (withTurn sv i turned) slices session ≡ numbersAt (tablePart sv l) places
-  paged =
-      ap (λ (s : Session). take (s .count) (part (i * sv .most) (sv .most) (slices .selected))) own
-      ∙ written-part (i * sv .most) (sv .most) (length places) (numbersAt (tablePart sv l) places)
-      (replicate (sv .most - length (numbersAt (tablePart sv l) places)) 0 ++ drop (sv .most) (part (i * sv .most) (sv .most) (l .selected)))
-      (l .selected) (omega (arith, names)) (chosen-most q (l .disk) (ownerPart sv l) (tablePart sv l) [] (sv .most))
-      (length-map places (λ place. recordAt (tablePart sv l) place .number))
-
-  same-files : (p : ℕ) → filesOf (withTurn sv i turned) slices p ≡ filesOf sv l p
-  same-files p = rw (take-append-drop (sv .blocks) (l .owner), take-append-drop (4 * sv .files) (l .table))
-
-  pub page-answer : Answers sv l eq t session clock out
-=======
   -- THEOREM
   pub page-answer : Answers m eq t session clock input out
   unfolding tell
->>>>>>> paging
   page-answer =
       let w = ap (λ (s : Stepped). s .after) step-is ∙ after-is in
       record {
