@@ -1,2 +1,4 @@
 pub mod Hearing
 pub mod Replies
+pub mod Files
+pub mod Packets

@@ -32,10 +32,10 @@ use Rattle.steps.specs.Naming.{Partial, Complete, UpOk, DownOk, Named, N
 
 -- ---- one session moves
 
-clash : {P : Type 0} {f : File} → none ≡ some f → P
+pub clash : {P : Type 0} {f : File} → none ≡ some f → P
 clash e = let z : _≡_ {A = ℕ} 0 1 = cc in absurd (omega arith)
 
-by-eq : {P : Type 0} (a b : ℕ) → (a ≡ b → P) → ((a ≡ b → ⊥) → P) → P
+pub by-eq : {P : Type 0} (a b : ℕ) → (a ≡ b → P) → ((a ≡ b → ⊥) → P) → P
 by-eq {P} a b f g = go (eqb a b) refl
   where
     go : (t : Bool) → eqb a b ≡ t → P
@@ -74,7 +74,7 @@ module _ (m : Model) (number time : ℕ) (fs : List File) (i : ℕ) (x : Session
 
 -- ---- finding in other files
 
-find-changed : (n k : ℕ) (h : File → File) (fs : List File) (f : File) → ((g : File) → h g .number ≡ g .number) → find n fs ≡ some f
+pub find-changed : (n k : ℕ) (h : File → File) (fs : List File) (f : File) → ((g : File) → h g .number ≡ g .number) → find n fs ≡ some f
     → find n (changed k h fs) ≡ some (cond (eqb n k) (h f) f)
 unfolding find changed
 find-changed n k h [] f u e = clash e
@@ -107,7 +107,7 @@ find-without n k (x ∷ fs) z = go (eqb (x .number) k) refl (find-without n k fs
     go true d e = rw (ne-eqb (x .number) n (λ w. z (sym w ∙ eqb-true (x .number) k d))) e
     go false d e = ap (cond (eqb (x .number) n) (some x)) e
 
-find-snoc : (n : ℕ) (fs : List File) (g f : File) → find n fs ≡ some f → find n (fs ++ g ∷ []) ≡ some f
+pub find-snoc : (n : ℕ) (fs : List File) (g f : File) → find n fs ≡ some f → find n (fs ++ g ∷ []) ≡ some f
 unfolding find
 find-snoc n [] g f e = clash e
 find-snoc n (x ∷ fs) g f e = go (eqb (x .number) n) e (find-snoc n fs g f)
@@ -121,7 +121,7 @@ unfolding find
 find-past n a b t [] k h = refl
 find-past n a b t (x ∷ fs) k h = rw (ne-eqb (x .number) n (λ z. let w = k .1 in omega arith)) (find-past n (x .number) b t fs (k .3) h)
 
-find-new : (fs : List File) (g : File) → find (g .number) fs ≡ none → find (g .number) (fs ++ g ∷ []) ≡ some g
+pub find-new : (fs : List File) (g : File) → find (g .number) fs ≡ none → find (g .number) (fs ++ g ∷ []) ≡ some g
 unfolding find
 find-new [] g e = rw (eq-eqb (g .number) (g .number) refl)
 find-new (x ∷ fs) g e = go (eqb (x .number) (g .number)) e (find-new fs g)

@@ -17,7 +17,7 @@ use Rattle.steps.proofs.Changes.{one-change}
 use Rattle.steps.proofs.Naming.{find-without}
 
 -- another file is changed
-find-away : (n k : ℕ) (h : File → File) (fs : List File) → ((g : File) → h g .number ≡ g .number) → (n ≡ k → ⊥) → find n (changed k h fs) ≡ find n fs
+pub find-away : (n k : ℕ) (h : File → File) (fs : List File) → ((g : File) → h g .number ≡ g .number) → (n ≡ k → ⊥) → find n (changed k h fs) ≡ find n fs
 unfolding find changed
 find-away n k h [] u z = refl
 find-away n k h (x ∷ fs) u z = go (eqb (x .number) k) refl (find-away n k h fs u z)
@@ -28,7 +28,7 @@ find-away n k h (x ∷ fs) u z = go (eqb (x .number) k) refl (find-away n k h fs
     go false d e = ap (cond (eqb (x .number) n) (some x)) e
 
 -- another file comes behind
-find-behind : (n : ℕ) (fs : List File) (g : File) → (g .number ≡ n → ⊥) → find n (fs ++ g ∷ []) ≡ find n fs
+pub find-behind : (n : ℕ) (fs : List File) (g : File) → (g .number ≡ n → ⊥) → find n (fs ++ g ∷ []) ≡ find n fs
 unfolding find
 find-behind n [] g z = rw (ne-eqb (g .number) n z)
 find-behind n (x ∷ fs) g z = ap (cond (eqb (x .number) n) (some x)) (find-behind n fs g z)
