@@ -158,7 +158,7 @@ module _ (m : Model) (i : ℕ) (there : i < length (m .sessions)) (s : Named m) 
   k = sessionAt m i
 
   -- the session's own downlink and selection move, its upload does not
-  down-moves : (x : Session) → x .up ≡ sessionAt m i .up → DownOk (m .files) (x .down) → Named (withSession m i x)
+  pub down-moves : (x : Session) → x .up ≡ sessionAt m i .up → DownOk (m .files) (x .down) → Named (withSession m i x)
   down-moves x e d =
       named-after m (m .lastNumber) (m .lastTime) (m .files) i x there s (λ j n. s .up j) (λ j n. s .down j)
       (subst (UpOk (m .files)) (sym e) (s .up i)) d (λ n a j z b. z (s .alone j i n b (sym e ∙ a)))
