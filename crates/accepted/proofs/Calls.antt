@@ -238,7 +238,7 @@ module _ (m : Model) where
 -- what an event says of a state, it says of one that differs in what a session holds
 meets-over : (m : Model) (i : ℕ) (x : Session) (e : Event) → Meets e (withSession m i x) → Meets e m
 meets-over m i x nothing k = tt
-meets-over m i x (given n size) k = record { next = k .next; place = k .place; room = k .room }
+meets-over m i x (given n size) k = record { next = k .next; few = k .few; place = k .place; room = k .room }
 meets-over m i x (added n bytes) k = record { own = k .own; room = k .room }
 meets-over m i x (finished n clock) k = record { own = k .own; valid = k .valid }
 meets-over m i x (dropped n) k = k

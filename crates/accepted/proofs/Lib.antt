@@ -3,3 +3,5 @@ pub mod Replies
 pub mod Files
 pub mod Packets
 pub mod Calls
+pub mod Lists
+pub mod Steps

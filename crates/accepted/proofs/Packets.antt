@@ -137,7 +137,7 @@ module _ (m : Model) (i : ℕ) (there : i < length (m .sessions)) (clear : sessi
   begins z p q r =
       record {
         effect = subst (λ (e : Event). Effect e m begun) (sym (ap (λ (b : Bool). cond b (given next (wordAt info 4)) nothing) (eq-eqb (wordAt info 0) 0 z)))
-            (record { before = record { next = refl; place = q; room = r }; files = refl; number = refl; time = refl });
+            (record { before = record { next = refl; few = omega (arith, bound, p); place = q; room = r }; files = refl; number = refl; time = refl });
         names = up-left (withUp (receiving next) (sessionAt m i));
         held = held-left (withUp (receiving next) (sessionAt m i)) ∙ clear;
         goes = record {

@@ -4,7 +4,7 @@ use mathlib.Core.List.{List, [], _∷_, _++_}
 use Prim.Native.Nat.{ℕ, _+_, _≤_, _<_}
 use lib.ListN.{length}
 use Rattle.header.specs.Header.{verdict}
-use Rattle.table.specs.Given.{blocksFor}
+use Rattle.table.specs.Given.{blocksFor, mostGiven}
 use Rattle.model.specs.State.{File, file, Model}
 use Rattle.model.specs.Files.{changed, without, free}
 use Rattle.model.specs.Uplink.{grown, timeAt, completed}
@@ -38,9 +38,10 @@ timeBy (dropped n) last = last
 
 -- ---- what it says of the state before it: the file of the number is there, and partial (crates/steps/specs/Naming.antt), or is yet to come
 
--- "gets the number after the last one given"; there are a place and blocks for it
+-- "gets the number after the last one given", and numbers are not used up; there are a place and blocks for it
 pub record Gives (n size : ℕ) (m : Model) : Type 0 where
   pub next : n ≡ m .lastNumber + 1
+  pub few : n ≤ mostGiven
   pub place : length (m .files) < m .places
   pub room : blocksFor size ≤ free m
 
