@@ -5,3 +5,4 @@ pub mod Packets
 pub mod Calls
 pub mod Lists
 pub mod Steps
+pub mod Story

@@ -14,7 +14,7 @@ use Rattle.header.specs.Fields.{fieldsSet}
 use Rattle.header.proofs.Set.{verdict-parts}
 use Rattle.table.specs.Given.{mostGiven}
 use Rattle.model.specs.State.{File, file, Model}
-use Rattle.model.specs.Files.{find}
+use Rattle.model.specs.Files.{find, changed, without}
 use Rattle.model.specs.Uplink.{grown, timeAt, completed}
 use Rattle.steps.specs.Sound.{Sound}
 use Rattle.steps.specs.Naming.{Partial}
@@ -47,13 +47,26 @@ by-number k n x a b f g =
     by-eq k n (λ z. f z ∙ sym (ap (λ (t : Bool). cond t a b) (eq-eqb k n z))) (λ z. g z ∙ sym (ap (λ (t : Bool). cond t a b) (ne-eqb k n z)))
 
 find-mapped : (k n : ℕ) (h : File → File) (fs : List File) → ((g : File) → h g .number ≡ g .number) → Partial k fs
-    → find n (Rattle.model.specs.Files.changed k h fs) ≡ cond (eqb k n) (mapped h (find n fs)) (find n fs)
+    → find n (changed k h fs) ≡ cond (eqb k n) (mapped h (find n fs)) (find n fs)
 find-mapped k n h fs u own =
     by-number k n _ _ _
     (λ z.
-    ap (λ (j : ℕ). find j (Rattle.model.specs.Files.changed k h fs)) (sym z) ∙ find-own k h fs (own .file) u (own .found)
+    ap (λ (j : ℕ). find j (changed k h fs)) (sym z) ∙ find-own k h fs (own .file) u (own .found)
     ∙ sym (ap (mapped h) (ap (λ (j : ℕ). find j fs) (sym z) ∙ own .found)))
     (λ z. find-away n k h fs u (λ w. z (sym w)))
+
+-- the times so far: the last of them is the last one given, and they rise to it
+pub record Timed (cs : List Completion) (t : ℕ) : Type 0 where
+  pub last-is : lastTime cs ≡ t
+  pub rising : Rising (0 ∷ times cs)
+  pub bounded : Bounded t (0 ∷ times cs)
+
+-- each complete file has its completion, and the other way round
+abbrev pub Own : List File → List Completion → Type 0
+Own fs cs = (n : ℕ) (f : File) → find n fs ≡ some f → (f .time ≡ 0 → ⊥) → Listed (completion n (f .time)) cs
+
+abbrev pub Kept : List File → List Completion → Type 0
+Kept fs cs = (c : Completion) → Listed c cs → Stands fs c
 
 module _ (m m′ : Model) (sound : Sound m) where
   abbrev fs : List File
@@ -78,7 +91,7 @@ module _ (m m′ : Model) (sound : Sound m) where
   find-after (finished k clock) x n = ap (find n) (x .files) ∙ find-mapped k n (completed (timeAt clock (m .lastTime))) fs (λ g. refl) (x .before .own)
   find-after (dropped k) x n =
       ap (find n) (x .files)
-      ∙ by-number k n _ _ _ (λ z. ap (λ (j : ℕ). find j (Rattle.model.specs.Files.without k fs)) (sym z) ∙ find-gone k fs) (λ z. find-without n k fs (λ w. z (sym w)))
+      ∙ by-number k n _ _ _ (λ z. ap (λ (j : ℕ). find j (without k fs)) (sym z) ∙ find-gone k fs) (λ z. find-without n k fs (λ w. z (sym w)))
 
   -- ---- which files there are
 
@@ -205,6 +218,10 @@ module _ (m m′ : Model) (sound : Sound m) where
       pick n true x y o p f g = f refl
       pick n false x y o p f g = g
 
+      either : (n : ℕ) (b : Bool) (o p : Option File) → (b ≡ true → Held n (acc n ++ []) o) → Held n (acc n ++ []) p → Held n (acc n ++ []) (cond b o p)
+      either n true o p f g = f refl
+      either n false o p f g = g
+
       pub contents-step : (e : Event) → Effect e m m′ → (n : ℕ) → Held n (acc n ++ addedBy e n) (find n (m′ .files))
       unfolding addedBy
       contents-step e x n = subst (Held n (acc n ++ addedBy e n)) (sym (find-after e x n)) (go e x)
@@ -219,13 +236,9 @@ module _ (m m′ : Model) (sound : Sound m) where
           go : (e : Event) → Effect e m m′ → Held n (acc n ++ addedBy e n) (foundBy e (m .lastTime) n (find n fs))
           go nothing x = old n
           go (given k size) x =
-              twice (eqb k n) _ _
+              either n (eqb k n) _ _
               (λ t f e. let z : file k size [] 0 ≡ f = cc in
               subst (λ (g : File). Holds g (acc n ++ [])) z (begun k n size (eqb-true k n t) (omega (arith, x .before .next)))) (old n)
-            where
-              twice : (b : Bool) (o p : Option File) → (b ≡ true → Held n (acc n ++ []) o) → Held n (acc n ++ []) p → Held n (acc n ++ []) (cond b o p)
-              twice true o p f g = f refl
-              twice false o p f g = g
           go (added k bytes) x =
               pick n (eqb k n) bytes [] _ _
               (λ t f e.
@@ -235,7 +248,7 @@ module _ (m m′ : Model) (sound : Sound m) where
               (longer n bytes (own .file) (holds k (own .file) z (own .found)) (own .time) (x .before .room)))
               (old n)
           go (finished k clock) x =
-              twice (eqb k n) _ _
+              either n (eqb k n) _ _
               (λ t f e.
               let own = x .before .own in
               let z = eqb-true k n t in
@@ -243,12 +256,122 @@ module _ (m m′ : Model) (sound : Sound m) where
               same n f (subst (λ (g : File). Holds g (acc n)) (is k (own .file) h f z (own .found) e)
               (finish n clock (own .file) (holds k (own .file) z (own .found)) (own .time) (x .before .valid))))
               (old n)
-            where
-              twice : (b : Bool) (o p : Option File) → (b ≡ true → Held n (acc n ++ []) o) → Held n (acc n ++ []) p → Held n (acc n ++ []) (cond b o p)
-              twice true o p f g = f refl
-              twice false o p f g = g
-          go (dropped k) x = gone (eqb k n)
-            where
-              gone : (b : Bool) → Held n (acc n ++ []) (cond b none (find n fs))
-              gone true f e = clash e
-              gone false f e = old n f e
+          go (dropped k) x = either n (eqb k n) _ _ (λ t f e. clash e) (old n)
+
+  -- ---- the files completed
+
+  -- a complete file stays
+  pub complete-stays : (e : Event) → Effect e m m′ → (n : ℕ) (f : File) → find n fs ≡ some f → (f .time ≡ 0 → ⊥) → find n (m′ .files) ≡ some f
+  complete-stays e x n f found late = find-after e x n ∙ go e x
+    where
+      -- the event's own file is partial
+      other : (k : ℕ) → Partial k fs → k ≡ n → ⊥
+      other k own z =
+          let w : some (own .file) ≡ some f = sym (ap (λ (j : ℕ). find j fs) (sym z) ∙ own .found) ∙ found in
+          let d : own .file ≡ f = cc in
+          late (ap (λ (g : File). g .time) (sym d) ∙ own .time)
+
+      away : (k : ℕ) (o : Option File) → (k ≡ n → ⊥) → cond (eqb k n) o (find n fs) ≡ some f
+      away k o z = ap (λ (b : Bool). cond b o (find n fs)) (ne-eqb k n z) ∙ found
+
+      go : (e : Event) → Effect e m m′ → foundBy e (m .lastTime) n (find n fs) ≡ some f
+      go nothing x = found
+      go (given k size) x = away k _ (λ z. omega (arith, given-number n f found, x .before .next))
+      go (added k bytes) x = away k _ (other k (x .before .own))
+      go (finished k clock) x = away k _ (other k (x .before .own))
+      go (dropped k) x = away k _ (other k (x .before))
+
+  module _ (cs : List Completion) (last : lastTime cs ≡ m .lastTime) where
+    pub own-step : Own fs cs → (e : Event) → Effect e m m′ → Own (m′ .files) (cs ++ completedBy e (lastTime cs))
+    unfolding completedBy
+    own-step own e x n f found late = go e x (sym (find-after e x n) ∙ found)
+      where
+        old : find n fs ≡ some f → Listed (completion n (f .time)) (cs ++ [])
+        old d = subst (Listed (completion n (f .time))) (sym (append-nil cs)) (own n f d late)
+
+        partial : (b : Bool) (g : File) → g .time ≡ 0 → cond b (some g) (find n fs) ≡ some f → Listed (completion n (f .time)) (cs ++ [])
+        partial true g t d = let z : g ≡ f = cc in absurd (late (ap (λ (h : File). h .time) (sym z) ∙ t))
+        partial false g t d = old d
+
+        grows : (k : ℕ) (bytes : List ℕ) → Partial k fs → (b : Bool) → eqb k n ≡ b → cond b (mapped (grown bytes) (find n fs)) (find n fs) ≡ some f
+            → Listed (completion n (f .time)) (cs ++ [])
+        grows k bytes p true t d =
+            partial true (grown bytes (p .file)) (p .time) (sym (ap (mapped (grown bytes)) (ap (λ (j : ℕ). find j fs) (sym (eqb-true k n t)) ∙ p .found)) ∙ d)
+        grows k bytes p false t d = old d
+
+        finishes : (k clock : ℕ) → Partial k fs → (b : Bool) → eqb k n ≡ b
+            → cond b (mapped (completed (timeAt clock (m .lastTime))) (find n fs)) (find n fs) ≡ some f
+            → Listed (completion n (f .time)) (cs ++ completion k (timeAt clock (lastTime cs)) ∷ [])
+        finishes k clock p true t d =
+            let z = eqb-true k n t in
+            let h = completed (timeAt clock (m .lastTime)) in
+            let w : some (h (p .file)) ≡ some f = sym (ap (mapped h) (ap (λ (j : ℕ). find j fs) (sym z) ∙ p .found)) ∙ d in
+            let v : h (p .file) ≡ f = cc in
+            let a : timeAt clock (lastTime cs) ≡ f .time = ap (timeAt clock) last ∙ ap (λ (g : File). g .time) v in
+            subst (λ (j : ℕ). Listed (completion n (f .time)) (cs ++ completion j (timeAt clock (lastTime cs)) ∷ [])) (sym z)
+            (subst (λ (t : ℕ). Listed (completion n t) (cs ++ completion n (timeAt clock (lastTime cs)) ∷ [])) a
+            (listed-new (completion n (timeAt clock (lastTime cs))) cs))
+        finishes k clock p false t d = listed-old (completion n (f .time)) (completion k (timeAt clock (lastTime cs))) cs (own n f d late)
+
+        gone : (b : Bool) → cond b none (find n fs) ≡ some f → Listed (completion n (f .time)) (cs ++ [])
+        gone true d = clash d
+        gone false d = old d
+
+        go : (e : Event) → Effect e m m′ → foundBy e (m .lastTime) n (find n fs) ≡ some f
+            → Listed (completion n (f .time)) (cs ++ completedBy e (lastTime cs))
+        go nothing x d = old d
+        go (given k size) x d = partial (eqb k n) (file k size [] 0) refl d
+        go (added k bytes) x d = grows k bytes (x .before .own) (eqb k n) refl d
+        go (finished k clock) x d = finishes k clock (x .before .own) (eqb k n) refl d
+        go (dropped k) x d = gone (eqb k n) d
+
+    pub kept-step : Kept fs cs → (e : Event) → Effect e m m′ → Kept (m′ .files) (cs ++ completedBy e (lastTime cs))
+    unfolding completedBy
+    kept-step kept e x c l = go e x l
+      where
+        on : (e : Event) → Effect e m m′ → Listed c cs → Stands (m′ .files) c
+        on e x l =
+            let s = kept c l in
+            record { file = s .file; found = complete-stays e x (c .number) (s .file) (s .found) (s .complete); complete = s .complete; time = s .time }
+
+        same : (e : Event) → Effect e m m′ → Listed c (cs ++ []) → Stands (m′ .files) c
+        same e x l = on e x (subst (Listed c) (append-nil cs) l)
+
+        new : (k clock : ℕ) → Effect (finished k clock) m m′ → Stands (m′ .files) (completion k (timeAt clock (lastTime cs)))
+        new k clock x =
+            let own = x .before .own in
+            let h = completed (timeAt clock (m .lastTime)) in
+            record {
+              file = h (own .file);
+              found = find-after (finished k clock) x k ∙ ap (λ (b : Bool). cond b (mapped h (find k fs)) (find k fs)) (eq-eqb k k refl) ∙ ap (mapped h) (own .found);
+              complete = λ z. omega (arith, later clock (m .lastTime), z);
+              time = ap (timeAt clock) (sym last);
+            }
+
+        go : (e : Event) → Effect e m m′ → Listed c (cs ++ completedBy e (lastTime cs)) → Stands (m′ .files) c
+        go nothing x l = same nothing x l
+        go (given k size) x l = same (given k size) x l
+        go (added k bytes) x l = same (added k bytes) x l
+        go (finished k clock) x l =
+            ⊎-elim (on (finished k clock) x) (λ (e : completion k (timeAt clock (lastTime cs)) ≡ c). subst (Stands (m′ .files)) e (new k clock x))
+            (listed-split c (completion k (timeAt clock (lastTime cs))) cs l)
+        go (dropped k) x l = same (dropped k) x l
+
+  same-times : (cs : List Completion) → Timed cs (m .lastTime) → m′ .lastTime ≡ m .lastTime → Timed (cs ++ []) (m′ .lastTime)
+  same-times cs t e = rw (append-nil cs, e) t
+
+  one-later : (cs : List Completion) (n t : ℕ) → Timed cs (m .lastTime) → m .lastTime < t → Timed (cs ++ completion n t ∷ []) t
+  one-later cs n t r h =
+      record {
+        last-is = last-snoc 0 cs (completion n t);
+        rising = rw (times-snoc cs (completion n t)) (rising-snoc (m .lastTime) t (0 ∷ times cs) (r .rising) (r .bounded) h);
+        bounded = rw (times-snoc cs (completion n t)) (bounded-snoc (m .lastTime) t (0 ∷ times cs) (r .bounded) (omega arith));
+      }
+
+  pub times-step : (cs : List Completion) → Timed cs (m .lastTime) → (e : Event) → Effect e m m′ → Timed (cs ++ completedBy e (lastTime cs)) (m′ .lastTime)
+  unfolding completedBy timeBy
+  times-step cs t nothing x = same-times cs t (x .time)
+  times-step cs t (given n size) x = same-times cs t (x .time)
+  times-step cs t (added n bytes) x = same-times cs t (x .time)
+  times-step cs t (finished n clock) x = rw (t .last-is, x .time) (one-later cs n (timeAt clock (m .lastTime)) t (later clock (m .lastTime)))
+  times-step cs t (dropped n) x = same-times cs t (x .time)
