@@ -6,3 +6,5 @@ pub mod Calls
 pub mod Lists
 pub mod Steps
 pub mod Story
+pub mod Bytes
+pub mod Theorems

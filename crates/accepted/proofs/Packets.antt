@@ -237,11 +237,11 @@ module _ (m : Model) (i : ℕ) (there : i < length (m .sessions)) (clear : sessi
           effect = subst (λ (v : Event). Effect v m longer)
               (sym (ap (λ (k : ℕ). cond (eqb k 0) nothing (added k info)) was-is ∙ ap (λ (b : Bool). cond b nothing (added n info)) not-0))
               (record {
-            before = record { own = record { file = f; found = e; time = file-is f e }; room = q };
-            files = refl;
-            number = refl;
-            time = refl;
-          });
+                before = record { own = record { file = f; found = e; time = file-is f e }; room = q };
+                files = refl;
+                number = refl;
+                time = refl;
+              });
           names = refl;
           held = clear;
           goes = tt;
@@ -268,11 +268,11 @@ module _ (m : Model) (i : ℕ) (there : i < length (m .sessions)) (clear : sessi
         record {
           effect = subst (λ (k : ℕ). Effect (finished k clock) m whole) (sym was-is)
               (record {
-            before = record { own = record { file = f; found = e; time = file-is f e }; valid = v };
-            files = refl;
-            number = refl;
-            time = refl;
-          });
+                before = record { own = record { file = f; found = e; time = file-is f e }; valid = v };
+                files = refl;
+                number = refl;
+                time = refl;
+              });
           names = up-left (withUp noUpload (sessionAt m i));
           held = held-left (withUp noUpload (sessionAt m i)) ∙ clear;
           goes = tt;

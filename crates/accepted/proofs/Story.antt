@@ -72,7 +72,7 @@ module _ (m : Model) (t : Transcript) (y : Story m t) (c : Call) where
       ∙ sym (ap (λ (b : Bool). cond b (new (old j)) (old j)) (eq-eqb i j z)))
       (λ z. ap seen (own-session m c j (λ w. z (sym w))) ∙ before j ∙ sym (ap (λ (b : Bool). cond b (new (old j)) (old j)) (ne-eqb i j z)))
 
-  story-step : Story (step m c .after) (t ▹ exchanged m c)
+  pub story-step : Story (step m c .after) (t ▹ exchanged m c)
   unfolding linkBytes uploadOf accepted announced numbersGiven completions
   story-step =
       let m′ = step m c .after in
