@@ -8,3 +8,5 @@ pub mod Steps
 pub mod Story
 pub mod Bytes
 pub mod Theorems
+pub mod Passes
+pub mod AtWork

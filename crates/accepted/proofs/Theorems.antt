@@ -195,7 +195,7 @@ agrees m t y few =
       times = record { rising = y .timed .rising; own = y .own; kept = y .kept };
     }
 
-blocks-after : (m : Model) (h : History) → run m h .blocks ≡ m .blocks
+pub blocks-after : (m : Model) (h : History) → run m h .blocks ≡ m .blocks
 unfolding run
 blocks-after m start = refl
 blocks-after m (h ▸ c) = blocks-stay (run m h) (sessionOf c) (step (run m h) c .after) (one-change (run m h) c) ∙ blocks-after m h

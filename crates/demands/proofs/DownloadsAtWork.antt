@@ -17,9 +17,9 @@ use Rattle.model.specs.State.{File, file, sessionAt}
 use Rattle.model.specs.Step.{step}
 use Rattle.steps.specs.Parts.{sentBy}
 use Rattle.steps.specs.Downloads.{isRequest, requestOrOther, requestsOnly, asksIn, asks, sentTo, dataTo, endTo, Downloading, numberAsked, Begins}
-use Rattle.demands.specs.Downloads.{modelAt, Handed}
+use Rattle.demands.specs.Downloads.{Handed}
 use Rattle.demands.proofs.Downloads.{sound-at, named-at}
-use Rattle.demands.specs.Demand3.{serverAt, lentAt}
+use Rattle.demands.specs.Demand3.{serverAt, lentAt, modelAt}
 use Rattle.demands.proofs.Demand2.{demand-2}
 use Rattle.demands.proofs.Demands.{demands}
 use Rattle.demands.proofs.Example.{small, pair, pair-legal, output, rx, nak, download, nextFile, lostOnce, picked, sending}
@@ -190,7 +190,7 @@ handed-over =
 pub asked-for : Handed pair both 2 9 (download 0 0) output (drop 2 (download 0 0)) meanwhile
 unfolding at-work
 asked-for =
-    demands .asked-and-sent pair pair-legal both 2 9 11 (download 0 0) output (drop 2 (download 0 0)) refl refl refl meanwhile only-meanwhile other-ends
+    demands .asked-and-sent pair pair-legal both 2 9 11 (download 0 0) output (drop 2 (download 0 0)) (downloaded .asked) refl refl meanwhile only-meanwhile other-ends
 
 pub asked-number : numberAsked (sessionAt (modelAt pair both) 1) (drop 2 (download 0 0)) ≡ 1
 unfolding at-work numberAsked

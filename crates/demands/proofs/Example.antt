@@ -30,11 +30,13 @@ use Rattle.demands.specs.Closing.{eventAt, Unwelcome, long, unexpected}
 use Rattle.demands.specs.Cut.{endsIn, seen, sent, closed}
 use Rattle.demands.specs.Uncut.{uncutOf}
 use Rattle.demands.specs.Feeding.{feedAll, feedPieces}
-use Rattle.demands.specs.Events.{given, added, finished, dropped}
-use Rattle.demands.specs.Accepted.{uploadOf, accepted, reserved, numbersGiven, total, completion, completions}
+pub use Rattle.accepted.proofs.Passes.{output, of, rx, on, upload, dataEnd, rest}
+unfoldable pub use Rattle.accepted.proofs.Passes.{opened, halfway, torn, beforeUpload, continued, lostOnce, uploads, both}
+use Rattle.accepted.specs.Link.{linkBytes}
+use Rattle.accepted.specs.Accepted.{accepted, reserved, numbersGiven, total}
 use Rattle.demands.specs.Demand1.{Says, Fits, IsSound, forgotten, cleared}
 use Rattle.demands.specs.Downloads.{isDue}
-use Rattle.demands.specs.Demand3.{serverAt, lentAt, filesAt, sentAt, infoAt, Outside}
+use Rattle.demands.specs.Demand3.{serverAt, lentAt, filesAt, transcriptAt}
 use Rattle.packet.specs.Frame as packet-frame
 use Rattle.packet.specs.Machine as packet-machine
 use Rattle.numbers.specs.Numbers as byte-numbers
@@ -78,8 +80,11 @@ use Rattle.history.specs.Calls as history-calls
 use Rattle.demands.specs.Cut as demands-cut
 use Rattle.demands.specs.Uncut as demands-uncut
 use Rattle.demands.specs.Feeding as demands-feeding
-use Rattle.demands.specs.Events as demands-events
-use Rattle.demands.specs.Accepted as demands-accepted
+use Rattle.model.specs.Step as machine
+use Rattle.steps.specs.Parts as parts
+use Rattle.accepted.specs.Link as accepted-link
+use Rattle.accepted.specs.Events as accepted-events
+use Rattle.accepted.specs.Accepted as accepted-accepted
 use Rattle.demands.specs.Downloads as demands-downloads
 
 -- ---- the small store and what its one link brings
@@ -94,24 +99,6 @@ small =
       most = 1;
       lent = lent (replicate 256 0) (0 ∷ []) (0 ∷ []) (0 ∷ 0 ∷ 0 ∷ 0 ∷ []) (0 ∷ []) (replicate 258 0);
     }
-
--- the output that the driver lends
-abbrev pub output : List ℕ
-output = replicate 258 0
-
--- bytes of the one link at a clock reading
-abbrev pub rx : ℕ → List ℕ → Call
-rx clock bytes = receive 1 clock bytes output
-
-abbrev pub on : ℕ → Call
-on clock = login 1 clock output
-
--- UPLOAD_CMD for a file of 80 bytes, new (0) or continued
-abbrev pub upload : ℕ → List ℕ
-upload number = 8 ∷ 3 ∷ number ∷ 0 ∷ 0 ∷ 0 ∷ 80 ∷ 0 ∷ 0 ∷ 0 ∷ []
-
-abbrev pub dataEnd : List ℕ
-dataEnd = 0 ∷ 1 ∷ []
 
 -- UPLOAD_CMD (3) with one byte of information, where 8 are wanted
 abbrev pub shortUpload : List ℕ
@@ -165,28 +152,6 @@ length257 = 1 ∷ 32 ∷ []
 abbrev pub download : ℕ → ℕ → List ℕ
 download offset lock = 9 ∷ 8 ∷ 1 ∷ 0 ∷ 0 ∷ 0 ∷ offset ∷ 0 ∷ 0 ∷ 0 ∷ lock ∷ []
 
--- the link is made
-unfoldable pub opened : History
-opened = start ▸ on 5
-
--- 40 bytes of a file of 80 are received
-unfoldable pub halfway : History
-halfway = opened ▸ rx 6 (upload 0) ▸ rx 7 (40 ∷ 0 ∷ take 40 smallest)
-
--- the link is lost in the middle of the second DATA packet, and made again
-unfoldable pub beforeUpload : History
-beforeUpload = halfway ▸ rx 8 (40 ∷ 0 ∷ take 9 (drop 40 smallest)) ▸ lose 1 ▸ on 9
-
--- the file is continued and completed, and the clock runs backwards
-unfoldable pub continued : History
-continued = beforeUpload ▸ rx 10 (upload 1)
-
-abbrev pub rest : Call
-rest = rx 11 (40 ∷ 0 ∷ drop 40 smallest)
-
-unfoldable pub lostOnce : History
-lostOnce = continued ▸ rest ▸ rx 4 dataEnd
-
 -- the complete file is selected
 unfoldable pub picked : History
 picked = lostOnce ▸ rx 12 size80
@@ -213,10 +178,6 @@ complete80 =
     4 ∷ 80 ∷ 0 ∷ 0 ∷ 0 ∷ 5 ∷ 0 ∷ 4 ∷ 0 ∷ 0 ∷ 0 ∷ 0 ∷ 6 ∷ 0 ∷ 4 ∷ 4 ∷ 0 ∷ 0 ∷ 0 ∷ 7 ∷ 0 ∷ 1 ∷ 0 ∷ 8 ∷ 0 ∷ 1 ∷ 0 ∷ 9 ∷
     0 ∷ 2 ∷ 0 ∷ 0 ∷ 10 ∷ 0 ∷ 2 ∷ 35 ∷ 2 ∷ 11 ∷ 0 ∷ 2 ∷ 80 ∷ 0 ∷ 18 ∷ 0 ∷ 4 ∷ 4 ∷ 0 ∷ 0 ∷ 0 ∷ 0 ∷ 0 ∷ 0 ∷ []
 
--- DATA_END comes too early, so the file is discarded; the next one gets the next number, and the same block
-unfoldable pub tooEarly : History
-tooEarly = halfway ▸ rx 8 dataEnd ▸ rx 9 (upload 0)
-
 pub small-legal : legal small ≡ true
 unfolding small server-check.sizesFit server-check.roomFits
 small-legal = refl
@@ -233,19 +194,6 @@ pair =
       most = 1;
       lent = lent (replicate 512 0) (0 ∷ []) (0 ∷ 0 ∷ []) (replicate 8 0) (0 ∷ 0 ∷ []) (replicate 516 0);
     }
-
--- bytes of the link of session i
-abbrev pub of : ℕ → ℕ → List ℕ → Call
-of i clock bytes = receive i clock bytes output
-
--- both sessions upload the file, DATA of the first before that of the second
-unfoldable pub uploads : History
-uploads =
-    start ▸ login 1 5 output ▸ login 2 5 output ▸ of 1 6 (upload 0) ▸ of 2 6 (upload 0) ▸ of 1 6 (80 ∷ 0 ∷ smallest) ▸ of 2 6 (80 ∷ 0 ∷ smallest)
-
--- both files are completed in the same second, 7
-unfoldable pub both : History
-both = uploads ▸ of 1 7 dataEnd ▸ of 2 7 dataEnd
 
 -- the second link downloads the file that the first one uploaded
 unfoldable pub handed : History
@@ -352,53 +300,25 @@ pub record Packets : Type 0 where
   pub first-byte : endsIn pair uploads 1 (0 ∷ []) ≡ none
   pub last-byte : endsIn pair uploads 1 dataEnd ≡ some (packet 1 [])
 
--- UL_GO_RESP offers the 40 bytes of the whole packet; the whole file is accepted and completed
+-- the file with a lost link, by place: partial, and complete
 pub record LostOnce : Type 0 where
   -- two bytes of the next packet end nothing
   pub ends : endsIn small beforeUpload 1 (8 ∷ 3 ∷ []) ≡ none
-  pub half : accepted small beforeUpload 1 ≡ take 40 smallest
+  pub half : accepted (transcriptAt small beforeUpload) 1 ≡ take 40 smallest
   pub partial : filesAt small beforeUpload 0 .file ≡ record { number = 1; size = 80; received = 40; time = 0 }
-  pub named : wordAt (infoAt small beforeUpload 1 (upload 1)) 0 ≡ 1
-  pub offer : sentAt small beforeUpload (rx 10 (upload 1)) ≡ 8 ∷ 4 ∷ 1 ∷ 0 ∷ 0 ∷ 0 ∷ 40 ∷ 0 ∷ 0 ∷ 0 ∷ []
-  pub offered : wordAt (sentAt small beforeUpload (rx 10 (upload 1))) 6 ≡ 40
-  pub numbers : numbersGiven small lostOnce ≡ 1 ∷ []
-  pub bytes : accepted small lostOnce 1 ≡ smallest
-  pub blocks : reserved small lostOnce 1 ≡ 1
-  pub complete : completions small lostOnce ≡ completion 1 4 ∷ []
+  pub bytes : accepted (transcriptAt small lostOnce) 1 ≡ smallest
+  pub blocks : reserved (transcriptAt small lostOnce) 1 ≡ 1
   pub file : filesAt small lostOnce 0 .file ≡ record { number = 1; size = 80; received = 80; time = 4 }
   -- the block is free at first, and then owned by place 0
   pub free : bitAt (mapPart (serverAt small start) (lentAt small start)) 0 ≡ 1
   pub bit : bitAt (mapPart (serverAt small lostOnce) (lentAt small lostOnce)) 0 ≡ 0
   pub owner : getD (ownerPart (serverAt small lostOnce) (lentAt small lostOnce)) 0 0 ≡ 1
-  pub sum : total (length (numbersGiven small lostOnce)) (reserved small lostOnce) ≡ 1
-  pub none : total (length (numbersGiven small start)) (reserved small start) ≡ 0
-  -- what the packets tell
-  pub begun : demands-accepted.eventAt small opened (rx 6 (upload 0)) ≡ given 1 80
-  pub more : demands-accepted.eventAt small continued rest ≡ added 1 (drop 40 smallest)
-  pub ended : demands-accepted.eventAt small (continued ▸ rest) (rx 4 dataEnd) ≡ finished 1 4
-  -- bytes 4 and 9 stand just before and just behind file_number, and in none of the four items that the server sets
-  pub before : Outside 4 (placeOf 1 smallest) × Outside 4 (placeOf 6 smallest) × Outside 4 (placeOf 10 smallest) × Outside 4 (placeOf 18 smallest)
-  pub behind : Outside 9 (placeOf 1 smallest) × Outside 9 (placeOf 6 smallest) × Outside 9 (placeOf 10 smallest) × Outside 9 (placeOf 18 smallest)
+  pub sum : total (length (numbersGiven (transcriptAt small lostOnce))) (reserved (transcriptAt small lostOnce)) ≡ 1
+  pub none : total (length (numbersGiven (transcriptAt small start))) (reserved (transcriptAt small start)) ≡ 0
 
-pub record TooEarly : Type 0 where
-  pub numbers : numbersGiven small tooEarly ≡ 1 ∷ 2 ∷ []
-  pub first : accepted small tooEarly 1 ≡ take 40 smallest
-  pub second : accepted small tooEarly 2 ≡ []
-  pub freed : reserved small tooEarly 1 ≡ 0
-  pub blocks : reserved small tooEarly 2 ≡ 1
-  pub complete : completions small tooEarly ≡ []
-  pub gone : demands-accepted.eventAt small halfway (rx 8 dataEnd) ≡ dropped 1
-  pub file : filesAt small tooEarly 0 .file ≡ record { number = 2; size = 80; received = 0; time = 0 }
-
--- two links, two files: each link uploads its own, and the second of the two completed at time 7 gets time 8
+-- two links, two files
 pub record Both : Type 0 where
-  pub linked : linkOf (serverAt pair uploads) 1 .linked ≡ true
-  pub second : uploadOf pair uploads 1 ≡ 2
-  pub beside : filesAt pair uploads 0 .file ≡ record { number = 1; size = 80; received = 80; time = 0 }
-  pub numbers : numbersGiven pair both ≡ 1 ∷ 2 ∷ []
-  pub complete : completions pair both ≡ completion 1 7 ∷ completion 2 8 ∷ []
   pub file : filesAt pair both 0 .file ≡ record { number = 1; size = 80; received = 80; time = 7 }
-  pub other : filesAt pair both 1 .file ≡ record { number = 2; size = 80; received = 80; time = 8 }
 
 -- the history in pieces without its cuts
 pub record Chopped : Type 0 where
@@ -424,8 +344,10 @@ pub record Requests : Type 0 where
 
 pub record Downloads : Type 0 where
   -- what was accepted for the file that the first link uploaded, before the second one's DOWNLOAD_CMD and after it
-  pub before : accepted pair both 1 ≡ smallest
-  pub after : accepted pair handed 1 ≡ smallest
+  pub before : accepted (transcriptAt pair both) 1 ≡ smallest
+  pub after : accepted (transcriptAt pair handed) 1 ≡ smallest
+  -- behind the second link's last packet comes its DOWNLOAD_CMD
+  pub asked : machine.endsIn (linkBytes (transcriptAt pair both) 1 ++ download 0 0) ≡ some (packet 8 (drop 2 (download 0 0)))
   pub fields : header-fields.fieldsSet 1 4 smallest ≡ complete80
 
 pub record Computed : Type 0 where
@@ -434,7 +356,6 @@ pub record Computed : Type 0 where
   pub closings : Closings
   pub packets : Packets
   pub lost-once : LostOnce
-  pub too-early : TooEarly
   pub both : Both
   pub chopped : Chopped
 
@@ -444,8 +365,8 @@ clash e = let z : _≡_ {A = ℕ} 0 1 = cc in omega arith
 -- whoever unfolds this unfolds all that the examples compute with
 computing : ℕ
 unfolding
-    small opened halfway beforeUpload continued lostOnce tooEarly pair uploads both smallest ones trailingZeros links-sound.downlinkSound
-    demands-events.sentBy demands-accepted.namedBy demands-accepted.noneBy demands-accepted.uploadOf packet-frame.judged packet-frame.byte
+    small opened halfway torn beforeUpload continued lostOnce pair uploads both smallest ones trailingZeros links-sound.downlinkSound
+    machine.endsIn parts.sentBy accepted-events.namedBy accepted-events.noneBy accepted-events.uploadOf packet-frame.judged packet-frame.byte
     packet-frame.withoutPacket packet-frame.answerBy packet-frame.answerOf packet-frame.receiveOf packet-machine.called packet-machine.call
     byte-numbers.number packet-packet.packetOf session-expected.expectedUp session-expected.expected session-reply.tell session-reply.answered
     table-table.files table-table.putTable table-table.firstFrom table-fit.fileFits table-fit.recordFits table-fit.recordsFitFrom table-fit.among
@@ -470,10 +391,9 @@ unfolding
     server-calls.answeredBy server-calls.heardBy server-calls.stepOf server-calls.onCheck server-calls.receiveOf server-calls.onLogin
     server-calls.loginOf server-calls.onLose server-calls.loseOf server-turns.hearOf server-turns.sizeIn server-turns.putBack server-turns.actOf
     server-making.emptyOf server-making.makeOf history-calls.made history-calls.after demands-cut.seenIn demands-cut.seen demands-feeding.onward
-    demands-feeding.feed demands-feeding.feedPieces demands-events.onQuiet demands-events.onGo demands-events.onSent demands-events.onAnswer
-    demands-accepted.addedBy demands-accepted.accepted demands-accepted.reservedBy demands-accepted.reserved demands-accepted.total
-    demands-accepted.givenBy demands-accepted.numbersGiven demands-accepted.fromOne demands-accepted.lastFrom demands-accepted.completedBy
-    demands-accepted.completions chopped unchopped demands-uncut.onBytes demands-uncut.unlessRefused demands-uncut.uncutOf
+    demands-feeding.feed demands-feeding.feedPieces accepted-link.takenBy accepted-link.behind accepted-link.receivedBy accepted-link.anewBy linkBytes
+    accepted-events.onQuiet accepted-events.onGo accepted-events.onSent accepted-events.onAnswer accepted-accepted.addedBy accepted
+    accepted-accepted.announcedBy accepted-accepted.announced accepted-accepted.blocksOf total accepted-accepted.givenBy numbersGiven transcriptAt chopped unchopped demands-uncut.onBytes demands-uncut.unlessRefused demands-uncut.uncutOf
     session-expected.expectedDown decide-downlink.onFound decide-downlink.onNumbered decide-downlink.onDownload decide-downlink.onDownlink
     carry-download.closeTurn carry-download.selectedAs carry-download.selectTurn carry-carry.onChooses files-selection.selectNumber
     files-selection.selectOf equation-symbols.starsIn equation-symbols.goodText equation-symbols.goodNumber equation-symbols.good
@@ -523,27 +443,16 @@ computed =
         ends = refl;
         half = refl;
         partial = refl;
-        named = refl;
-        offer = refl;
-        offered = refl;
-        numbers = refl;
         bytes = refl;
         blocks = refl;
-        complete = refl;
         file = refl;
         free = refl;
         bit = refl;
         owner = refl;
         sum = refl;
         none = refl;
-        begun = refl;
-        more = refl;
-        ended = refl;
-        before = (inl (omega arith), inl (omega arith), inl (omega arith), inl (omega arith));
-        behind = (inr (omega arith), inl (omega arith), inl (omega arith), inl (omega arith));
       };
-      too-early = record { numbers = refl; first = refl; second = refl; freed = refl; blocks = refl; complete = refl; gone = refl; file = refl };
-      both = record { linked = refl; second = refl; beside = refl; numbers = refl; complete = refl; file = refl; other = refl };
+      both = record { file = refl };
       chopped = record { sessions = refl; calls = refl; first = refl; second = refl; calls′ = refl; first′ = refl; second′ = refl };
     }
 
@@ -553,4 +462,4 @@ requested = record { goes = refl; not-due = refl }
 
 pub downloaded : Downloads
 unfolding computing
-downloaded = record { before = refl; after = refl; fields = refl }
+downloaded = record { before = refl; after = refl; asked = refl; fields = refl }

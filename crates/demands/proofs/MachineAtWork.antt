@@ -15,7 +15,7 @@ use Rattle.cases.specs.Computing.{computing}
 use Rattle.demands.specs.Demand3.{serverAt, lentAt}
 use Rattle.demands.proofs.Demand2.{demand-2}
 use Rattle.demands.proofs.Example.{small, small-legal, output, rx, upload, dataEnd, shortUpload, largeUpload, nextFile, titleAboveM, size80, otherLength}
-use Rattle.demands.proofs.Example.{ack, nak, directory, data41, type18, download, opened, halfway, beforeUpload, lostOnce, picked, sending}
+use Rattle.demands.proofs.Example.{ack, nak, directory, data41, type18, download, opened, halfway, torn, beforeUpload, lostOnce, picked, sending}
 use Rattle.demands.proofs.Example.{sending40, complete80, sentAll, continued, rest, pair, uploads, both, handed}
 
 -- what the small server tells at a call, and at bytes of its link
@@ -42,7 +42,7 @@ machine h = run (empty (small .blocks) (small .files) (small .sessions) (small .
 -- whoever unfolds this unfolds all that the machine computes with in these cases
 unfoldable pub at-work : ℕ
 unfolding
-    computing run small smallest opened halfway beforeUpload continued lostOnce picked sending sending40 complete80 sentAll pair uploads both handed
+    computing run small smallest opened halfway torn beforeUpload continued lostOnce picked sending sending40 complete80 sentAll pair uploads both handed
 at-work = 0
 
 -- what the machine tells is what the server tells

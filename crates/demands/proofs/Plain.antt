@@ -16,7 +16,7 @@ use Rattle.server.specs.declared.Server.{Server}
 use Rattle.server.specs.State.{Lent, Outcome, outcome, doneWith, linkOf}
 use Rattle.history.specs.Calls.{Call, callOf, Start, legal, History, after}
 use Rattle.demands.specs.Parts.{sessionIn, bytesIn, outIn, oneOf}
-use Rattle.demands.specs.Events.{typeOf}
+use Rattle.steps.specs.Parts.{typeOf}
 use Rattle.demands.specs.Demand1.{RefusedBy}
 use Rattle.demands.specs.Demand1.{Answers, refuses, silent, closes, sends, Says, UploadOver, over, overrun, uploadErrors, downloadErrors, naks}
 use Rattle.demands.proofs.Demand1.{demand-1}

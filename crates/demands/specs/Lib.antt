@@ -6,8 +6,5 @@ pub mod Uncut
 pub mod Feeding
 pub mod Downloads
 pub mod Demand2
-pub mod Events
-pub mod Effect
-pub mod Accepted
 pub mod Demand3
 pub mod Demands
