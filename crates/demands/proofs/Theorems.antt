@@ -20,11 +20,12 @@ use Rattle.files.specs.Sound.{places}
 use Rattle.files.proofs.Soundness.{file-blocks, free-blocks}
 use Rattle.server.specs.declared.Server.{Server}
 use Rattle.server.specs.State.{Lent, mapPart, ownerPart, tablePart}
-use Rattle.history.specs.Calls.{Call, Start, legal, History, start, _▸_}
+use Rattle.history.specs.Calls.{Call, Start, legal, History, start, _▸_, after}
 use Rattle.history.specs.Good.{Good}
 use Rattle.history.specs.Stored.{filesOf}
 use Rattle.history.proofs.GoodFacts.{Facts, good-facts}
 use Rattle.history.proofs.Histories.{good-after}
+use Rattle.history.proofs.Kept.{call-change}
 use Rattle.model.specs.State.{File, Model, empty}
 use Rattle.model.specs.Files as model
 use Rattle.model.specs.Files.{find, free}
@@ -111,6 +112,7 @@ module _ (s : Start) (ok : legal s ≡ true) where
 
   -- by place
   pub by-place : (h : History) → ByPlace s h
+  unfolding after
   by-place h =
       let sv = serverAt s h in
       let l = lentAt s h in
@@ -121,6 +123,7 @@ module _ (s : Start) (ok : legal s ≡ true) where
             let p = placed-at sv l (good h) n f (ap (λ (m : Model). find n (m .files)) (stands-for h) ∙ e) in
             record { place = p .place; live = p .live; is = p .is };
         apart = numbers-apart sv l (good h);
+        change = call-change sv l (good h);
       }
 
   -- "each storage block is free or belongs to one file"
