@@ -12,7 +12,8 @@ use Rattle.steps.specs.Parts.{sentBy}
 use Rattle.steps.specs.Downloads.{forUplink, requestOrUplink, ownOrOther, requestsAndUplink, sentTo, endTo, dataTo, Downloading, numberAsked}
 use Rattle.worked.proofs.Passes.{pair, pair-legal, output, download, both, handed, meanwhile}
 use Rattle.worked.proofs.Machine.{at-work}
-use Rattle.demands.specs.Downloads.{modelAt, Handed}
+use Rattle.demands.specs.Downloads.{Handed}
+use Rattle.demands.specs.Demand3.{modelAt}
 use Rattle.demands.specs.Demands.{Demands}
 use Rattle.demands.proofs.Example.{downloaded}
 
@@ -46,4 +47,4 @@ module _ (d : Demands) where
   pub asked-for : Handed pair both 2 9 (download 0 0) output (drop 2 (download 0 0)) meanwhile
   unfolding at-work
   asked-for =
-      d .asked-and-sent pair pair-legal both 2 9 11 (download 0 0) output (drop 2 (download 0 0)) refl refl refl meanwhile only-meanwhile other-ends
+      d .asked-and-sent pair pair-legal both 2 9 11 (download 0 0) output (drop 2 (download 0 0)) (downloaded .asked) refl refl meanwhile only-meanwhile other-ends

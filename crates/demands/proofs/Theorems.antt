@@ -1,37 +1,44 @@
--- DEMAND 3, as theorems: the statements of specs/Demand3.antt, for every legal start and every history.
-use mathlib.Core.Path.{_≡_, sym, ap, _∙_}
+-- DEMAND 3, as theorems: the statements of specs/Demand3.antt, for every legal start and every history. Assumes nothing.
+use mathlib.Core.Path.{_≡_, refl, sym, ap, ap₂, _∙_, subst}
 use mathlib.Core.Bool.{true}
 use mathlib.Core.List.{List, [], _∷_}
+use mathlib.Core.Option.{Option}
 use mathlib.Core.Logic.{_⊎_, inl, inr, ⊎-elim}
-use Prim.Native.Nat.{ℕ, zero, suc, _+_, _<_}
+use Prim.Native.Nat.{ℕ, zero, suc, _+_, _≤_, _<_}
 use native.Mathlib.Omega.{arith}
 use native.Mathlib.Numerals.{add-one}
 use borrow.Author.Tests.{eq-eqb}
-use lib.ListN.{length, getD}
+use lib.ListN.{length, getD, List·getD-map}
 use lib.Seq.{length-take-le}
-use Rattle.blocks.specs.Owners.{blocks, heldCount}
-use Rattle.blocks.proofs.Bits.{by-eq}
-use Rattle.blocks.proofs.Owners.{held-sum}
+use Rattle.blocks.specs.Owners.{blocks}
 use Rattle.blocks.proofs.Agreement.{free-and-held, free-or-one}
+use Rattle.session.specs.Reply.{Told}
+use Rattle.table.specs.declared.File as table
+use Rattle.table.specs.Given.{blocksFor}
+use Rattle.table.specs.Table.{noFile, files, numbers}
 use Rattle.files.specs.Sound.{places}
 use Rattle.files.proofs.Soundness.{file-blocks, free-blocks}
 use Rattle.server.specs.declared.Server.{Server}
 use Rattle.server.specs.State.{Lent, mapPart, ownerPart, tablePart}
-use Rattle.history.specs.Calls.{Call, Start, legal, History, _▸_}
+use Rattle.history.specs.Calls.{Call, Start, legal, History, start, _▸_, after}
 use Rattle.history.specs.Good.{Good}
 use Rattle.history.specs.Stored.{filesOf}
 use Rattle.history.proofs.GoodFacts.{Facts, good-facts}
-use Rattle.history.proofs.Histories.{good-after, sizes-after}
-use Rattle.demands.specs.Events.{sessionOf}
-use Rattle.demands.specs.Accepted.{eventAt, uploadOf, reserved, total, numbersGiven, fromOne}
-use Rattle.demands.specs.Demand3.{serverAt, lentAt, filesAt, Live, Free, Owned, EachBlock}
-use Rattle.demands.specs.Demand3.{BlocksHeld, NumbersOnce, Contents, OwnFile, Told, TimesRise}
-use Rattle.demands.proofs.Orderly.{good-orderly}
-use Rattle.demands.proofs.Lists.{from-one-length, from-one-rising, sum-same}
-use Rattle.demands.proofs.Owning.{event-own, others-stay}
-use Rattle.demands.proofs.Reserved.{weight, weights, live-weight, no-weight}
-use Rattle.demands.proofs.Story.{Story, story, step}
-use Rattle.demands.proofs.Naming.{made-server}
+use Rattle.history.proofs.Histories.{good-after}
+use Rattle.history.proofs.Kept.{call-change}
+use Rattle.model.specs.State.{File, Model, empty}
+use Rattle.model.specs.Files as model
+use Rattle.model.specs.Files.{find, free}
+use Rattle.model.specs.Step.{step, run}
+use Rattle.accepted.specs.Exchange.{Exchange, exchange, Transcript, _▹_, exchanged, transcript}
+use Rattle.accepted.specs.Accepted.{blocksOf, reserved}
+use Rattle.accepted.specs.Agreement.{sizeOf, Agrees}
+use Rattle.accepted.proofs.Theorems.{blocks-after, every-transcript}
+use Rattle.views.specs.View.{view}
+use Rattle.views.proofs.Views.{found-at, placed-at}
+use Rattle.views.proofs.Counting.{reserved-is, free-is}
+use Rattle.refines.proofs.Refining.{every-call, every-history}
+use Rattle.demands.specs.Demand3.{serverAt, lentAt, filesAt, modelAt, exchangedAt, transcriptAt, Live, ByPlace, Free, Owned, EachBlock, BlocksHeld, Demand3}
 
 -- ---- of one good state
 
@@ -49,19 +56,12 @@ module _ (sv : Server) (l : Lent) (g : Good sv l) where
   owners : length (ownerPart sv l) ≡ sv .blocks
   owners = length-take-le (sv .blocks) (l .owner) (facts .room .owner)
 
-  -- the blocks of a place are those of its file's length
-  place-weight : (q : ℕ) → blocks (q + 1) (ownerPart sv l) ≡ weight (filesOf sv l q)
-  place-weight q =
-      by-eq (filesOf sv l q .file .number) 0
-      (λ z. free-blocks (mapPart sv l) (ownerPart sv l) (tablePart sv l) (sv .last .number) (sv .last .time) (facts .store) q z
-      ∙ sym (no-weight (filesOf sv l q) z))
-      (λ z. file-blocks (mapPart sv l) (ownerPart sv l) (tablePart sv l) (sv .last .number) (sv .last .time) (facts .store) q z
-      ∙ sym (live-weight (filesOf sv l q) z))
+  number-at : (q : ℕ) → getD (numbers (files (tablePart sv l))) q 0 ≡ filesOf sv l q .file .number
+  number-at q = List·getD-map (λ (f : table.File). f .number) (files (tablePart sv l)) q noFile
 
-  held-weights : heldCount (ownerPart sv l) ≡ weights (filesOf sv l)
-  held-weights =
-      held-sum 256 (ownerPart sv l) (λ b. omega (arith, facts .store .blocks .places b, facts .store .most))
-      ∙ sum-same 256 (λ q. weight (filesOf sv l q)) (λ q. blocks (suc q) (ownerPart sv l)) (λ q. rw (← add-one q) (place-weight q))
+  -- no two places have a file of one number
+  numbers-apart : (p q : ℕ) → Live (filesOf sv l p) → filesOf sv l p .file .number ≡ filesOf sv l q .file .number → p ≡ q
+  numbers-apart p q live e = facts .store .files .numbers p q (λ z. live (sym (number-at p) ∙ z)) (number-at p ∙ e ∙ sym (number-at q))
 
   -- an owner of a block is the place of a file
   owner-live : (b place : ℕ) → b < length (ownerPart sv l) → getD (ownerPart sv l) b 0 ≡ suc place → Live (filesOf sv l place)
@@ -81,56 +81,68 @@ module _ (sv : Server) (l : Lent) (g : Good sv l) where
 -- ---- after any history
 
 module _ (s : Start) (ok : legal s ≡ true) where
-  abbrev told : (h : History) → Story s h
-  told h = story s ok h
+  abbrev m₀ : Model
+  m₀ = empty (s .blocks) (s .files) (s .sessions) (s .most)
+
+  good : (h : History) → Good (serverAt s h) (lentAt s h)
+  good h = good-after s ok h
+
+  stands-for : (h : History) → view (serverAt s h) (lentAt s h) ≡ modelAt s h
+  stands-for h = every-history s ok h
+
+  -- what the server answers is what the machine answers
+  pub answers : (h : History) (c : Call) → exchangedAt s h c ≡ exchanged (modelAt s h) c
+  answers h c =
+      ap (λ (t : Told). exchange c t)
+      (every-call (serverAt s h) (lentAt s h) (good h) c .told ∙ ap (λ (m : Model). step m c .told) (stands-for h))
+
+  transcript-is : (h : History) → transcriptAt s h ≡ transcript m₀ h
+  unfolding transcriptAt transcript
+  transcript-is start = refl
+  transcript-is (h ▸ c) = ap₂ (λ (t : Transcript) (x : Exchange). t ▹ x) (transcript-is h) (answers h c)
 
   blocks-made : (h : History) → serverAt s h .blocks ≡ s .blocks
-  blocks-made h = sizes-after s ok h .blocks ∙ ap (λ (sv : Server). sv .blocks) (made-server s ok)
+  blocks-made h = ap (λ (m : Model). m .blocks) (stands-for h) ∙ blocks-after m₀ h
 
-  count-given : (h : History) → length (numbersGiven s h) ≡ serverAt s h .last .number
-  count-given h = ap length (told h .numbers) ∙ from-one-length (serverAt s h .last .number)
+  -- by number
+  pub agrees : (h : History) → Agrees (modelAt s h) (transcriptAt s h)
+  agrees h =
+      subst (Agrees (modelAt s h)) (sym (transcript-is h))
+      (every-transcript (s .blocks) (s .files) (s .sessions) (s .most) (omega (arith, facts (serverAt s h) (lentAt s h) (good h) .sizes .blocks, blocks-made h)) h)
+
+  -- by place
+  pub by-place : (h : History) → ByPlace s h
+  unfolding after
+  by-place h =
+      let sv = serverAt s h in
+      let l = lentAt s h in
+      record {
+        found = λ place live.
+            ap (λ (m : Model). find (filesAt s h place .file .number) (m .files)) (sym (stands-for h)) ∙ found-at sv l (good h) place live;
+        placed = λ n f e.
+            let p = placed-at sv l (good h) n f (ap (λ (m : Model). find n (m .files)) (stands-for h) ∙ e) in
+            record { place = p .place; live = p .live; is = p .is };
+        apart = numbers-apart sv l (good h);
+        change = call-change sv l (good h);
+      }
 
   -- "each storage block is free or belongs to one file"
   pub each-block : (h : History) → EachBlock s h
-  each-block h b k = block-owner (serverAt s h) (lentAt s h) (good-after s ok h) b (omega (arith, blocks-made h))
+  each-block h b k = block-owner (serverAt s h) (lentAt s h) (good h) b (omega (arith, blocks-made h))
 
   -- "blocks held equal the sum over live files of their reserved blocks by history"
   pub blocks-held : (h : History) → BlocksHeld s h
+  unfolding blocksOf
   blocks-held h =
       let sv = serverAt s h in
       let l = lentAt s h in
-      let g = good-after s ok h in
+      let store = facts sv l (good h) .store in
       record {
-        held = held-weights sv l g ∙ sym (told h .reserves .sum) ∙ ap (λ (n : ℕ). total n (reserved s h)) (sym (count-given h));
-        each = λ place live. place-weight sv l g place ∙ live-weight (filesAt s h place) live ∙ sym (told h .reserves .each place live);
-        all = free-and-held (mapPart sv l) (ownerPart sv l) (places (tablePart sv l)) (facts sv l g .store .blocks) ∙ owners sv l g ∙ blocks-made h;
+        held = sym (reserved-is sv l (good h)) ∙ ap (λ (m : Model). model.reserved (m .files)) (stands-for h) ∙ agrees h .blocks;
+        each = λ place live.
+            file-blocks (mapPart sv l) (ownerPart sv l) (tablePart sv l) (sv .last .number) (sv .last .time) store place live
+            ∙ sym (ap (λ (o : Option File). blocksOf (sizeOf o)) (by-place h .found place live))
+            ∙ ap blocksOf (agrees h .standing (filesAt s h place .file .number));
+        all = free-and-held (mapPart sv l) (ownerPart sv l) (places (tablePart sv l)) (store .blocks) ∙ owners sv l (good h) ∙ blocks-made h;
+        free-is = sym (free-is sv l (good h)) ∙ ap free (stands-for h);
       }
-
-  -- "no file number is given twice"
-  pub numbers-once : (h : History) → NumbersOnce s h
-  numbers-once h =
-      let o = good-orderly (serverAt s h) (lentAt s h) (good-after s ok h) in
-      record {
-        rising = rw (told h .numbers) (from-one-rising (serverAt s h .last .number) .0);
-        counted = told h .numbers ∙ ap fromOne (sym (count-given h));
-        known = λ place. omega (arith, o .known place, count-given h);
-        apart = o .apart;
-      }
-
-  -- "a complete file is the bytes accepted under its number, in order, with only the four server-set fields replaced"
-  pub contents : (h : History) → Contents s h
-  contents h = told h .contents
-
-  -- "a call changes no file but its own"
-  pub as-told : (h : History) (c : Call) → Told s h c
-  as-told h c = step s ok h c
-
-  pub own-file : (h : History) (c : Call) → OwnFile s h c
-  own-file h c =
-      others-stay (filesAt s h) (filesAt s (h ▸ c)) (serverAt s h .last) (serverAt s (h ▸ c) .last)
-      (uploadOf s h (sessionOf c)) (eventAt s h c)
-      (as-told h c) (event-own (uploadOf s h (sessionOf c)) (serverAt s h) (lentAt s h) c)
-
-  -- "Upload times rise strictly in order of completion"
-  pub times-rise : (h : History) → TimesRise s h
-  times-rise h = record { rising = told h .timed .rising; own = told h .own; kept = told h .kept }

@@ -10,19 +10,17 @@ use Rattle.header.specs.Fields.{fieldsSet}
 use Rattle.session.specs.declared.reply.Answer.the-variants as answer
 use Rattle.decide.specs.Words.{wordAt}
 use Rattle.history.specs.Calls.{Call, receive, Start, legal, History}
-use Rattle.model.specs.State.{File, Model, empty, sessionAt}
+use Rattle.model.specs.State.{File, sessionAt}
 use Rattle.model.specs.Files.{find}
-use Rattle.model.specs.Step.{endsIn, step, run}
+use Rattle.model.specs.Step.{endsIn, step}
 use Rattle.steps.specs.Downloads.{requestsAndUplink, dataTo, endTo, Downloading, numberAsked}
-use Rattle.demands.specs.Accepted.{accepted}
-
--- the machine after a history; the server stands for it (`EveryHistory`)
-abbrev pub modelAt : Start → History → Model
-modelAt s h = run (empty (s .blocks) (s .files) (s .sessions) (s .most)) h
+use Rattle.accepted.specs.Link.{linkBytes}
+use Rattle.accepted.specs.Accepted.{accepted}
+use Rattle.demands.specs.Demand3.{modelAt, transcriptAt}
 
 -- the bytes accepted under a number, "in order, with only the four server-set fields replaced"
 abbrev pub acceptedSet : Start → History → ℕ → ℕ → List ℕ
-acceptedSet s h n time = fieldsSet n time (accepted s h n)
+acceptedSet s h n time = fieldsSet n time (accepted (transcriptAt s h) n)
 
 -- FROM ONE STATION TO ANOTHER: these are what a whole download of file n brings
 abbrev pub FromPupilToPupil : Type 0
@@ -40,11 +38,12 @@ pub record Handed (s : Start) (h : History) (session clock : ℕ) (input out inf
   pub sent : dataTo (step (modelAt s h) (receive session clock input out) .after) session cs
       ≡ acceptedSet s h (numberAsked (sessionAt (modelAt s h) (session - 1)) info) (file .time)
 
--- THE SAME IN WORDS OF PACKETS: a DOWNLOAD_CMD from offset 0 that is not refused, then requests until DATA_END, and uploads between
+-- THE SAME IN WORDS OF PACKETS: a DOWNLOAD_CMD from offset 0 that is not refused, the last bytes of its link being in `input`, then requests until
+-- DATA_END, and uploads between
 abbrev pub AskedAndSent : Type 0
 AskedAndSent =
     (s : Start) → legal s ≡ true → (h : History) (session clock taken : ℕ) (input out info : List ℕ)
-    → endsIn (sessionAt (modelAt s h) (session - 1) .held ++ input) ≡ some (packet 8 info)
+    → endsIn (linkBytes (transcriptAt s h) (session - 1) ++ input) ≡ some (packet 8 info)
     → wordAt info 4 ≡ 0
     → step (modelAt s h) (receive session clock input out) .told .answer ≡ answer.Quiet taken
     → (cs : List Call)

@@ -72,7 +72,7 @@ module _ (c : Here) where
   unfolding fewerDestinations
   fewer-read place n file =
       ap (λ (k : ℕ). ltb k n) (bytes.destinations-read sv l (facts sv l (c .good)) place file)
-      ∙ ap (λ (f : Option File). fewerDestinations f n) (sym (found-at sv l (c .good) (c .i) (c .inside) place file))
+      ∙ ap (λ (f : Option File). fewerDestinations f n) (sym (found-at sv l (c .good) place file))
 
   confirm-does : (place n : ℕ) → (F c place .file .number ≡ 0 → ⊥)
       → does c (act.Confirm place n)

@@ -119,7 +119,7 @@ module _ (sv : Server) (l : Lent) (g : Good sv l) (i : ℕ) (inside : i < sv .se
     due-is (down.Sending place offset sent) e =
         let c = own .sending place offset sent e in
         sending-due place offset sent c
-        ∙ ap (λ (f : Option File). dataDue f (view sv l) i (F place .file .number) (offset + sent) out) (sym (found-at sv l g i inside place (c .complete .number)))
+        ∙ ap (λ (f : Option File). dataDue f (view sv l) i (F place .file .number) (offset + sent) out) (sym (found-at sv l g place (c .complete .number)))
     due-is (down.Ended place) e = ap (stepped (told (answer.Quiet 0) out)) (view-stays sv l g i inside)
     due-is (down.Aborting place) e = told-due reply.Aborted down.Idle
 

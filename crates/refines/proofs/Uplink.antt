@@ -107,7 +107,7 @@ module _ (c : Here) where
     incomplete k = k .time (partial .time)
 
     found : find n (M c .files) ≡ some (fileOf (F c place))
-    found = found-at sv l (c .good) (c .i) (c .inside) place (partial .number)
+    found = found-at sv l (c .good) place (partial .number)
 
     -- ---- it is discarded
 

@@ -53,7 +53,7 @@ either : (m : Model) (i : ℕ) (b : Bool) (x y : Stepped) → Change m i (x .aft
 either m i true x y f g = f
 either m i false x y f g = g
 
-later : (clock last : ℕ) → last < timeAt clock last
+pub later : (clock last : ℕ) → last < timeAt clock last
 later clock last = go (ltb clock (last + 1)) refl
   where
     go : (b : Bool) → ltb clock (last + 1) ≡ b → last < cond b (last + 1) clock

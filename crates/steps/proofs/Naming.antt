@@ -32,7 +32,7 @@ use Rattle.steps.specs.Naming.{Partial, Complete, UpOk, DownOk, Named, N
 
 -- ---- one session moves
 
-clash : {P : Type 0} {f : File} → none ≡ some f → P
+pub clash : {P : Type 0} {f : File} → none ≡ some f → P
 clash e = let z : _≡_ {A = ℕ} 0 1 = cc in absurd (omega arith)
 
 pub by-eq : {P : Type 0} (a b : ℕ) → (a ≡ b → P) → ((a ≡ b → ⊥) → P) → P
@@ -107,7 +107,7 @@ find-without n k (x ∷ fs) z = go (eqb (x .number) k) refl (find-without n k fs
     go true d e = rw (ne-eqb (x .number) n (λ w. z (sym w ∙ eqb-true (x .number) k d))) e
     go false d e = ap (cond (eqb (x .number) n) (some x)) e
 
-find-snoc : (n : ℕ) (fs : List File) (g f : File) → find n fs ≡ some f → find n (fs ++ g ∷ []) ≡ some f
+pub find-snoc : (n : ℕ) (fs : List File) (g f : File) → find n fs ≡ some f → find n (fs ++ g ∷ []) ≡ some f
 unfolding find
 find-snoc n [] g f e = clash e
 find-snoc n (x ∷ fs) g f e = go (eqb (x .number) n) e (find-snoc n fs g f)
@@ -121,7 +121,7 @@ unfolding find
 find-past n a b t [] k h = refl
 find-past n a b t (x ∷ fs) k h = rw (ne-eqb (x .number) n (λ z. let w = k .1 in omega arith)) (find-past n (x .number) b t fs (k .3) h)
 
-find-new : (fs : List File) (g : File) → find (g .number) fs ≡ none → find (g .number) (fs ++ g ∷ []) ≡ some g
+pub find-new : (fs : List File) (g : File) → find (g .number) fs ≡ none → find (g .number) (fs ++ g ∷ []) ≡ some g
 unfolding find
 find-new [] g e = rw (eq-eqb (g .number) (g .number) refl)
 find-new (x ∷ fs) g e = go (eqb (x .number) (g .number)) e (find-new fs g)
@@ -158,7 +158,7 @@ module _ (m : Model) (i : ℕ) (there : i < length (m .sessions)) (s : Named m) 
   k = sessionAt m i
 
   -- the session's own downlink and selection move, its upload does not
-  down-moves : (x : Session) → x .up ≡ sessionAt m i .up → DownOk (m .files) (x .down) → Named (withSession m i x)
+  pub down-moves : (x : Session) → x .up ≡ sessionAt m i .up → DownOk (m .files) (x .down) → Named (withSession m i x)
   down-moves x e d =
       named-after m (m .lastNumber) (m .lastTime) (m .files) i x there s (λ j n. s .up j) (λ j n. s .down j)
       (subst (UpOk (m .files)) (sym e) (s .up i)) d (λ n a j z b. z (s .alone j i n b (sym e ∙ a)))

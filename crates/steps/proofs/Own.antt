@@ -28,7 +28,7 @@ find-away n k h (x ∷ fs) u z = go (eqb (x .number) k) refl (find-away n k h fs
     go false d e = ap (cond (eqb (x .number) n) (some x)) e
 
 -- another file comes behind
-find-behind : (n : ℕ) (fs : List File) (g : File) → (g .number ≡ n → ⊥) → find n (fs ++ g ∷ []) ≡ find n fs
+pub find-behind : (n : ℕ) (fs : List File) (g : File) → (g .number ≡ n → ⊥) → find n (fs ++ g ∷ []) ≡ find n fs
 unfolding find
 find-behind n [] g z = rw (ne-eqb (g .number) n z)
 find-behind n (x ∷ fs) g z = ap (cond (eqb (x .number) n) (some x)) (find-behind n fs g z)

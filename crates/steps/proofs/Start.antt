@@ -13,7 +13,7 @@ pub sound-empty : (blocks places sessions maxsel : ℕ) → Sound (empty blocks 
 unfolding reserved
 sound-empty blocks places sessions maxsel = record { numbers = tt; room = omega arith }
 
-all-closed : (n i : ℕ) → getD (replicate n closedSession) i closedSession ≡ closedSession
+pub all-closed : (n i : ℕ) → getD (replicate n closedSession) i closedSession ≡ closedSession
 all-closed zero i = refl
 all-closed (suc n) zero = refl
 all-closed (suc n) (suc i) = all-closed n i

@@ -151,7 +151,8 @@ module _ (sv : Server) (l : Lent) (g : Good sv l) where
       ∙ sym (file-blocks (mapPart sv l) (ownerPart sv l) (tablePart sv l) (sv .last .number) (sv .last .time) (facts sv l g .store) q z)
       ∙ ap (λ (k : ℕ). blocks k (ownerPart sv l)) s)
 
-  reserved-is : reserved (view sv l .files) ≡ heldCount (ownerPart sv l)
+  -- the blocks held are those reserved
+  pub reserved-is : reserved (view sv l .files) ≡ heldCount (ownerPart sv l)
   reserved-is =
       reserved-total (sv .last .number)
       ∙ total-is fs one (λ f. blocksFor (f .size)) (sv .last .number)

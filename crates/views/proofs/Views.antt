@@ -14,7 +14,7 @@ use Rattle.session.specs.State.{closedSession}
 use Rattle.table.specs.declared.Found.{Found}
 use Rattle.table.specs.declared.Found.the-variants.{Nothing, At}
 use Rattle.table.specs.Table.{files, findOf}
-use Rattle.table.proofs.Finding.{find-number, find-absent, find-own}
+use Rattle.table.proofs.Finding.{find-found, find-number, find-absent, find-own}
 use Rattle.table.proofs.Keeping.{number-le}
 use Rattle.server.specs.declared.Server.{Server}
 use Rattle.server.specs.declared.check.Check.{Check}
@@ -50,6 +50,12 @@ module _ (sv : Server) (l : Lent) (g : Good sv l) where
   abbrev pub facts : Facts sv l
   facts = good-facts sv l g
 
+  -- a file at a place
+  pub record Placed (f : File) : Type 0 where
+    pub place : ℕ
+    pub live : filesOf sv l place .file .number ≡ 0 → ⊥
+    pub is : fileOf (filesOf sv l place) ≡ f
+
   numbered-past : (n : ℕ) → sv .last .number < n → numbered sv l n ≡ none
   numbered-past n h =
       ap (fileIn (filesOf sv l))
@@ -59,6 +65,26 @@ module _ (sv : Server) (l : Lent) (g : Good sv l) where
   -- a file is found in the view as it is in the table
   pub find-view : (n : ℕ) → find n (view sv l .files) ≡ numbered sv l n
   find-view n = find-any (numbered sv l) (numbered-own sv l) (sv .last .number) n refl numbered-past
+
+  -- a file that stands at a place is found under its number
+  pub found-at : (place : ℕ) → (filesOf sv l place .file .number ≡ 0 → ⊥)
+      → find (filesOf sv l place .file .number) (view sv l .files) ≡ some (fileOf (filesOf sv l place))
+  found-at place n =
+      find-view (filesOf sv l place .file .number)
+      ∙ ap (fileIn (filesOf sv l)) (find-own (files (tablePart sv l)) (facts .store .files .numbers) place n)
+
+  -- and one that is found stands at a place
+  pub placed-at : (n : ℕ) (f : File) → find n (view sv l .files) ≡ some f → Placed f
+  placed-at n f e = go (findOf (files (tablePart sv l)) n) refl (sym (find-view n) ∙ e)
+    where
+      go : (r : Found) → findOf (files (tablePart sv l)) n ≡ r → fileIn (filesOf sv l) r ≡ some f → Placed f
+      go Nothing q h = absurd (clash h)
+      go (At p) q h =
+          record {
+            place = p;
+            live = λ z. find-found (files (tablePart sv l)) n p q .0 (sym (find-number (files (tablePart sv l)) n p q) ∙ z);
+            is = cc;
+          }
 
   -- ---- sessions
 
@@ -211,10 +237,3 @@ module _ (sv : Server) (l : Lent) (g : Good sv l) (i : ℕ) (inside : i < sv .se
   view-stays =
       link-moved (linkOf sv i) (l .selected) (l .held) (λ j n. refl) (λ j n. refl)
       ∙ ap (model.withSession (view sv l) i) (sym (link-view sv l g i inside)) ∙ link-stays
-
-  -- a file that stands at a place is found under its number
-  pub found-at : (place : ℕ) → (filesOf sv l place .file .number ≡ 0 → ⊥)
-      → find (filesOf sv l place .file .number) (view sv l .files) ≡ some (fileOf (filesOf sv l place))
-  found-at place n =
-      find-view sv l g (filesOf sv l place .file .number)
-      ∙ ap (fileIn (filesOf sv l)) (find-own (files (tablePart sv l)) (facts sv l g .store .files .numbers) place n)

@@ -15,7 +15,7 @@ use Rattle.cases.specs.Computing.{computing}
 use Rattle.views.specs.View.{view}
 use Rattle.promises.specs.Demand2.{Demand2}
 use Rattle.worked.proofs.Passes.{small, small-legal, output, rx, upload, dataEnd, shortUpload, largeUpload, nextFile, titleAboveM, size80}
-use Rattle.worked.proofs.Passes.{otherLength, ack, nak, directory, data41, type18, download, opened, halfway, beforeUpload, lostOnce, picked, downloading}
+use Rattle.worked.proofs.Passes.{otherLength, ack, nak, directory, data41, type18, download, opened, halfway, torn, beforeUpload, lostOnce, picked, downloading}
 use Rattle.worked.proofs.Passes.{downloading40, complete80, sentAll, continued, rest, pair, uploads, both, handed, crowded, serverAfter, lentAfter}
 use Rattle.worked.proofs.Passes.{machine}
 
@@ -39,7 +39,7 @@ GetsClosed h clock bytes = answersTo h clock bytes ≡ told (answer.Closed (leng
 -- whoever unfolds this unfolds all that the machine computes with in these cases
 unfoldable pub at-work : ℕ
 unfolding
-    computing run small smallest opened halfway beforeUpload continued lostOnce picked downloading downloading40 complete80 sentAll pair uploads both
+    computing run small smallest opened halfway torn beforeUpload continued lostOnce picked downloading downloading40 complete80 sentAll pair uploads both
     handed crowded
 at-work = 0
 

@@ -13,6 +13,8 @@ use Rattle.server.specs.State.{Lent, lent}
 use Rattle.model.specs.State.{file, Uplink, noUpload, receiving, ignoring, Downlink, sending, ended, aborting, Session, Model, empty}
 use Rattle.model.specs.Step.{run}
 use Rattle.history.specs.Calls.{Call, login, receive, request, lose, callOf, Start, legal, History, start, _▸_, after}
+pub use Rattle.accepted.proofs.Passes.{output, of, rx, on, upload, dataEnd, rest}
+unfoldable pub use Rattle.accepted.proofs.Passes.{opened, halfway, torn, beforeUpload, continued, lostOnce, tooEarly, uploads, both}
 use Rattle.packet.specs.Frame as packet-frame
 use Rattle.packet.specs.Machine as packet-machine
 use Rattle.numbers.specs.Numbers as byte-numbers
@@ -71,24 +73,6 @@ small =
       lent = lent (replicate 256 0) (0 ∷ []) (0 ∷ []) (0 ∷ 0 ∷ 0 ∷ 0 ∷ []) (0 ∷ []) (replicate 258 0);
     }
 
--- the output that the driver lends
-abbrev pub output : List ℕ
-output = replicate 258 0
-
--- bytes of the one link at a clock reading
-abbrev pub rx : ℕ → List ℕ → Call
-rx clock bytes = receive 1 clock bytes output
-
-abbrev pub on : ℕ → Call
-on clock = login 1 clock output
-
--- UPLOAD_CMD for a file of 80 bytes, new (0) or continued
-abbrev pub upload : ℕ → List ℕ
-upload number = 8 ∷ 3 ∷ number ∷ 0 ∷ 0 ∷ 0 ∷ 80 ∷ 0 ∷ 0 ∷ 0 ∷ []
-
-abbrev pub dataEnd : List ℕ
-dataEnd = 0 ∷ 1 ∷ []
-
 -- UPLOAD_CMD (3) with one byte of information, where 8 are wanted
 abbrev pub shortUpload : List ℕ
 shortUpload = 1 ∷ 3 ∷ 0 ∷ []
@@ -141,28 +125,6 @@ length257 = 1 ∷ 32 ∷ []
 abbrev pub download : ℕ → ℕ → List ℕ
 download offset lock = 9 ∷ 8 ∷ 1 ∷ 0 ∷ 0 ∷ 0 ∷ offset ∷ 0 ∷ 0 ∷ 0 ∷ lock ∷ []
 
--- the link is made
-unfoldable pub opened : History
-opened = start ▸ on 5
-
--- 40 bytes of a file of 80 are received
-unfoldable pub halfway : History
-halfway = opened ▸ rx 6 (upload 0) ▸ rx 7 (40 ∷ 0 ∷ take 40 smallest)
-
--- the link is lost in the middle of the second DATA packet, and made again
-unfoldable pub beforeUpload : History
-beforeUpload = halfway ▸ rx 8 (40 ∷ 0 ∷ take 9 (drop 40 smallest)) ▸ lose 1 ▸ on 9
-
--- the file is continued and completed, and the clock runs backwards
-unfoldable pub continued : History
-continued = beforeUpload ▸ rx 10 (upload 1)
-
-abbrev pub rest : Call
-rest = rx 11 (40 ∷ 0 ∷ drop 40 smallest)
-
-unfoldable pub lostOnce : History
-lostOnce = continued ▸ rest ▸ rx 4 dataEnd
-
 -- the complete file is selected
 unfoldable pub picked : History
 picked = lostOnce ▸ rx 12 size80
@@ -189,10 +151,6 @@ complete80 =
     4 ∷ 80 ∷ 0 ∷ 0 ∷ 0 ∷ 5 ∷ 0 ∷ 4 ∷ 0 ∷ 0 ∷ 0 ∷ 0 ∷ 6 ∷ 0 ∷ 4 ∷ 4 ∷ 0 ∷ 0 ∷ 0 ∷ 7 ∷ 0 ∷ 1 ∷ 0 ∷ 8 ∷ 0 ∷ 1 ∷ 0 ∷ 9 ∷
     0 ∷ 2 ∷ 0 ∷ 0 ∷ 10 ∷ 0 ∷ 2 ∷ 35 ∷ 2 ∷ 11 ∷ 0 ∷ 2 ∷ 80 ∷ 0 ∷ 18 ∷ 0 ∷ 4 ∷ 4 ∷ 0 ∷ 0 ∷ 0 ∷ 0 ∷ 0 ∷ 0 ∷ []
 
--- DATA_END comes too early, so the file is discarded; the next one gets the next number, and the same block
-unfoldable pub tooEarly : History
-tooEarly = halfway ▸ rx 8 dataEnd ▸ rx 9 (upload 0)
-
 pub small-legal : legal small ≡ true
 unfolding small server-check.sizesFit server-check.roomFits
 small-legal = refl
@@ -209,19 +167,6 @@ pair =
       most = 1;
       lent = lent (replicate 512 0) (0 ∷ []) (0 ∷ 0 ∷ []) (replicate 8 0) (0 ∷ 0 ∷ []) (replicate 516 0);
     }
-
--- bytes of the link of session i
-abbrev pub of : ℕ → ℕ → List ℕ → Call
-of i clock bytes = receive i clock bytes output
-
--- both sessions upload the file, DATA of the first before that of the second
-unfoldable pub uploads : History
-uploads =
-    start ▸ login 1 5 output ▸ login 2 5 output ▸ of 1 6 (upload 0) ▸ of 2 6 (upload 0) ▸ of 1 6 (80 ∷ 0 ∷ smallest) ▸ of 2 6 (80 ∷ 0 ∷ smallest)
-
--- both files are completed in the same second, 7
-unfoldable pub both : History
-both = uploads ▸ of 1 7 dataEnd ▸ of 2 7 dataEnd
 
 -- the second link downloads the file that the first one uploaded
 unfoldable pub handed : History
@@ -308,7 +253,7 @@ crowdedModel =
 
 unfoldable pub computing : ℕ
 unfolding
-    small opened halfway beforeUpload continued lostOnce tooEarly pair uploads both smallest ones trailingZeros links-sound.downlinkSound
+    small opened halfway torn beforeUpload continued lostOnce tooEarly pair uploads both smallest ones trailingZeros links-sound.downlinkSound
     packet-frame.judged packet-frame.byte packet-frame.withoutPacket packet-frame.answerBy packet-frame.answerOf packet-frame.receiveOf
     packet-machine.called packet-machine.call byte-numbers.number packet-packet.packetOf session-expected.expectedUp session-expected.expected
     session-reply.tell session-reply.answered table-table.files table-table.putTable table-table.firstFrom table-fit.fileFits table-fit.recordFits

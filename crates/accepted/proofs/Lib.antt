@@ -1,0 +1,12 @@
+pub mod Hearing
+pub mod Replies
+pub mod Files
+pub mod Packets
+pub mod Calls
+pub mod Lists
+pub mod Steps
+pub mod Story
+pub mod Bytes
+pub mod Theorems
+pub mod Passes
+pub mod AtWork

@@ -1,0 +1,415 @@
+-- Each packet does to the files what its reply says, and leaves the session with the number that the reply names. Assumes nothing.
+use mathlib.Core.Path.{_≡_, refl, sym, ap, _∙_, subst}
+use mathlib.Core.Bool.{Bool, true, false, cond}
+use mathlib.Core.Logic.{_⊎_, inl, inr}
+use mathlib.Core.List.{List, [], _∷_, _++_}
+use mathlib.Core.Option.{Option, none, some}
+use Prim.Native.Nat.{ℕ, _+_, _≤_, _<_}
+use native.Mathlib.Omega.{arith}
+use borrow.Author.Tests.{eqb-true, eqb-false, leb-true, ltb-true, ltb-false, eq-eqb, ne-eqb}
+use lib.Dec.{eqb, leb, ltb}
+use lib.ListN.{length, getD, set}
+use lib.Seq.{getD-set-same}
+use Rattle.packet.specs.Frame.{packet}
+use Rattle.header.specs.Header.{verdict}
+use Rattle.equation.specs.Answer.{validityOf}
+use Rattle.table.specs.Given.{blocksFor, mostGiven}
+use Rattle.session.specs.declared.reply.Reply.{Reply}
+use Rattle.session.specs.declared.reply.Reply.the-variants as reply
+use Rattle.decide.specs.Words.{wordAt}
+use Rattle.model.specs.State.{File, file, Uplink, noUpload, receiving, ignoring, Downlink, noDownload, sending, ended, aborting, Session}
+use Rattle.model.specs.State.{closedSession, withUp, withDown, withNext, withSelection, Model, model, sessionAt, withSession, Turn, turn, closing}
+use Rattle.model.specs.Files.{find, changed, without, free, uploading, selection}
+use Rattle.model.specs.Uplink.{uploadNew, uploadContinued, onUploadCmd, discarded, grown, dataTo, onData, timeAt, completed, dataEndTo, onDataEnd}
+use Rattle.model.specs.Downlink.{destinationsIn, downloadOf, downloadNumbered, onDownloadCmd, onDirCmd, fewerDestinations, onDlAckCmd, onDlNakCmd, onSelectCmd}
+use Rattle.model.specs.Step.{ifNoUpload, ifNoDownload, byType, onPacket}
+use Rattle.steps.specs.Sound.{Sound}
+use Rattle.steps.specs.Naming.{Partial, UpOk, Named}
+use Rattle.steps.proofs.Naming.{clash, find-past, find-new}
+use Rattle.accepted.specs.Events.{Event, nothing, given, added, finished, dropped, onQuiet, onGo}
+use Rattle.accepted.specs.Effect.{filesBy, numberBy, timeBy, Effect}
+use Rattle.accepted.specs.Agreement.{numberOf}
+use Rattle.accepted.proofs.Files.{number-some}
+use Rattle.accepted.proofs.Replies.{onReply, namedOn}
+
+-- UL_GO_RESP names a partial file, with the length of its bytes as offset; `info` is that of the UPLOAD_CMD
+pub record Going (k offset : ℕ) (info : List ℕ) (m′ : Model) : Type 0 where
+  pub small : k < 4294967296
+  pub own : Partial k (m′ .files)
+  pub offset-is : offset ≡ length (own .file .bytes)
+  pub number : (wordAt info 0 ≡ 0 → ⊥) → k ≡ wordAt info 0
+
+abbrev pub Goes : Reply → List ℕ → Model → Type 0
+Goes reply.Nothing info m′ = Unit {0}
+Goes reply.Closing info m′ = Unit {0}
+Goes reply.DataEnd info m′ = Unit {0}
+Goes (reply.Login c) info m′ = Unit {0}
+Goes (reply.Go k offset) info m′ = Going k offset info m′
+Goes (reply.UploadError e) info m′ = Unit {0}
+Goes reply.Ack info m′ = Unit {0}
+Goes (reply.Nak e) info m′ = Unit {0}
+Goes (reply.DownloadError e) info m′ = Unit {0}
+Goes reply.Aborted info m′ = Unit {0}
+Goes reply.Completed info m′ = Unit {0}
+Goes (reply.Selected c) info m′ = Unit {0}
+
+-- what a turn of session i does in the state m
+pub record Tells (m : Model) (i clock kind : ℕ) (info : List ℕ) (t : Turn) : Type 0 where
+  pub effect : Effect (onReply (t .reply) (numberOf (sessionAt m i .up)) (some (packet kind info)) clock) m (t .after)
+  pub names : numberOf (sessionAt (t .after) i .up) ≡ namedOn (t .reply) (numberOf (sessionAt m i .up))
+  pub held : sessionAt (t .after) i .held ≡ []
+  pub goes : Goes (t .reply) info (t .after)
+
+module _ (m : Model) (i : ℕ) (there : i < length (m .sessions)) (clear : sessionAt m i .held ≡ []) (s : Named m) (sound : Sound m)
+    (bound : m .lastNumber ≤ mostGiven) (clock : ℕ) (info : List ℕ) where
+  abbrev was : ℕ
+  was = numberOf (sessionAt m i .up)
+
+  abbrev Ok : ℕ → Turn → Type 0
+  Ok kind t = Tells m i clock kind info t
+
+  by : (kind : ℕ) (b : Bool) (x y : Turn) → (b ≡ true → Ok kind x) → (b ≡ false → Ok kind y) → Ok kind (cond b x y)
+  by kind true x y f g = f refl
+  by kind false x y f g = g refl
+
+  -- session i is another one
+  left : (x : Session) → getD (set (m .sessions) i x) i closedSession ≡ x
+  left x = getD-set-same (m .sessions) i x closedSession there
+
+  up-left : (x : Session) → numberOf (getD (set (m .sessions) i x) i closedSession .up) ≡ numberOf (x .up)
+  up-left x = ap (λ (k : Session). numberOf (k .up)) (left x)
+
+  held-left : (x : Session) → getD (set (m .sessions) i x) i closedSession .held ≡ x .held
+  held-left x = ap (λ (k : Session). k .held) (left x)
+
+  -- ---- turns that change no file
+
+  no-effect : (e : Event) (m′ : Model) → e ≡ nothing → m′ .files ≡ m .files → m′ .lastNumber ≡ m .lastNumber → m′ .lastTime ≡ m .lastTime → Effect e m m′
+  unfolding filesBy numberBy timeBy
+  no-effect e m′ z f n t = subst (λ (v : Event). Effect v m m′) (sym z) (record { before = tt; files = f; number = n; time = t })
+
+  -- a reply that says nothing of files
+  record Plain (kind : ℕ) (r : Reply) : Type 0 where
+    event : onReply r was (some (packet kind info)) clock ≡ nothing
+    named : namedOn r was ≡ was
+    goes : (m′ : Model) → Goes r info m′
+
+  stays : (kind : ℕ) (r : Reply) → Plain kind r → Ok kind (turn r m)
+  stays kind r p =
+      record { effect = no-effect _ m (p .event) refl refl refl; names = sym (p .named); held = clear; goes = p .goes m }
+
+  moves : (kind : ℕ) (r : Reply) (x : Session) → Plain kind r → x .up ≡ sessionAt m i .up → x .held ≡ sessionAt m i .held → Ok kind (turn r (withSession m i x))
+  moves kind r x p u h =
+      record {
+        effect = no-effect _ (withSession m i x) (p .event) refl refl refl;
+        names = up-left x ∙ ap numberOf u ∙ sym (p .named);
+        held = held-left x ∙ h ∙ clear;
+        goes = p .goes (withSession m i x);
+      }
+
+  closes : (kind : ℕ) → Ok kind (closing m i)
+  closes kind =
+      record {
+        effect = no-effect nothing (withSession m i closedSession) refl refl refl refl;
+        names = up-left closedSession;
+        held = held-left closedSession;
+        goes = tt;
+      }
+
+  -- ---- UPLOAD_CMD
+
+  error : (e : ℕ) → Ok 3 (turn (reply.UploadError e) m)
+  error e = stays 3 (reply.UploadError e) (record { event = refl; named = refl; goes = λ m′. tt })
+
+  -- a new file
+  abbrev next : ℕ
+  next = m .lastNumber + 1
+
+  abbrev fresh : File
+  fresh = file next (wordAt info 4) [] 0
+
+  abbrev begun : Model
+  begun = model m next (m .lastTime) (m .files ++ fresh ∷ []) (set (m .sessions) i (withUp (receiving next) (sessionAt m i)))
+
+  begins : wordAt info 0 ≡ 0 → (m .lastNumber ≡ mostGiven → ⊥) → length (m .files) < m .places → blocksFor (wordAt info 4) ≤ free m
+      → Ok 3 (turn (reply.Go next 0) begun)
+  unfolding onGo filesBy numberBy timeBy
+  begins z p q r =
+      record {
+        effect = subst (λ (e : Event). Effect e m begun) (sym (ap (λ (b : Bool). cond b (given next (wordAt info 4)) nothing) (eq-eqb (wordAt info 0) 0 z)))
+            (record { before = record { next = refl; few = omega (arith, bound, p); place = q; room = r }; files = refl; number = refl; time = refl });
+        names = up-left (withUp (receiving next) (sessionAt m i));
+        held = held-left (withUp (receiving next) (sessionAt m i)) ∙ clear;
+        goes = record {
+          small = omega (arith, bound, p);
+          own = record {
+            file = fresh;
+            found = find-new (m .files) fresh (find-past next 0 (m .lastNumber) (m .lastTime) (m .files) (sound .numbers) (omega arith));
+            time = refl;
+          };
+          offset-is = refl;
+          number = λ y. absurd (y z);
+        };
+      }
+
+  new-tells : wordAt info 0 ≡ 0 → Ok 3 (uploadNew m i (wordAt info 4))
+  unfolding uploadNew
+  new-tells z =
+      by 3 (eqb (m .lastNumber) mostGiven) _ _ (λ _. error 3)
+      (λ p.
+      by 3 (ltb (length (m .files)) (m .places)) _ _
+      (λ q.
+      by 3 (leb (blocksFor (wordAt info 4)) (free m)) _ _
+      (λ r. begins z (eqb-false (m .lastNumber) mostGiven p) (ltb-true (length (m .files)) (m .places) q) (leb-true (blocksFor (wordAt info 4)) (free m) r))
+      (λ _. error 13))
+      (λ _. error 13))
+
+  taken-up : (n : ℕ) (f : File) → (wordAt info 0 ≡ 0 → ⊥) → n ≡ wordAt info 0 → find n (m .files) ≡ some f → f .time ≡ 0
+      → Ok 3 (turn (reply.Go n (length (f .bytes))) (withSession m i (withUp (receiving n) (sessionAt m i))))
+  unfolding onGo
+  taken-up n f z e found t =
+      record {
+        effect = no-effect _ (withSession m i (withUp (receiving n) (sessionAt m i))) (rw (ne-eqb (wordAt info 0) 0 z)) refl refl refl;
+        names = up-left (withUp (receiving n) (sessionAt m i));
+        held = held-left (withUp (receiving n) (sessionAt m i)) ∙ clear;
+        goes = record {
+          small = omega (arith, bound, number-some n 0 (m .lastNumber) (m .lastTime) (m .files) f (sound .numbers) found .most);
+          own = record { file = f; found = found; time = t };
+          offset-is = refl;
+          number = λ y. e;
+        };
+      }
+
+  upload-tells : Ok 3 (onUploadCmd m i info)
+  unfolding onUploadCmd uploadContinued
+  upload-tells =
+      by 3 (eqb (length info) 8) _ _
+      (λ _.
+      by 3 (eqb (wordAt info 0) 0) _ _ (λ z. new-tells (eqb-true (wordAt info 0) 0 z))
+      (λ z. go (eqb-false (wordAt info 0) 0 z) (find (wordAt info 0) (m .files)) refl))
+      (λ _. error 1)
+    where
+      go : (wordAt info 0 ≡ 0 → ⊥) → (f : Option File) → find (wordAt info 0) (m .files) ≡ f
+          → Ok 3 (uploadContinued f m i (wordAt info 0) (wordAt info 4))
+      go z none e = error 4
+      go z (some f) e =
+          by 3 (eqb (f .time) 0) _ _
+          (λ t.
+          by 3 (eqb (f .size) (wordAt info 4)) _ _
+          (λ _.
+          by 3 (uploading (m .sessions) (wordAt info 0)) _ _ (λ _. error 2)
+          (λ _. taken-up (wordAt info 0) f z refl e (eqb-true (f .time) 0 t)))
+          (λ _. error 2))
+          (λ _. error 12)
+
+  -- ---- DATA and DATA_END: the session uploads file n, which is there
+
+  module _ (n : ℕ) (up : sessionAt m i .up ≡ receiving n) where
+    abbrev own : Partial n (m .files)
+    own = subst (UpOk (m .files)) up (s .up i)
+
+    was-is : was ≡ n
+    was-is = ap numberOf up
+
+    not-0 : eqb n 0 ≡ false
+    not-0 = ne-eqb n 0 (λ z. omega (arith, number-some n 0 (m .lastNumber) (m .lastTime) (m .files) (own .file) (sound .numbers) (own .found) .above))
+
+    file-is : (f : File) → find n (m .files) ≡ some f → f .time ≡ 0
+    file-is f e = let z : some f ≡ some (own .file) = sym e ∙ own .found in let w : f ≡ own .file = cc in ap (λ (g : File). g .time) w ∙ own .time
+
+    drops : (kind e : ℕ) (u : Uplink) → numberOf u ≡ 0 → Ok kind (turn (reply.Nak e) (discarded i n u m))
+    unfolding filesBy numberBy timeBy
+    drops kind e u z =
+        record {
+          effect = subst (λ (k : ℕ). Effect (dropped k) m (discarded i n u m)) (sym was-is) (record { before = own; files = refl; number = refl; time = refl });
+          names = up-left (withUp u (sessionAt m i)) ∙ z;
+          held = held-left (withUp u (sessionAt m i)) ∙ clear;
+          goes = tt;
+        }
+
+    abbrev longer : Model
+    longer = model m (m .lastNumber) (m .lastTime) (changed n (grown info) (m .files)) (m .sessions)
+
+    grows : (f : File) → find n (m .files) ≡ some f → length (f .bytes) + length info ≤ f .size → Ok 0 (turn reply.Nothing longer)
+    unfolding onQuiet filesBy numberBy timeBy
+    grows f e q =
+        record {
+          effect = subst (λ (v : Event). Effect v m longer)
+              (sym (ap (λ (k : ℕ). cond (eqb k 0) nothing (added k info)) was-is ∙ ap (λ (b : Bool). cond b nothing (added n info)) not-0))
+              (record {
+                before = record { own = record { file = f; found = e; time = file-is f e }; room = q };
+                files = refl;
+                number = refl;
+                time = refl;
+              });
+          names = refl;
+          held = clear;
+          goes = tt;
+        }
+
+    data-tells : Ok 0 (dataTo (find n (m .files)) m i n info)
+    unfolding dataTo
+    data-tells = go (find n (m .files)) refl
+      where
+        go : (f : Option File) → find n (m .files) ≡ f → Ok 0 (dataTo f m i n info)
+        go none e = clash (sym e ∙ own .found)
+        go (some f) e =
+            by 0 (ltb (f .size) (length (f .bytes) + length info)) _ _ (λ _. drops 0 16 ignoring refl)
+            (λ q. grows f e (ltb-false (f .size) (length (f .bytes) + length info) q))
+
+    abbrev whole : Model
+    whole =
+        model m (m .lastNumber) (timeAt clock (m .lastTime)) (changed n (completed (timeAt clock (m .lastTime))) (m .files))
+        (set (m .sessions) i (withUp noUpload (sessionAt m i)))
+
+    finishes : (kind : ℕ) (f : File) → find n (m .files) ≡ some f → verdict (f .bytes) (f .size) ≡ 0 → Ok kind (turn reply.Ack whole)
+    unfolding filesBy numberBy timeBy
+    finishes kind f e v =
+        record {
+          effect = subst (λ (k : ℕ). Effect (finished k clock) m whole) (sym was-is)
+              (record {
+                before = record { own = record { file = f; found = e; time = file-is f e }; valid = v };
+                files = refl;
+                number = refl;
+                time = refl;
+              });
+          names = up-left (withUp noUpload (sessionAt m i));
+          held = held-left (withUp noUpload (sessionAt m i)) ∙ clear;
+          goes = tt;
+        }
+
+    end-tells : (kind : ℕ) → Ok kind (dataEndTo (find n (m .files)) m i n clock)
+    unfolding dataEndTo
+    end-tells kind = go (find n (m .files)) refl
+      where
+        go : (f : Option File) → find n (m .files) ≡ f → Ok kind (dataEndTo f m i n clock)
+        go none e = clash (sym e ∙ own .found)
+        go (some f) e =
+            by kind (eqb (verdict (f .bytes) (f .size)) 0) _ _
+            (λ v.
+            by kind (eqb (m .lastTime) mostGiven) _ _ (λ _. drops kind 3 noUpload refl)
+            (λ _. finishes kind f e (eqb-true (verdict (f .bytes) (f .size)) 0 v)))
+            (λ _. drops kind (verdict (f .bytes) (f .size)) noUpload refl)
+
+  on-data : (u : Uplink) → sessionAt m i .up ≡ u → Ok 0 (onData u m i info)
+  unfolding onData onQuiet
+  on-data noUpload e = closes 0
+  on-data (receiving n) e = data-tells n e
+  on-data ignoring e = stays 0 reply.Nothing (record { event = rw e; named = refl; goes = λ m′. tt })
+
+  on-data-end : (u : Uplink) → sessionAt m i .up ≡ u → Ok 1 (onDataEnd u m i clock)
+  unfolding onDataEnd onQuiet
+  on-data-end noUpload e = closes 1
+  on-data-end (receiving n) e = end-tells n e 1
+  on-data-end ignoring e =
+      record {
+        effect = no-effect _ (withSession m i (withUp noUpload (sessionAt m i))) refl refl refl refl;
+        names = up-left (withUp noUpload (sessionAt m i)) ∙ sym (ap numberOf e);
+        held = held-left (withUp noUpload (sessionAt m i)) ∙ clear;
+        goes = tt;
+      }
+
+  -- ---- the other packets
+
+  module _ (kind : ℕ) (other : eqb kind 0 ≡ false) where
+    silent : Plain kind reply.Nothing
+    unfolding onQuiet
+    silent = record { event = rw other; named = refl; goes = λ m′. tt }
+
+    refuses : (e : ℕ) → Ok kind (turn (reply.DownloadError e) m)
+    refuses e = stays kind (reply.DownloadError e) (record { event = refl; named = refl; goes = λ m′. tt })
+
+    file-tells : (f : Option File) (n offset lock passed : ℕ) → Ok kind (downloadOf f m i n offset lock passed)
+    unfolding downloadOf
+    file-tells none n offset lock passed = refuses 4
+    file-tells (some f) n offset lock passed =
+        by kind (eqb (f .time) 0) _ _ (λ _. refuses 11)
+        (λ _.
+        by kind (ltb (length (f .bytes)) offset) _ _ (λ _. refuses 2)
+        (λ _.
+        by kind (ltb (destinationsIn (f .bytes)) lock) _ _ (λ _. refuses 10)
+        (λ _. moves kind reply.Nothing (withDown (sending n offset) (withNext passed (sessionAt m i))) silent refl refl)))
+
+    download-tells : (k : Session) → Ok kind (onDownloadCmd m i k info)
+    unfolding onDownloadCmd downloadNumbered
+    download-tells k =
+        by kind (eqb (length info) 9) _ _
+        (λ _.
+        by kind (eqb (wordAt info 0) 0) _ _
+        (λ _. by kind (ltb (k .next) (length (k .selected))) _ _ (λ _. file-tells _ _ _ _ _) (λ _. refuses 5))
+        (λ _. file-tells _ _ _ _ _))
+        (λ _. refuses 1)
+
+    aborts : (r : Reply) → (r ≡ reply.Aborted) ⊎ (r ≡ reply.Completed) → Plain kind r
+    aborts r (inl e) = subst (Plain kind) (sym e) (record { event = refl; named = refl; goes = λ m′. tt })
+    aborts r (inr e) = subst (Plain kind) (sym e) (record { event = refl; named = refl; goes = λ m′. tt })
+
+    one-of : (a b : Bool) → (cond a (cond b reply.Aborted reply.Completed) reply.Aborted ≡ reply.Aborted)
+        ⊎ (cond a (cond b reply.Aborted reply.Completed) reply.Aborted ≡ reply.Completed)
+    one-of true true = inl refl
+    one-of true false = inr refl
+    one-of false b = inl refl
+
+    ack-tells : (d : Downlink) → Ok kind (onDlAckCmd d m i info)
+    unfolding onDlAckCmd
+    ack-tells noDownload = closes kind
+    ack-tells (sending n at) = closes kind
+    ack-tells (ended n) =
+        moves kind _ (withDown noDownload (sessionAt m i))
+        (aborts _ (one-of (eqb (length info) 1) (fewerDestinations (find n (m .files)) (getD info 0 0)))) refl refl
+    ack-tells (aborting n) = closes kind
+
+    nak-tells : (d : Downlink) → Ok kind (onDlNakCmd d m i)
+    unfolding onDlNakCmd
+    nak-tells noDownload = stays kind reply.Nothing silent
+    nak-tells (sending n at) =
+        moves kind reply.DataEnd (withDown (aborting n) (sessionAt m i)) (record { event = refl; named = refl; goes = λ m′. tt }) refl refl
+    nak-tells (ended n) =
+        moves kind reply.Aborted (withDown noDownload (sessionAt m i)) (record { event = refl; named = refl; goes = λ m′. tt }) refl refl
+    nak-tells (aborting n) = closes kind
+
+    select-tells : Ok kind (onSelectCmd m i info)
+    unfolding onSelectCmd
+    select-tells =
+        by kind (eqb (validityOf info) 0) _ _
+        (λ _.
+        moves kind (reply.Selected (length (selection (m .maxsel) info (m .files)))) (withSelection (selection (m .maxsel) info (m .files)) (sessionAt m i))
+        (record { event = refl; named = refl; goes = λ m′. tt }) refl refl)
+        (λ _. refuses 8)
+
+    if-no-download : (d : Downlink) (x : Turn) → Ok kind x → Ok kind (ifNoDownload d x (closing m i))
+    if-no-download noDownload x f = f
+    if-no-download (sending n offset) x f = closes kind
+    if-no-download (ended n) x f = closes kind
+    if-no-download (aborting n) x f = closes kind
+
+  if-no-upload : (u : Uplink) (x : Turn) → Ok 3 x → Ok 3 (ifNoUpload u x (closing m i))
+  if-no-upload noUpload x f = f
+  if-no-upload (receiving n) x f = closes 3
+  if-no-upload ignoring x f = closes 3
+
+  typed : (kind k : ℕ) (x : Turn) → eqb kind k ≡ true → Ok k x → Ok kind x
+  typed kind k x e o = subst (λ (j : ℕ). Ok j x) (sym (eqb-true kind k e)) o
+
+  -- THEOREM
+  pub packet-tells : (kind : ℕ) → Ok kind (onPacket m i clock kind info)
+  unfolding byType onDirCmd
+  packet-tells kind =
+      let d = sessionAt m i .down in
+      by kind (eqb kind 0) _ _ (λ e. typed kind 0 _ e (on-data (sessionAt m i .up) refl))
+      (λ z.
+      by kind (eqb kind 1) _ _
+      (λ e. typed kind 1 _ e (by 1 (eqb (length info) 0) _ _ (λ _. on-data-end (sessionAt m i .up) refl) (λ _. closes 1)))
+      (λ _.
+      by kind (eqb kind 3) _ _ (λ e. typed kind 3 _ e (if-no-upload (sessionAt m i .up) _ upload-tells))
+      (λ _.
+      by kind (eqb kind 8) _ _ (λ _. if-no-download kind z d _ (download-tells kind z (sessionAt m i)))
+      (λ _.
+      by kind (eqb kind 12) _ _ (λ _. ack-tells kind z d)
+      (λ _.
+      by kind (eqb kind 13) _ _ (λ _. by kind (eqb (length info) 0) _ _ (λ _. nak-tells kind z d) (λ _. closes kind))
+      (λ _.
+      by kind (eqb kind 14) _ _ (λ _. if-no-download kind z d _ (refuses kind z 1))
+      (λ _.
+      by kind (eqb kind 15) _ _ (λ _. if-no-download kind z d _ (refuses kind z 1))
+      (λ _. by kind (eqb kind 16) _ _ (λ _. if-no-download kind z d _ (select-tells kind z)) (λ _. closes kind)))))))))

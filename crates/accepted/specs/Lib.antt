@@ -1,0 +1,6 @@
+pub mod Exchange
+pub mod Link
+pub mod Events
+pub mod Accepted
+pub mod Effect
+pub mod Agreement
