@@ -176,7 +176,7 @@ module _ (m₀ : Model) (eq : List ℕ) where
 
 -- THEOREM
 pub in-pieces : InPieces
-in-pieces blocks places sessions maxsel eq valid room c a session idle nothing-held calls pieces clocks clock last out fits some-last bytes =
+in-pieces blocks places sessions maxsel eq valid room c a session clock calls last out p clocks =
     record {
       allowed = (waits-allowed m₀ eq c calls a, subst (λ (t : ℕ). Asks state eq t session last out) (sym (waits-newest m₀ eq c calls)) asking);
       answered = page-answered blocks places sessions maxsel (pagedBy m₀ eq (waitsFor c calls) .history) clocks eq valid (pagedBy m₀ eq c .newest)
@@ -198,12 +198,12 @@ in-pieces blocks places sessions maxsel eq valid room c a session idle nothing-h
     short = omega (arith, narrowed-size eq (pagedBy m₀ eq c .newest), room)
 
     held : Holds state session (handed session calls)
-    held = holds-all m₀ eq session info last short some-last c calls [] (record { idle = idle; held = nothing-held }) pieces bytes
+    held = holds-all m₀ eq session info last short (p .a-byte) c calls [] (record { idle = p .idle; held = p .nothing-held }) (p .only) (p .bytes)
 
     asking : Asks state eq (pagedBy m₀ eq c .newest) session last out
     asking =
         record {
           idle = held .idle;
-          room = fits;
-          sends = ap (λ (l : List ℕ). endsIn (l ++ last)) (held .held) ∙ ap endsIn bytes ∙ whole info short;
+          room = p .room;
+          sends = ap (λ (l : List ℕ). endsIn (l ++ last)) (held .held) ∙ ap endsIn (p .bytes) ∙ whole info short;
         }

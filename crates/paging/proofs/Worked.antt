@@ -83,11 +83,14 @@ met =
       accepted = refl;
       bytes = refl;
       room = omega arith;
-      idle = idle-is _ refl refl;
-      nothing-held = refl;
-      only = refl;
-      all-bytes = refl;
-      rest-size = refl;
+      in-pieces = record {
+        idle = idle-is _ refl refl;
+        nothing-held = refl;
+        only = refl;
+        room = omega arith;
+        a-byte = λ e. let z = ap length e in omega arith;
+        bytes = refl;
+      };
       before = clocks-is (pagedBy small sized beginning .history) refl;
       held = refl;
       asking = asks-is _ sized 0 rest refl refl refl;
@@ -96,6 +99,14 @@ met =
       longest-size = refl;
       longest-accepted = refl;
       longest-room = omega arith;
+      longest-in-one = record {
+        idle = idle-is _ refl refl;
+        nothing-held = refl;
+        only = refl;
+        room = omega arith;
+        a-byte = λ e. let z = ap length e in omega arith;
+        bytes = refl;
+      };
       longest-before = clocks-is uploaded refl;
       longest-asking = asks-is _ longest 4294967295 (packetOf 16 (narrowed longest 4294967295)) refl refl refl;
       allowed = (
@@ -148,19 +159,15 @@ module _ (page-answered : PageAnswer) where
 
 module _ (in-pieces : InPieces) where
   -- the SELECT_CMD in three pieces asks for the first page
-  pub pieces-ask : AsksWith small sized (begins uploaded) pieces 1 8 rest output
-  unfolding pagedBy
-  pieces-ask =
-      in-pieces 3 3 2 1 sized (met .accepted) (met .room) (begins uploaded) tt 1 (met .idle) (met .nothing-held) pieces (met .only) (met .before) 8 rest output
-      (omega arith) (λ e. let z = sym (met .rest-size) ∙ ap length e in omega arith) (met .all-bytes)
+  pub pieces-ask : AsksWith small sized (begins uploaded) 1 8 pieces rest output
+  pieces-ask = in-pieces 3 3 2 1 sized (met .accepted) (met .room) (begins uploaded) tt 1 8 pieces rest output (met .in-pieces) (met .before)
 
   -- the equation of 248 bytes, in one piece
-  pub longest-asks : AsksWith small longest (begins uploaded) [] 1 8 (packetOf 16 (narrowed longest 0)) output
-  unfolding pagedBy waitsFor piecesOnly handed
+  pub longest-asks : AsksWith small longest (begins uploaded) 1 8 [] (packetOf 16 (narrowed longest 0)) output
+  unfolding pagedBy waitsFor
   longest-asks =
-      in-pieces 3 3 2 1 longest (met .longest-accepted) (met .longest-room) (begins uploaded) tt 1 (met .idle) (met .nothing-held) [] refl
-      (met .longest-before) 8 (packetOf 16 (narrowed longest 0)) output
-      (omega arith) (λ e. unfold packetOf in let z : _≡_ {A = ℕ} 0 1 = cc e in omega arith) refl
+      in-pieces 3 3 2 1 longest (met .longest-accepted) (met .longest-room) (begins uploaded) tt 1 8 [] (packetOf 16 (narrowed longest 0)) output
+      (met .longest-in-one) (met .longest-before)
 
 module _ (paging : Paging) where
   -- the client has been given every matching complete file once, oldest first

@@ -39,10 +39,22 @@ unfoldable pub waitsFor : Client → List Call → Client
 waitsFor c [] = c
 waitsFor c (call ∷ calls) = waitsFor (waits c call) calls
 
+-- The bytes of the client's next SELECT_CMD come to a session in pieces, and the last of them in one more call.
+pub record Pieces (m : Model) (eq : List ℕ) (c : Client) (session : ℕ) (calls : List Call) (last out : List ℕ) : Type 0 where
+  -- the session is open, its downlink idle, and it has no unfinished packet
+  pub idle : Idle (stateOf m eq c) session
+  pub nothing-held : sessionAt (stateOf m eq c) (session - 1) .held ≡ []
+  -- each call for it hands over bytes, the last one at least one byte
+  pub only : piecesOnly session calls ≡ true
+  pub room : 258 ≤ length out
+  pub a-byte : last ≡ [] → ⊥
+  -- together these are the packet's
+  pub bytes : handed session calls ++ last ≡ packetOf 16 (narrowed eq (pagedBy m eq c .newest))
+
 -- ---- the statement
 
 -- the client may ask with the last piece, and is answered
-pub record AsksWith (m : Model) (eq : List ℕ) (c : Client) (calls : List Call) (session clock : ℕ) (last out : List ℕ) : Type 0 where
+pub record AsksWith (m : Model) (eq : List ℕ) (c : Client) (session clock : ℕ) (calls : List Call) (last out : List ℕ) : Type 0 where
   pub allowed : Allowed m eq (asks (waitsFor c calls) session clock last out)
   pub answered : Answers (stateOf m eq (waitsFor c calls)) eq (pagedBy m eq c .newest) session clock last out
 
@@ -52,16 +64,7 @@ InPieces =
     (blocks places sessions maxsel : ℕ) (eq : List ℕ) → validityOf eq ≡ 0 → length (unmarked eq) + 9 ≤ 256
     → (c : Client)
     → Allowed (empty blocks places sessions maxsel) eq c
-    -- the session is open, its downlink idle, and it has no unfinished packet
-    → (session : ℕ)
-    → Idle (stateOf (empty blocks places sessions maxsel) eq c) session
-    → sessionAt (stateOf (empty blocks places sessions maxsel) eq c) (session - 1) .held ≡ []
-    -- pieces are handed over, and then the last one, which has a byte; all of them are the bytes of the packet
-    → (calls : List Call)
-    → piecesOnly session calls ≡ true
+    → (session clock : ℕ) (calls : List Call) (last out : List ℕ)
+    → Pieces (empty blocks places sessions maxsel) eq c session calls last out
     → Clocks (pagedBy (empty blocks places sessions maxsel) eq (waitsFor c calls) .history)
-    → (clock : ℕ) (last out : List ℕ)
-    → 258 ≤ length out
-    → (last ≡ [] → ⊥)
-    → handed session calls ++ last ≡ packetOf 16 (narrowed eq (pagedBy (empty blocks places sessions maxsel) eq c .newest))
-    → AsksWith (empty blocks places sessions maxsel) eq c calls session clock last out
+    → AsksWith (empty blocks places sessions maxsel) eq c session clock calls last out

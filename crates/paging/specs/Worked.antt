@@ -1,7 +1,6 @@
 -- A worked example: three blocks, three places for files, two sessions and MAXSEL 1. Two files are completed in one second, and a client pages. The
 -- SELECT_CMD for its first page comes in three pieces, and between its pages a third file is completed. Assumes nothing.
 use mathlib.Core.Path.{_≡_}
-use mathlib.Core.Bool.{true}
 use mathlib.Core.List.{List, [], _∷_, _++_}
 use Prim.Native.Nat.{ℕ, _+_, _≤_}
 use lib.ListN.{length, take, drop, replicate}
@@ -13,9 +12,9 @@ use Rattle.calls.specs.Call.{Call, login, receive, History, start, _▸_}
 use Rattle.model.specs.State.{Model, empty, sessionAt}
 use Rattle.model.specs.Step.{run}
 use Rattle.paging.specs.Examples.{smallest}
-use Rattle.paging.specs.Client.{Idle, Asks, pageOf, numbersOf}
+use Rattle.paging.specs.Client.{Asks, pageOf, numbersOf}
 use Rattle.paging.specs.Paging.{entry, Client, begins, waits, asks, stateOf, pagedBy, Allowed, Finished, Clocks, pageFor, Matches}
-use Rattle.paging.specs.Pieces.{piecesOnly, handed, waitsFor}
+use Rattle.paging.specs.Pieces.{waitsFor, Pieces}
 
 abbrev pub small : Model
 small = empty 3 3 2 1
@@ -79,11 +78,7 @@ pub record Met : Type 0 where
   -- of the pieces: SELECT_CMD (16) for the equation, upload_time (12h) greater than 0, and AND
   pub bytes : first ≡ 14 ∷ 16 ∷ 128 ∷ 4 ∷ 0 ∷ 1 ∷ 80 ∷ 144 ∷ 18 ∷ 0 ∷ 4 ∷ 0 ∷ 0 ∷ 0 ∷ 0 ∷ 1 ∷ []
   pub room : length (unmarked sized) + 9 ≤ 256
-  pub idle : Idle (stateOf small sized (begins uploaded)) 1
-  pub nothing-held : sessionAt (stateOf small sized (begins uploaded)) 0 .held ≡ []
-  pub only : piecesOnly 1 pieces ≡ true
-  pub all-bytes : handed 1 pieces ++ rest ≡ first
-  pub rest-size : length rest ≡ 10
+  pub in-pieces : Pieces small sized (begins uploaded) 1 pieces rest output
   -- of one page
   pub before : Clocks (pagedBy small sized beginning .history)
   pub held : sessionAt (stateOf small sized beginning) 0 .held ≡ 14 ∷ 16 ∷ 128 ∷ 4 ∷ 0 ∷ 1 ∷ []
@@ -94,6 +89,7 @@ pub record Met : Type 0 where
   pub longest-size : length longest ≡ 248
   pub longest-accepted : validityOf longest ≡ 0
   pub longest-room : length (unmarked longest) + 9 ≤ 256
+  pub longest-in-one : Pieces small longest (begins uploaded) 1 [] (packetOf 16 (narrowed longest 0)) output
   pub longest-before : Clocks uploaded
   pub longest-asking : Asks (run small uploaded) longest 4294967295 1 (packetOf 16 (narrowed longest 4294967295)) output
   -- of the client
