@@ -61,6 +61,29 @@ fn items_are_named_in_either_case_or_numbered() {
     ]);
 }
 
+/// The names as the page of the grammar prints them.
+const PRINTED: &str = "FILE_NUMBER 01 (4), FILE_NAME 02, FILE_EXT 03, FILE_SIZE 04 (4), \
+CREATE_TIME 05 (4), LAST_MODIFIED_TIME 06 (4), SEU_FLAG 07 (1), FILE_TYPE 08 (1), \
+BODY_CHECKSUM 09 (2), HEADER_CHECKSUM 0a (2), BODY_OFFSET 0b (2), SOURCE 10, AX25_UPLOADER 11, \
+UPLOAD_TIME 12 (4), DOWNLOAD_COUNT 13 (1), DESTINATION 14, AX25_DOWNLOADER 15, \
+DOWNLOAD_TIME 16 (4), EXPIRE_TIME 17 (4), PRIORITY 18 (1), COMPRESSION_TYPE 19 (1), \
+BBS_MESSAGE_TYPE 20 (1), BULLETIN_ID_NUMBER 21, TITLE 22, KEYWORDS 23, FILE_DESCRIPTION 24, \
+COMPRESSION_DESCRIPTION 25, USER_FILE_NAME 26";
+
+#[test]
+fn the_names_are_those_of_the_page() {
+    let printed: Vec<(&str, u16, usize)> = PRINTED
+        .split(", ")
+        .map(|entry| {
+            let words: Vec<&str> = entry.split(' ').collect();
+            let id = u16::from_str_radix(words[1], 16).unwrap();
+            let width = words.get(2).map_or(1, |width| width[1..2].parse().unwrap());
+            (words[0], id, width)
+        })
+        .collect();
+    assert_eq!(printed, NAMES);
+}
+
 #[test]
 fn no_name_is_the_beginning_of_another() {
     for (name, id, _) in NAMES {
