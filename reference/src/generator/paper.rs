@@ -196,6 +196,27 @@ fn long_string(random: &mut Random, length: usize) -> Vec<u8> {
     text
 }
 
+/// A text about as long as a line that can be read: many relations, blanks,
+/// zeros before a number, or a string.
+fn huge(random: &mut Random) -> Vec<u8> {
+    let most = LINE_MOST - b"text\t".len();
+    let mut text: Vec<u8> = match random.below(4) {
+        0 => b"TITLE==".to_vec(),
+        1 => b"TITLE==\"".to_vec(),
+        _ => Vec::new(),
+    };
+    let filling = match (text.len(), random.below(3)) {
+        (0, 0) => b" ".to_vec(),
+        (0, _) => [relation_text(random), random.pick(&[b"&&", b"||"]).to_vec()].concat(),
+        _ => b"0".to_vec(),
+    };
+    while text.len() + filling.len() + 8 <= most {
+        text.extend(&filling);
+    }
+    text.extend(b"TITLE==5");
+    text
+}
+
 /// The text damaged at each of its bytes: cut off before it, the byte taken
 /// out, another in its place, another before it.
 pub fn damaged_at_each_byte(random: &mut Random, text: &[u8]) -> Vec<Vec<u8>> {
@@ -365,6 +386,7 @@ pub fn lines(random: &mut Random, kind: Lines) -> Vec<Vec<u8>> {
                 let text = nested(random);
                 damaged_at_each_byte(random, &text)
             }
+            2 if random.chance(1, 6) => vec![huge(random)],
             2..=59 => vec![border(random)],
             60..=109 => vec![text(random)],
             110..=119 => {
