@@ -407,47 +407,50 @@ fn bytes_line(bytes: &[u8]) -> Vec<u8> {
     [b"bytes\t", to_hex(bytes).as_bytes()].concat()
 }
 
+/// Lines that can't be read.
+const ODD_LINES: [&str; 12] = [
+    "",
+    "text",
+    "bytes",
+    "texts\t",
+    "Text\t",
+    "TEXT\t",
+    " text\t",
+    "bytes ",
+    "error\t1",
+    "rx\t1\t00",
+    "text TITLE == 5",
+    "byte\t00",
+];
+
+/// Fields behind `bytes`, most of which can't be read.
+const ODD_FIELDS: [&str; 9] = [
+    "",
+    "0",
+    "83220000",
+    "8322000",
+    "83\t22",
+    "8322000G",
+    "832200FF",
+    "83220000 ",
+    "83220000\r",
+];
+
 /// A line that can't be read, or nearly so.
 pub fn odd_line(random: &mut Random) -> Vec<u8> {
-    let words: [&[u8]; 12] = [
-        b"",
-        b"text",
-        b"bytes",
-        b"texts\t",
-        b"Text\t",
-        b"TEXT\t",
-        b" text\t",
-        b"bytes ",
-        b"error\t1",
-        b"rx\t1\t00",
-        b"text TITLE == 5",
-        b"byte\t00",
-    ];
-    let fields: [&[u8]; 9] = [
-        b"",
-        b"0",
-        b"83220000",
-        b"8322000",
-        b"83\t22",
-        b"8322000G",
-        b"832200FF",
-        b"83220000 ",
-        b"83220000\r",
-    ];
     match random.below(4) {
-        0 => random.pick(&words).to_vec(),
-        1 => [b"bytes\t", *random.pick(&fields)].concat(),
+        0 => random.pick(&ODD_LINES).as_bytes().to_vec(),
+        1 => format!("bytes\t{}", random.pick(&ODD_FIELDS)).into_bytes(),
         2 => {
-            let mut line = random
-                .pick(&[&b"text\tTITLE == \""[..], b"bytes\t00", b"text\t"])
-                .to_vec();
+            let fronts = ["text\tTITLE == \"", "bytes\t00", "text\t"];
+            let mut line = random.pick(&fronts).as_bytes().to_vec();
             line.resize(random.between(LINE_MOST - 1, LINE_MOST + 1), b'0');
             line
         }
         _ => {
             let mut line = lines(random, Lines::Mixed).remove(0);
-            let at = random.below(6);
-            line[at.min(4)] = other_byte(random);
+            let at = random.below(5);
+            line[at] = other_byte(random);
             line
         }
     }

@@ -146,7 +146,7 @@ fn truth(words: &str) -> bool {
         for side in ["T||T", "T||F", "F||T", "F||F"] {
             let places: Vec<usize> = words.match_indices(side).map(|(at, _)| at).collect();
             for at in places {
-                let free = |near: Option<char>| near.map_or(true, |near| near != '&');
+                let free = |near: Option<char>| near != Some('&');
                 let behind = words[at + 4..].chars().next();
                 if free(words[..at].chars().last()) && free(behind) {
                     let result = if side == "F||F" { "F" } else { "T" };
