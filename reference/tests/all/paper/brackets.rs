@@ -77,7 +77,7 @@ fn equations(relations: usize) -> Vec<Vec<u8>> {
 
 #[test]
 fn no_text_has_fewer_brackets() {
-    for relations in 1..=5 {
+    for relations in 1..=6 {
         // The most that any needs: one for each relation but two.
         let most = relations.max(2) - 2;
         let fewest = fewest(relations, most);
