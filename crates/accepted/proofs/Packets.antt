@@ -19,7 +19,7 @@ use Rattle.session.specs.declared.reply.Reply.the-variants as reply
 use Rattle.decide.specs.Words.{wordAt}
 use Rattle.model.specs.State.{File, file, Uplink, noUpload, receiving, ignoring, Downlink, noDownload, sending, ended, aborting, Session}
 use Rattle.model.specs.State.{closedSession, withUp, withDown, withNext, withSelection, Model, model, sessionAt, withSession, Turn, turn, closing}
-use Rattle.model.specs.Files.{find, changed, without, free, uploading, selection}
+use Rattle.model.specs.Files.{find, changed, free, uploading, selection}
 use Rattle.model.specs.Uplink.{uploadNew, uploadContinued, onUploadCmd, discarded, grown, dataTo, onData, timeAt, completed, dataEndTo, onDataEnd}
 use Rattle.model.specs.Downlink.{destinationsIn, downloadOf, downloadNumbered, onDownloadCmd, onDirCmd, fewerDestinations, onDlAckCmd, onDlNakCmd, onSelectCmd}
 use Rattle.model.specs.Step.{ifNoUpload, ifNoDownload, byType, onPacket}

@@ -1,13 +1,13 @@
 -- The theorems of the three demands at work: each that has hypotheses is applied to a small case of Example.antt that meets them, and what it gives
 -- is stated. The machine at work is MachineAtWork.antt. Assumes nothing.
 use mathlib.Core.Path.{_≡_, refl, ap, _∙_, sym, subst}
-use mathlib.Core.Bool.{Bool, true, false, cond}
+use mathlib.Core.Bool.{Bool, true, false}
 use mathlib.Core.Logic.{_⊎_, inl, inr}
 use mathlib.Core.List.{List, [], _∷_, _++_, flatten}
 use mathlib.Core.Option.{some}
-use Prim.Native.Nat.{ℕ, _+_, _≤_, _<_}
+use Prim.Native.Nat.{ℕ, _+_, _≤_}
 use native.Mathlib.Omega.{arith}
-use lib.Dec.{eqb, ltb}
+use lib.Dec.{eqb}
 use lib.ListN.{length, getD, replicate, take, drop, length-replicate}
 use borrow.Author.Tests.{eqb-true, eqb-false}
 use Rattle.packet.specs.Packet.{writeAnswer, leftIn, readAnswer}

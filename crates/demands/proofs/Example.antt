@@ -3,7 +3,6 @@
 -- packets that are there. The file is document 01's smallest one of 80 bytes. Assumes nothing.
 use mathlib.Core.Path.{_≡_, refl}
 use mathlib.Core.Bool.{true, false}
-use mathlib.Core.Logic.{inl, inr}
 use mathlib.Core.List.{List, [], _∷_, _++_}
 use mathlib.Core.Option.{none, some}
 use Prim.Native.Nat.{ℕ}
@@ -13,7 +12,6 @@ use lib.ListN.{length, getD, replicate, take, drop}
 use Rattle.packet.specs.Machine.{call}
 use Rattle.packet.specs.Frame.{Held, packet, byte}
 use Rattle.header.proofs.Examples.{smallest}
-use Rattle.header.specs.Header.{placeOf}
 use Rattle.session.specs.declared.state.Uplink.the-variants as up
 use Rattle.session.specs.declared.reply.Answer.the-variants as answer
 use Rattle.session.specs.Reply.{Told, told}
@@ -23,8 +21,7 @@ use Rattle.server.specs.State.{Lent, lent, linkOf, part, mapPart, ownerPart}
 use Rattle.server.specs.Check.{fits}
 use Rattle.server.specs.Making.{newServer}
 use Rattle.server.specs.Calls.{loginOf}
-use Rattle.decide.specs.Words.{wordAt}
-use Rattle.history.specs.Calls.{Call, login, receive, request, lose, callOf, Start, legal, History, start, _▸_, after}
+use Rattle.history.specs.Calls.{Call, login, request, lose, callOf, Start, legal, History, start, _▸_, after}
 use Rattle.demands.specs.Parts.{checkIn}
 use Rattle.demands.specs.Closing.{eventAt, Unwelcome, long, unexpected}
 use Rattle.demands.specs.Cut.{endsIn, seen, sent, closed}
