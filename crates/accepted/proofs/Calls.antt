@@ -37,8 +37,8 @@ use Rattle.accepted.specs.Events.{Event, nothing, given, added, finished
 use Rattle.accepted.specs.Effect.{filesBy, numberBy, timeBy, Meets, Effect}
 use Rattle.accepted.specs.Agreement.{numberOf}
 use Rattle.accepted.proofs.Hearing.{taken-ends}
-use Rattle.accepted.proofs.Replies.{onReply, namedOn, Small, tell-event, tell-named}
-use Rattle.accepted.proofs.Packets.{Going, Goes, Tells, packet-tells}
+use Rattle.accepted.proofs.Replies.{onReply, namedOn, Going, Goes, tell-event, tell-named}
+use Rattle.accepted.proofs.Packets.{no-effect, up-left, held-left, Tells, packet-tells}
 
 -- ---- the answer of a reply
 
@@ -136,21 +136,17 @@ waits-as : (held bytes : List ℕ) → held ≡ bytes → endsIn bytes ≡ none 
 waits-as held bytes e w = ap endsIn e ∙ w
 
 module _ (m : Model) where
-  no-effect : (e : Event) (m′ : Model) → e ≡ nothing → m′ .files ≡ m .files → m′ .lastNumber ≡ m .lastNumber → m′ .lastTime ≡ m .lastTime → Effect e m m′
-  unfolding filesBy numberBy timeBy
-  no-effect e m′ z f n t = subst (λ (v : Event). Effect v m m′) (sym z) (record { before = tt; files = f; number = n; time = t })
-
   -- a call that is refused
   refused : (c : Call) (r : ℕ) (out : List ℕ) → endsIn (sessionAt m (sessionOf c) .held) ≡ none → Acts m c (stepped (told (answer.Refused r) out) m)
   unfolding onAnswer namedBy noneBy receivedBy anewBy sentBy
   refused (login session clock out) r o w =
-      record { effect = no-effect nothing m refl refl refl refl; under = refl; held = refl; waits = w; offer = λ e. absurd (omega (arith, e)) }
+      record { effect = no-effect m nothing m refl refl refl refl; under = refl; held = refl; waits = w; offer = λ e. absurd (omega (arith, e)) }
   refused (receive session clock input out) r o w =
-      record { effect = no-effect nothing m refl refl refl refl; under = refl; held = refl; waits = w; offer = λ e. absurd (omega (arith, e)) }
+      record { effect = no-effect m nothing m refl refl refl refl; under = refl; held = refl; waits = w; offer = λ e. absurd (omega (arith, e)) }
   refused (request session out) r o w =
-      record { effect = no-effect nothing m refl refl refl refl; under = refl; held = refl; waits = w; offer = λ e. absurd (omega (arith, e)) }
+      record { effect = no-effect m nothing m refl refl refl refl; under = refl; held = refl; waits = w; offer = λ e. absurd (omega (arith, e)) }
   refused (lose session) r o w =
-      record { effect = no-effect nothing m refl refl refl refl; under = refl; held = refl; waits = w; offer = λ e. absurd (omega (arith, e)) }
+      record { effect = no-effect m nothing m refl refl refl refl; under = refl; held = refl; waits = w; offer = λ e. absurd (omega (arith, e)) }
 
   through : (c : Call) (n : ℕ) (out : List ℕ) (x : Stepped) → endsIn (sessionAt m (sessionOf c) .held) ≡ none → (n ≡ 0 → Acts m c x) → Acts m c (unless n m out x)
   unfolding unless
@@ -160,16 +156,6 @@ module _ (m : Model) where
       go true e = f (eqb-true n 0 e)
       go false e = refused c n out w
 
-  -- session i is another one
-  left : (i : ℕ) → i < length (m .sessions) → (x : Session) → getD (set (m .sessions) i x) i closedSession ≡ x
-  left i there x = getD-set-same (m .sessions) i x closedSession there
-
-  up-left : (i : ℕ) → i < length (m .sessions) → (x : Session) → numberOf (getD (set (m .sessions) i x) i closedSession .up) ≡ numberOf (x .up)
-  up-left i there x = ap (λ (k : Session). numberOf (k .up)) (left i there x)
-
-  held-left : (i : ℕ) → i < length (m .sessions) → (x : Session) → getD (set (m .sessions) i x) i closedSession .held ≡ x .held
-  held-left i there x = ap (λ (k : Session). k .held) (left i there x)
-
   -- ---- login, lose, request
 
   login-acts : (session clock : ℕ) (out : List ℕ) → session - 1 < length (m .sessions)
@@ -177,10 +163,10 @@ module _ (m : Model) where
   unfolding tell noneBy anewBy
   login-acts session clock out there =
       record {
-        effect = no-effect nothing (withSession m (session - 1) freshSession) refl refl refl refl;
-        under = up-left (session - 1) there freshSession;
-        held = held-left (session - 1) there freshSession;
-        waits = waits-as _ [] (held-left (session - 1) there freshSession) none-waits;
+        effect = no-effect m nothing (withSession m (session - 1) freshSession) refl refl refl refl;
+        under = up-left m (session - 1) there freshSession;
+        held = held-left m (session - 1) there freshSession;
+        waits = waits-as _ [] (held-left m (session - 1) there freshSession) none-waits;
         offer = tell-offer (reply.Login clock) 0 out [] (withSession m (session - 1) freshSession) tt;
       }
 
@@ -189,10 +175,10 @@ module _ (m : Model) where
   unfolding tell noneBy anewBy
   lose-acts session there =
       record {
-        effect = no-effect nothing (withSession m (session - 1) closedSession) refl refl refl refl;
-        under = up-left (session - 1) there closedSession;
-        held = held-left (session - 1) there closedSession;
-        waits = waits-as _ [] (held-left (session - 1) there closedSession) none-waits;
+        effect = no-effect m nothing (withSession m (session - 1) closedSession) refl refl refl refl;
+        under = up-left m (session - 1) there closedSession;
+        held = held-left m (session - 1) there closedSession;
+        waits = waits-as _ [] (held-left m (session - 1) there closedSession) none-waits;
         offer = tell-offer reply.Nothing 0 [] [] (withSession m (session - 1) closedSession) tt;
       }
 
@@ -201,16 +187,16 @@ module _ (m : Model) where
     Due x = Acts m (request session out) x
 
     due-stays : (t : Told) → ((m′ : Model) → Offer t [] m′) → Due (stepped t m)
-    due-stays t o = record { effect = no-effect nothing m refl refl refl refl; under = refl; held = refl; waits = w; offer = o m }
+    due-stays t o = record { effect = no-effect m nothing m refl refl refl refl; under = refl; held = refl; waits = w; offer = o m }
 
     due-moves : (t : Told) (d : Downlink) → ((m′ : Model) → Offer t [] m′) → Due (stepped t (withSession m (session - 1) (withDown d (sessionAt m (session - 1)))))
     due-moves t d o =
         let x = withDown d (sessionAt m (session - 1)) in
         record {
-          effect = no-effect nothing (withSession m (session - 1) x) refl refl refl refl;
-          under = up-left (session - 1) there x;
-          held = held-left (session - 1) there x;
-          waits = waits-as _ _ (held-left (session - 1) there x) w;
+          effect = no-effect m nothing (withSession m (session - 1) x) refl refl refl refl;
+          under = up-left m (session - 1) there x;
+          held = held-left m (session - 1) there x;
+          waits = waits-as _ _ (held-left m (session - 1) there x) w;
           offer = o (withSession m (session - 1) x);
         }
 
@@ -245,20 +231,6 @@ meets-over m i x (dropped n) k = k
 
 effect-over : (m : Model) (i : ℕ) (x : Session) (e : Event) (m′ : Model) → Effect e (withSession m i x) m′ → Effect e m m′
 effect-over m i x e m′ k = record { before = meets-over m i x e (k .before); files = k .files; number = k .number; time = k .time }
-
-small : (r : Reply) (info : List ℕ) (m′ : Model) → Goes r info m′ → Small r
-small reply.Nothing info m′ g = tt
-small reply.Closing info m′ g = tt
-small reply.DataEnd info m′ g = tt
-small (reply.Login c) info m′ g = tt
-small (reply.Go k offset) info m′ g = g .small
-small (reply.UploadError e) info m′ g = tt
-small reply.Ack info m′ g = tt
-small (reply.Nak e) info m′ g = tt
-small (reply.DownloadError e) info m′ g = tt
-small reply.Aborted info m′ g = tt
-small reply.Completed info m′ g = tt
-small (reply.Selected c) info m′ g = tt
 
 module _ (m : Model) (s : Named m) (sound : Sound m) (bound : m .lastNumber ≤ mostGiven) (session clock : ℕ) (input out : List ℕ)
     (there : session - 1 < length (m .sessions)) (w : endsIn (sessionAt m (session - 1) .held) ≡ none) where
@@ -336,7 +308,7 @@ module _ (m : Model) (s : Named m) (sound : Sound m) (bound : m .lastNumber ≤ 
         (endsIn (held ++ takenBy (tell (t .reply) taken out .answer) input)) clock
     event-is =
         ap (λ (n : ℕ). onReply (t .reply) n (some (packet kind info)) clock) up-is
-        ∙ sym (tell-event taken out (t .reply) up (some (packet kind info)) clock (small (t .reply) info (t .after) (tells .goes)))
+        ∙ sym (tell-event taken out info (t .after) (t .reply) up (some (packet kind info)) clock (tells .goes))
         ∙ ap (λ (h : Option frame.Event). onAnswer (tell (t .reply) taken out .answer) (tell (t .reply) taken out .out) up h clock) (sym heard)
 
     packet-acts : Ok (stepped (tell (t .reply) taken out) (t .after))
@@ -346,7 +318,7 @@ module _ (m : Model) (s : Named m) (sound : Sound m) (bound : m .lastNumber ≤ 
               (effect-over m i (withHeld [] (sessionAt m i)) (onReply (t .reply) (numberOf (sessionAt M i .up)) (some (packet kind info)) clock) (t .after)
               (tells .effect));
           under = tells .names ∙ ap (namedOn (t .reply)) up-is
-              ∙ sym (tell-named taken out (t .reply) up (small (t .reply) info (t .after) (tells .goes)));
+              ∙ sym (tell-named taken out info (t .after) (t .reply) up (tells .goes));
           held = tells .held ∙ sym (none-behind taken input held _ (packet kind info) ends answers);
           waits = waits-as _ [] (tells .held) none-waits;
           offer = subst (λ (h : Option frame.Event). Offer (tell (t .reply) taken out) (infoOf h) (t .after)) (sym heard)

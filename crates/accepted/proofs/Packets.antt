@@ -19,7 +19,7 @@ use Rattle.session.specs.declared.reply.Reply.the-variants as reply
 use Rattle.decide.specs.Words.{wordAt}
 use Rattle.model.specs.State.{File, file, Uplink, noUpload, receiving, ignoring, Downlink, noDownload, sending, ended, aborting, Session}
 use Rattle.model.specs.State.{closedSession, withUp, withDown, withNext, withSelection, Model, model, sessionAt, withSession, Turn, turn, closing}
-use Rattle.model.specs.Files.{find, changed, free, uploading, selection}
+use Rattle.model.specs.Files.{find, changed, without, free, uploading, selection}
 use Rattle.model.specs.Uplink.{uploadNew, uploadContinued, onUploadCmd, discarded, grown, dataTo, onData, timeAt, completed, dataEndTo, onDataEnd}
 use Rattle.model.specs.Downlink.{destinationsIn, downloadOf, downloadNumbered, onDownloadCmd, onDirCmd, fewerDestinations, onDlAckCmd, onDlNakCmd, onSelectCmd}
 use Rattle.model.specs.Step.{ifNoUpload, ifNoDownload, byType, onPacket}
@@ -30,28 +30,25 @@ use Rattle.accepted.specs.Events.{Event, nothing, given, added, finished
 use Rattle.accepted.specs.Effect.{filesBy, numberBy, timeBy, Effect}
 use Rattle.accepted.specs.Agreement.{numberOf}
 use Rattle.accepted.proofs.Files.{number-some}
-use Rattle.accepted.proofs.Replies.{onReply, namedOn}
+use Rattle.accepted.proofs.Replies.{onReply, namedOn, Goes}
 
--- UL_GO_RESP names a partial file, with the length of its bytes as offset; `info` is that of the UPLOAD_CMD
-pub record Going (k offset : ℕ) (info : List ℕ) (m′ : Model) : Type 0 where
-  pub small : k < 4294967296
-  pub own : Partial k (m′ .files)
-  pub offset-is : offset ≡ length (own .file .bytes)
-  pub number : (wordAt info 0 ≡ 0 → ⊥) → k ≡ wordAt info 0
+module _ (m : Model) where
+  -- no file changes
+  pub no-effect : (e : Event) (m′ : Model) → e ≡ nothing → m′ .files ≡ m .files → m′ .lastNumber ≡ m .lastNumber → m′ .lastTime ≡ m .lastTime
+      → Effect e m m′
+  unfolding filesBy numberBy timeBy
+  no-effect e m′ z f n t = subst (λ (v : Event). Effect v m m′) (sym z) (record { before = tt; files = f; number = n; time = t })
 
-abbrev pub Goes : Reply → List ℕ → Model → Type 0
-Goes reply.Nothing info m′ = Unit {0}
-Goes reply.Closing info m′ = Unit {0}
-Goes reply.DataEnd info m′ = Unit {0}
-Goes (reply.Login c) info m′ = Unit {0}
-Goes (reply.Go k offset) info m′ = Going k offset info m′
-Goes (reply.UploadError e) info m′ = Unit {0}
-Goes reply.Ack info m′ = Unit {0}
-Goes (reply.Nak e) info m′ = Unit {0}
-Goes (reply.DownloadError e) info m′ = Unit {0}
-Goes reply.Aborted info m′ = Unit {0}
-Goes reply.Completed info m′ = Unit {0}
-Goes (reply.Selected c) info m′ = Unit {0}
+  -- session i is another one
+  module _ (i : ℕ) (there : i < length (m .sessions)) (x : Session) where
+    left : getD (set (m .sessions) i x) i closedSession ≡ x
+    left = getD-set-same (m .sessions) i x closedSession there
+
+    pub up-left : numberOf (getD (set (m .sessions) i x) i closedSession .up) ≡ numberOf (x .up)
+    up-left = ap (λ (k : Session). numberOf (k .up)) left
+
+    pub held-left : getD (set (m .sessions) i x) i closedSession .held ≡ x .held
+    held-left = ap (λ (k : Session). k .held) left
 
 -- what a turn of session i does in the state m
 pub record Tells (m : Model) (i clock kind : ℕ) (info : List ℕ) (t : Turn) : Type 0 where
@@ -72,21 +69,13 @@ module _ (m : Model) (i : ℕ) (there : i < length (m .sessions)) (clear : sessi
   by kind true x y f g = f refl
   by kind false x y f g = g refl
 
-  -- session i is another one
-  left : (x : Session) → getD (set (m .sessions) i x) i closedSession ≡ x
-  left x = getD-set-same (m .sessions) i x closedSession there
-
-  up-left : (x : Session) → numberOf (getD (set (m .sessions) i x) i closedSession .up) ≡ numberOf (x .up)
-  up-left x = ap (λ (k : Session). numberOf (k .up)) (left x)
-
-  held-left : (x : Session) → getD (set (m .sessions) i x) i closedSession .held ≡ x .held
-  held-left x = ap (λ (k : Session). k .held) (left x)
+  -- by what it leaves
+  leaves : (kind : ℕ) (r : Reply) (n t : ℕ) (fs : List File) (x : Session)
+      → Effect (onReply r was (some (packet kind info)) clock) m (model m n t fs (set (m .sessions) i x)) → numberOf (x .up) ≡ namedOn r was → x .held ≡ []
+      → Goes r info (model m n t fs (set (m .sessions) i x)) → Ok kind (turn r (model m n t fs (set (m .sessions) i x)))
+  leaves kind r n t fs x e u h g = record { effect = e; names = up-left m i there x ∙ u; held = held-left m i there x ∙ h; goes = g }
 
   -- ---- turns that change no file
-
-  no-effect : (e : Event) (m′ : Model) → e ≡ nothing → m′ .files ≡ m .files → m′ .lastNumber ≡ m .lastNumber → m′ .lastTime ≡ m .lastTime → Effect e m m′
-  unfolding filesBy numberBy timeBy
-  no-effect e m′ z f n t = subst (λ (v : Event). Effect v m m′) (sym z) (record { before = tt; files = f; number = n; time = t })
 
   -- a reply that says nothing of files
   record Plain (kind : ℕ) (r : Reply) : Type 0 where
@@ -96,25 +85,18 @@ module _ (m : Model) (i : ℕ) (there : i < length (m .sessions)) (clear : sessi
 
   stays : (kind : ℕ) (r : Reply) → Plain kind r → Ok kind (turn r m)
   stays kind r p =
-      record { effect = no-effect _ m (p .event) refl refl refl; names = sym (p .named); held = clear; goes = p .goes m }
+      record { effect = no-effect m _ m (p .event) refl refl refl; names = sym (p .named); held = clear; goes = p .goes m }
 
-  moves : (kind : ℕ) (r : Reply) (x : Session) → Plain kind r → x .up ≡ sessionAt m i .up → x .held ≡ sessionAt m i .held → Ok kind (turn r (withSession m i x))
+  moves : (kind : ℕ) (r : Reply) (x : Session) → Plain kind r → x .up ≡ sessionAt m i .up → x .held ≡ sessionAt m i .held
+      → Ok kind (turn r (withSession m i x))
   moves kind r x p u h =
-      record {
-        effect = no-effect _ (withSession m i x) (p .event) refl refl refl;
-        names = up-left x ∙ ap numberOf u ∙ sym (p .named);
-        held = held-left x ∙ h ∙ clear;
-        goes = p .goes (withSession m i x);
-      }
+      leaves kind r (m .lastNumber) (m .lastTime) (m .files) x (no-effect m _ (withSession m i x) (p .event) refl refl refl) (ap numberOf u ∙ sym (p .named))
+      (h ∙ clear) (p .goes (withSession m i x))
 
   closes : (kind : ℕ) → Ok kind (closing m i)
   closes kind =
-      record {
-        effect = no-effect nothing (withSession m i closedSession) refl refl refl refl;
-        names = up-left closedSession;
-        held = held-left closedSession;
-        goes = tt;
-      }
+      leaves kind reply.Closing (m .lastNumber) (m .lastTime) (m .files) closedSession
+      (no-effect m nothing (withSession m i closedSession) refl refl refl refl) refl refl tt
 
   -- ---- UPLOAD_CMD
 
@@ -135,22 +117,20 @@ module _ (m : Model) (i : ℕ) (there : i < length (m .sessions)) (clear : sessi
       → Ok 3 (turn (reply.Go next 0) begun)
   unfolding onGo filesBy numberBy timeBy
   begins z p q r =
-      record {
-        effect = subst (λ (e : Event). Effect e m begun) (sym (ap (λ (b : Bool). cond b (given next (wordAt info 4)) nothing) (eq-eqb (wordAt info 0) 0 z)))
-            (record { before = record { next = refl; few = omega (arith, bound, p); place = q; room = r }; files = refl; number = refl; time = refl });
-        names = up-left (withUp (receiving next) (sessionAt m i));
-        held = held-left (withUp (receiving next) (sessionAt m i)) ∙ clear;
-        goes = record {
-          small = omega (arith, bound, p);
-          own = record {
-            file = fresh;
-            found = find-new (m .files) fresh (find-past next 0 (m .lastNumber) (m .lastTime) (m .files) (sound .numbers) (omega arith));
-            time = refl;
-          };
-          offset-is = refl;
-          number = λ y. absurd (y z);
+      leaves 3 (reply.Go next 0) next (m .lastTime) (m .files ++ fresh ∷ []) (withUp (receiving next) (sessionAt m i))
+      (subst (λ (e : Event). Effect e m begun) (sym (ap (λ (b : Bool). cond b (given next (wordAt info 4)) nothing) (eq-eqb (wordAt info 0) 0 z)))
+      (record { before = record { next = refl; few = omega (arith, bound, p); place = q; room = r }; files = refl; number = refl; time = refl }))
+      refl clear
+      (record {
+        small = omega (arith, bound, p);
+        own = record {
+          file = fresh;
+          found = find-new (m .files) fresh (find-past next 0 (m .lastNumber) (m .lastTime) (m .files) (sound .numbers) (omega arith));
+          time = refl;
         };
-      }
+        offset-is = refl;
+        number = λ y. absurd (y z);
+      })
 
   new-tells : wordAt info 0 ≡ 0 → Ok 3 (uploadNew m i (wordAt info 4))
   unfolding uploadNew
@@ -168,17 +148,14 @@ module _ (m : Model) (i : ℕ) (there : i < length (m .sessions)) (clear : sessi
       → Ok 3 (turn (reply.Go n (length (f .bytes))) (withSession m i (withUp (receiving n) (sessionAt m i))))
   unfolding onGo
   taken-up n f z e found t =
-      record {
-        effect = no-effect _ (withSession m i (withUp (receiving n) (sessionAt m i))) (rw (ne-eqb (wordAt info 0) 0 z)) refl refl refl;
-        names = up-left (withUp (receiving n) (sessionAt m i));
-        held = held-left (withUp (receiving n) (sessionAt m i)) ∙ clear;
-        goes = record {
-          small = omega (arith, bound, number-some n 0 (m .lastNumber) (m .lastTime) (m .files) f (sound .numbers) found .most);
-          own = record { file = f; found = found; time = t };
-          offset-is = refl;
-          number = λ y. e;
-        };
-      }
+      leaves 3 (reply.Go n (length (f .bytes))) (m .lastNumber) (m .lastTime) (m .files) (withUp (receiving n) (sessionAt m i))
+      (no-effect m _ (withSession m i (withUp (receiving n) (sessionAt m i))) (rw (ne-eqb (wordAt info 0) 0 z)) refl refl refl) refl clear
+      (record {
+        small = omega (arith, bound, number-some n 0 (m .lastNumber) (m .lastTime) (m .files) f (sound .numbers) found .most);
+        own = record { file = f; found = found; time = t };
+        offset-is = refl;
+        number = λ y. e;
+      })
 
   upload-tells : Ok 3 (onUploadCmd m i info)
   unfolding onUploadCmd uploadContinued
@@ -220,12 +197,9 @@ module _ (m : Model) (i : ℕ) (there : i < length (m .sessions)) (clear : sessi
     drops : (kind e : ℕ) (u : Uplink) → numberOf u ≡ 0 → Ok kind (turn (reply.Nak e) (discarded i n u m))
     unfolding filesBy numberBy timeBy
     drops kind e u z =
-        record {
-          effect = subst (λ (k : ℕ). Effect (dropped k) m (discarded i n u m)) (sym was-is) (record { before = own; files = refl; number = refl; time = refl });
-          names = up-left (withUp u (sessionAt m i)) ∙ z;
-          held = held-left (withUp u (sessionAt m i)) ∙ clear;
-          goes = tt;
-        }
+        leaves kind (reply.Nak e) (m .lastNumber) (m .lastTime) (without n (m .files)) (withUp u (sessionAt m i))
+        (subst (λ (k : ℕ). Effect (dropped k) m (discarded i n u m)) (sym was-is) (record { before = own; files = refl; number = refl; time = refl }))
+        z clear tt
 
     abbrev longer : Model
     longer = model m (m .lastNumber) (m .lastTime) (changed n (grown info) (m .files)) (m .sessions)
@@ -265,18 +239,16 @@ module _ (m : Model) (i : ℕ) (there : i < length (m .sessions)) (clear : sessi
     finishes : (kind : ℕ) (f : File) → find n (m .files) ≡ some f → verdict (f .bytes) (f .size) ≡ 0 → Ok kind (turn reply.Ack whole)
     unfolding filesBy numberBy timeBy
     finishes kind f e v =
-        record {
-          effect = subst (λ (k : ℕ). Effect (finished k clock) m whole) (sym was-is)
-              (record {
-                before = record { own = record { file = f; found = e; time = file-is f e }; valid = v };
-                files = refl;
-                number = refl;
-                time = refl;
-              });
-          names = up-left (withUp noUpload (sessionAt m i));
-          held = held-left (withUp noUpload (sessionAt m i)) ∙ clear;
-          goes = tt;
-        }
+        leaves kind reply.Ack (m .lastNumber) (timeAt clock (m .lastTime)) (changed n (completed (timeAt clock (m .lastTime))) (m .files))
+        (withUp noUpload (sessionAt m i))
+        (subst (λ (k : ℕ). Effect (finished k clock) m whole) (sym was-is)
+        (record {
+          before = record { own = record { file = f; found = e; time = file-is f e }; valid = v };
+          files = refl;
+          number = refl;
+          time = refl;
+        }))
+        refl clear tt
 
     end-tells : (kind : ℕ) → Ok kind (dataEndTo (find n (m .files)) m i n clock)
     unfolding dataEndTo
@@ -302,12 +274,8 @@ module _ (m : Model) (i : ℕ) (there : i < length (m .sessions)) (clear : sessi
   on-data-end noUpload e = closes 1
   on-data-end (receiving n) e = end-tells n e 1
   on-data-end ignoring e =
-      record {
-        effect = no-effect _ (withSession m i (withUp noUpload (sessionAt m i))) refl refl refl refl;
-        names = up-left (withUp noUpload (sessionAt m i)) ∙ sym (ap numberOf e);
-        held = held-left (withUp noUpload (sessionAt m i)) ∙ clear;
-        goes = tt;
-      }
+      leaves 1 reply.Nothing (m .lastNumber) (m .lastTime) (m .files) (withUp noUpload (sessionAt m i))
+      (no-effect m _ (withSession m i (withUp noUpload (sessionAt m i))) refl refl refl refl) (sym (ap numberOf e)) clear tt
 
   -- ---- the other packets
 

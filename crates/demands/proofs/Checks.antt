@@ -251,19 +251,6 @@ state-facts sv l f s =
           sessions = links.sound-facts (files (tablePart sv l)) (sv .sessions) (sv .most) (l .selected) (l .held) (sv .links) u;
         }
 
--- an open session is one of the four, and of the sessions that there are
-pub linked-below : (sv : Server) (l : Lent)
-    → links.LinksFacts (files (tablePart sv l)) (sv .sessions) (sv .most) (l .selected) (l .held) (sv .links)
-    → length (sv .links) ≡ 4
-    → (i : ℕ)
-    → linkOf sv i .linked ≡ true
-    → i < sv .sessions
-linked-below sv l f n i e =
-    by-lt i (sv .sessions) (λ h. h)
-    (λ h. absurd (by-lt i 4
-    (λ k. clash (sym (f .beyond i h k) ∙ e))
-    (λ k. clash (sym (ap (λ (s : Session). s .linked) (List·getD-eq-default (sv .links) closedSession {n = i} (omega arith))) ∙ e))))
-
 -- a session's part of the unfinished packets, and of the selections, is lent whole
 pub part-length : (l : List ℕ) (i parts n : ℕ) → i < parts → parts * n ≤ length l → length (part (i * n) n l) ≡ n
 part-length l i parts n h m =
