@@ -6,11 +6,8 @@ use Prim.Native.Nat.{ℕ, _*_, _-_, _≤_, _<_}
 use native.Mathlib.Omega.{arith}
 use borrow.Author.Tests.{le-ltb, ne-eqb, ltb-true, ltb-false, leb-true, eqb-false}
 use lib.Dec.{eqb, leb, ltb}
-use lib.ListN.{length, drop, length-drop, List·getD-eq-default}
+use lib.ListN.{length, drop, length-drop}
 use lib.Seq.{length-take-le}
-use Rattle.blocks.proofs.Bits.{by-lt}
-use Rattle.session.specs.declared.state.Session.{Session}
-use Rattle.session.specs.State.{closedSession}
 use Rattle.table.specs.Table.{files}
 use Rattle.files.specs.Sound.{soundTest, Sound, Sizes}
 use Rattle.files.proofs.Soundness.{sound-facts}
