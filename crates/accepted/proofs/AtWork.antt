@@ -58,8 +58,8 @@ two h = every-transcript 2 2 2 1 (omega arith) h
 -- whoever unfolds this unfolds all that the passes compute with
 at-work : ℕ
 unfolding
-    computing run smallest opened halfway torn beforeUpload continued lostOnce tooEarly mended uploads both parts.sentBy transcript link.takenBy link.behind link.receivedBy
-    link.anewBy linkBytes events.namedBy events.noneBy uploadOf events.onQuiet events.onGo events.onSent events.onAnswer accepted-accepted.addedBy
+    computing run smallest opened halfway torn beforeUpload continued lostOnce tooEarly mended uploads both parts.sentBy transcript
+    link.takenBy link.behind link.receivedBy link.anewBy linkBytes events.namedBy events.noneBy uploadOf events.onQuiet events.onGo events.onSent events.onAnswer accepted-accepted.addedBy
     accepted accepted-accepted.announcedBy announced accepted-accepted.blocksOf total accepted-accepted.givenBy numbersGiven accepted-accepted.fromOne
     accepted-accepted.lastFrom accepted-accepted.completedBy completions effect.filesBy effect.numberBy effect.timeBy
 at-work = 0

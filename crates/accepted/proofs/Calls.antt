@@ -117,7 +117,8 @@ module _ (m : Model) where
   refused (lose session) r o w =
       record { effect = no-effect m nothing m refl refl refl refl; under = refl; held = refl; waits = w; offer = λ e. absurd (omega (arith, e)) }
 
-  through : (c : Call) (n : ℕ) (out : List ℕ) (x : Stepped) → endsIn (sessionAt m (sessionOf c) .held) ≡ none → (n ≡ 0 → Acts m c x) → Acts m c (unless n m out x)
+  through : (c : Call) (n : ℕ) (out : List ℕ) (x : Stepped) → endsIn (sessionAt m (sessionOf c) .held) ≡ none → (n ≡ 0 → Acts m c x)
+      → Acts m c (unless n m out x)
   unfolding unless
   through c n out x w f = go (eqb n 0) refl
     where
@@ -158,7 +159,8 @@ module _ (m : Model) where
     due-stays : (t : Told) → ((m′ : Model) → Offer t [] m′) → Due (stepped t m)
     due-stays t o = record { effect = no-effect m nothing m refl refl refl refl; under = refl; held = refl; waits = w; offer = o m }
 
-    due-moves : (t : Told) (d : Downlink) → ((m′ : Model) → Offer t [] m′) → Due (stepped t (withSession m (session - 1) (withDown d (sessionAt m (session - 1)))))
+    due-moves : (t : Told) (d : Downlink) → ((m′ : Model) → Offer t [] m′)
+        → Due (stepped t (withSession m (session - 1) (withDown d (sessionAt m (session - 1)))))
     due-moves t d o =
         let x = withDown d (sessionAt m (session - 1)) in
         record {
@@ -277,7 +279,8 @@ module _ (m : Model) (s : Named m) (sound : Sound m) (bound : m .lastNumber ≤ 
     abbrev eventAt : ℕ → Option frame.Event → Event
     eventAt n h = onAnswer (tell (t .reply) taken out .answer) (tell (t .reply) taken out .out) n h clock
 
-    event-is : eventAt (numberOf (sessionAt M i .up)) (some (packet kind info)) ≡ eventAt up (endsIn (held ++ takenBy (tell (t .reply) taken out .answer) input))
+    event-is : eventAt (numberOf (sessionAt M i .up)) (some (packet kind info))
+        ≡ eventAt up (endsIn (held ++ takenBy (tell (t .reply) taken out .answer) input))
     event-is = ap₂ eventAt up-is (sym heard)
 
     packet-acts : Ok (stepped (tell (t .reply) taken out) (t .after))

@@ -71,7 +71,8 @@ Offer t info m′ = typeOf (sentBy (t .answer) (t .out)) ≡ 4 → Gone (sentBy 
 
 pub record Tells (m : Model) (i taken : ℕ) (out : List ℕ) (clock kind : ℕ) (info : List ℕ) (t : Turn) : Type 0 where
   pub effect : Effect
-      (onAnswer (tell (t .reply) taken out .answer) (tell (t .reply) taken out .out) (numberOf (sessionAt m i .up)) (some (packet kind info)) clock) m (t .after)
+      (onAnswer (tell (t .reply) taken out .answer) (tell (t .reply) taken out .out) (numberOf (sessionAt m i .up)) (some (packet kind info)) clock)
+      m (t .after)
   pub names : numberOf (sessionAt (t .after) i .up)
       ≡ namedBy (tell (t .reply) taken out .answer) (tell (t .reply) taken out .out) (numberOf (sessionAt m i .up))
   pub held : sessionAt (t .after) i .held ≡ []
@@ -370,9 +371,10 @@ module _ (m : Model) (i : ℕ) (there : i < length (m .sessions)) (clear : sessi
     unfolding onDlNakCmd tell onAnswer onSent namedBy packetOf sentBy
     nak-tells noDownload = stays kind reply.Nothing silent
     nak-tells (sending n at) =
-        moves kind reply.DataEnd (withDown (aborting n) (sessionAt m i)) (record { event = refl; named = refl; offer = λ m′ e. absurd (omega (arith, e)) }) refl refl
+        moves kind reply.DataEnd (withDown (aborting n) (sessionAt m i))
+        (record { event = refl; named = refl; offer = λ m′ e. absurd (omega (arith, e)) }) refl refl
     nak-tells (ended n) =
-        moves kind reply.Aborted (withDown noDownload (sessionAt m i)) (record { event = refl; named = refl; offer = λ m′ e. absurd (omega (arith, e)) }) refl refl
+        moves kind reply.Aborted (withDown noDownload (sessionAt m i)) (aborts reply.Aborted (inl refl)) refl refl
     nak-tells (aborting n) = closes kind
 
     select-tells : Ok kind (onSelectCmd m i info)

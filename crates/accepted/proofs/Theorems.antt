@@ -29,7 +29,8 @@ use Rattle.accepted.specs.Exchange.{Exchange, sessionOf, sentIn, Transcr
 use Rattle.accepted.specs.Link.{heardBy, heardIn, infoOf, infoIn}
 use Rattle.accepted.specs.Events.{nothing, given, uploadOf, onGo, onSent, onAnswer, eventBy}
 use Rattle.accepted.specs.Accepted.{addedBy, accepted, reserved, total, numbersGiven, fromOne, blocksOf}
-use Rattle.accepted.specs.Agreement.{NumbersOnce, BlocksReserved, numberOf, Outside, OnlyFour, FourFields, StaysValid, Offered, Offers, OwnFile, Agrees, EveryTranscript}
+use Rattle.accepted.specs.Agreement.{NumbersOnce, BlocksReserved, numberOf, Outside, OnlyFour, FourFields, StaysValid, Offered, Offers, OwnFile}
+use Rattle.accepted.specs.Agreement.{Agrees, EveryTranscript}
 use Rattle.accepted.proofs.Files.{found-number, number-some, numbers-rise, total-same, blocksIn, reserved-total, reserved-some}
 use Rattle.accepted.proofs.Lists.{from-one-length, from-one-rising}
 use Rattle.accepted.proofs.Bytes.{accepted-bytes}

@@ -390,7 +390,8 @@ unfolding
     server-making.emptyOf server-making.makeOf history-calls.made history-calls.after demands-cut.seenIn demands-cut.seen demands-feeding.onward
     demands-feeding.feed demands-feeding.feedPieces accepted-link.takenBy accepted-link.behind accepted-link.receivedBy accepted-link.anewBy linkBytes
     accepted-events.onQuiet accepted-events.onGo accepted-events.onSent accepted-events.onAnswer accepted-accepted.addedBy accepted
-    accepted-accepted.announcedBy accepted-accepted.announced accepted-accepted.blocksOf total accepted-accepted.givenBy numbersGiven transcriptAt chopped unchopped demands-uncut.onBytes demands-uncut.unlessRefused demands-uncut.uncutOf
+    accepted-accepted.announcedBy accepted-accepted.announced accepted-accepted.blocksOf total accepted-accepted.givenBy numbersGiven transcriptAt
+    chopped unchopped demands-uncut.onBytes demands-uncut.unlessRefused demands-uncut.uncutOf
     session-expected.expectedDown decide-downlink.onFound decide-downlink.onNumbered decide-downlink.onDownload decide-downlink.onDownlink
     carry-download.closeTurn carry-download.selectedAs carry-download.selectTurn carry-carry.onChooses files-selection.selectNumber
     files-selection.selectOf equation-symbols.starsIn equation-symbols.goodText equation-symbols.goodNumber equation-symbols.good

@@ -107,7 +107,8 @@ module _ (s : Start) (ok : legal s ≡ true) where
   pub agrees : (h : History) → Agrees (modelAt s h) (transcriptAt s h)
   agrees h =
       subst (Agrees (modelAt s h)) (sym (transcript-is h))
-      (every-transcript (s .blocks) (s .files) (s .sessions) (s .most) (omega (arith, facts (serverAt s h) (lentAt s h) (good h) .sizes .blocks, blocks-made h)) h)
+      (every-transcript (s .blocks) (s .files) (s .sessions) (s .most)
+      (omega (arith, facts (serverAt s h) (lentAt s h) (good h) .sizes .blocks, blocks-made h)) h)
 
   -- by place
   pub by-place : (h : History) → ByPlace s h
