@@ -343,7 +343,8 @@ module _ (m m′ : Model) (sound : Sound m) where
             let h = completed (timeAt clock (m .lastTime)) in
             record {
               file = h (own .file);
-              found = find-after (finished k clock) x k ∙ ap (λ (b : Bool). cond b (mapped h (find k fs)) (find k fs)) (eq-eqb k k refl) ∙ ap (mapped h) (own .found);
+              found = find-after (finished k clock) x k ∙ ap (λ (b : Bool). cond b (mapped h (find k fs)) (find k fs)) (eq-eqb k k refl)
+                  ∙ ap (mapped h) (own .found);
               complete = λ z. omega (arith, later clock (m .lastTime), z);
               time = ap (timeAt clock) (sym last);
             }
