@@ -1,0 +1,4 @@
+pub mod Given
+pub mod Fits
+pub mod Answers
+pub mod Driving
