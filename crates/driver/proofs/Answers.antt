@@ -25,7 +25,8 @@ use Rattle.embed.proofs.Refusals.{Ended, through, refused, receive-ended, login
 use Rattle.history.specs.Calls.{Call, login, receive, request, lose, callOf}
 use Rattle.history.specs.Good.{Good}
 use Rattle.history.proofs.GoodFacts.{Facts, good-facts}
-use Rattle.driver.specs.Driver.{callBy, outIn}
+use Rattle.steps.specs.Parts.{outIn}
+use Rattle.driver.specs.Driver.{callBy}
 
 -- ---- the driver's own mistake: counts too short
 

@@ -2,3 +2,4 @@ pub mod Given
 pub mod Fits
 pub mod Answers
 pub mod Driving
+pub mod Worked

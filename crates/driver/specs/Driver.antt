@@ -11,6 +11,7 @@ use Rattle.blocks.specs.FreeMap.{freeCount}
 use Rattle.server.specs.State.{Lent, lent, mapPart}
 use Rattle.server.specs.Making.{emptied}
 use Rattle.history.specs.Calls.{Call, login, receive, request, lose, callOf, State, state, Start, legal, History, start, _▸_, after}
+use Rattle.steps.specs.Parts.{outIn}
 use Rattle.model.specs.State.{Model, empty}
 use Rattle.model.specs.Step.{step, run}
 use Rattle.views.specs.View.{view}
@@ -95,12 +96,6 @@ callsOf nothing = start
 callsOf (cs ▹ a) = further (callsOf cs) a
 
 -- ---- the statement
-
-abbrev pub outIn : Call → List ℕ
-outIn (login session clock out) = out
-outIn (receive session clock input out) = out
-outIn (request session out) = out
-outIn (lose session) = []
 
 -- of memory m, and the server's state t
 pub record StandsFor (m : Memory) (t : State) : Type 0 where
