@@ -1,30 +1,29 @@
 -- One call on words that are a state: it is the server's own call on the server that they stand for, or it lacks room for its counts. Assumes nothing.
 use mathlib.Core.Path.{_≡_, refl, sym, ap, _∙_}
-use mathlib.Core.Bool.{Bool, true, false, cond}
-use mathlib.Core.List.{List, []}
+use mathlib.Core.Bool.{true, cond}
+use mathlib.Core.List.{List}
 use Prim.Native.Nat.{ℕ, _≤_, _<_}
 use native.Mathlib.Omega.{arith}
-use borrow.Author.Tests.{lt-ltb, le-ltb, ltb-true, ltb-false}
+use borrow.Author.Tests.{lt-ltb, le-ltb}
 use lib.Dec.{ltb}
-use lib.ListN.{length, take}
+use lib.ListN.{length}
 use Rattle.session.specs.declared.reply.Answer.{Answer}
 use Rattle.session.specs.declared.reply.Answer.the-variants as answer
 use Rattle.blocks.specs.FreeMap.{freeCount}
 use Rattle.server.specs.declared.Server.{Server}
-use Rattle.server.specs.State.{Lent, Outcome, outcome, doneWith, words, mapPart}
+use Rattle.server.specs.State.{Lent, Outcome, words, mapPart}
 use Rattle.server.specs.Check.{sizesFit}
 use Rattle.server.specs.Calls.{Opened, Lost}
 use Rattle.server.proofs.Answering.{isRefused}
 use Rattle.server.proofs.CheckLaws.{both-true}
-use Rattle.embed.specs.declared.words.Ready.{Ready}
 use Rattle.embed.specs.declared.words.Ready.the-variants.{Go, Refuse}
 use Rattle.embed.specs.Words.{encodeOf, serverAt, isState, readyOf}
-use Rattle.embed.specs.Calls.{told, tellOf, Received, received, receivedBy, onReceive, receiveBy, onOpen, openBy, onRequest, requestBy, onLose, loseBy, filled, withCounts, freeIn, onFree, freeBy}
+use Rattle.embed.specs.Calls.{told, tellOf, received, receivedBy, onReceive, receiveBy, onOpen, openBy, onRequest, requestBy, onLose, loseBy, filled, withCounts, freeIn, onFree, freeBy}
 use Rattle.embed.proofs.Reading.{written-back}
 use Rattle.embed.proofs.Refusals.{Ended, through, refused, receive-ended, login-ended, request-ended, lose-ended}
 use Rattle.history.specs.Calls.{Call, login, receive, request, lose, callOf}
 use Rattle.history.specs.Good.{Good}
-use Rattle.history.proofs.GoodFacts.{Facts, good-facts}
+use Rattle.history.proofs.GoodFacts.{good-facts}
 use Rattle.steps.specs.Parts.{outIn}
 use Rattle.driver.specs.Driver.{callBy}
 

@@ -3,11 +3,11 @@ use mathlib.Core.Path.{_≡_, refl, sym, ap, _∙_, subst}
 use mathlib.Core.Bool.{Bool, true, false, cond}
 use mathlib.Core.List.{List}
 use mathlib.Core.Logic.{_⊎_, inl, inr}
-use Prim.Native.Nat.{ℕ, zero, suc, _≤_, _<_}
+use Prim.Native.Nat.{ℕ, _≤_, _<_}
 use native.Mathlib.Omega.{arith}
 use borrow.Author.Tests.{le-ltb, ltb-true, ltb-false}
 use lib.Dec.{ltb}
-use lib.ListN.{length, length-append, getD, drop, replicate}
+use lib.ListN.{length, length-append, drop}
 use Rattle.session.specs.declared.reply.Answer.{Answer}
 use Rattle.session.specs.declared.reply.Answer.the-variants as answer
 use Rattle.session.specs.State.{closedSession}
@@ -29,7 +29,7 @@ use Rattle.history.proofs.Never.{never-33, never-35}
 use Rattle.model.specs.State.{Model}
 use Rattle.model.specs.Step.{step}
 use Rattle.views.specs.View.{view}
-use Rattle.refines.proofs.Refining.{every-call, every-history}
+use Rattle.refines.proofs.Refining.{all-same, made-server, every-call, every-history}
 use Rattle.driver.specs.Driver as driver
 use Rattle.driver.specs.Driver.{Memory, memory, made, Asked, answered, Calls, nothing, _▹_, reached, Clocked, Clocks, further, callsOf, StandsFor, EveryDriver, EveryMake, Plays, DriverPlays}
 use Rattle.driver.proofs.Given.{Kept, call-kept}
@@ -105,11 +105,6 @@ module _ (s : Start) where
 
 -- ---- a server just made
 
-all-same : {A : Type 0} (n i : ℕ) (x : A) → getD (replicate n x) i x ≡ x
-all-same zero i x = refl
-all-same (suc n) zero x = refl
-all-same (suc n) (suc i) x = all-same n i x
-
 new-kept : (blocks files sessions most : ℕ) → Kept (newServer blocks files sessions most)
 new-kept blocks files sessions most =
     record { last = record { number = omega arith; time = omega arith }; rests = λ i e. all-same 4 i closedSession }
@@ -117,10 +112,6 @@ new-kept blocks files sessions most =
 module _ (s : Start) (words : List ℕ) where
   abbrev slices : Emptied
   slices = emptied (s .lent .map) (s .lent .owner) (s .lent .table) (s .lent .selected) (s .lent .held)
-
-  made-server : legal s ≡ true → history.made s .server ≡ newServer (s .blocks) (s .files) (s .sessions) (s .most)
-  unfolding history.made makeOf
-  made-server e = rw e
 
   -- making answers 0 where nothing is too short
   pub make-answers : legal s ≡ true → 54 ≤ length words → driver.makes s words .code ≡ 0
@@ -157,7 +148,7 @@ module _ (s : Start) (words : List ℕ) where
   made-holds r =
       subst (λ (m : Memory). Holds m (history.made s)) (sym (made-memory r))
       (encoded-holds (history.made s .server) (history.made s .lent) words (made-good s (r .legal))
-      (subst Kept (sym (made-server (r .legal))) (new-kept (s .blocks) (s .files) (s .sessions) (s .most))))
+      (subst Kept (sym (made-server s (r .legal))) (new-kept (s .blocks) (s .files) (s .sessions) (s .most))))
 
   -- ---- any calls
 
@@ -198,7 +189,8 @@ module _ (m : Memory) (t : State) (h : Holds m t) where
   counts-alone : (a : Asked) → answered m a .told .code ≡ 33 → length (a .counts) < 2
   counts-alone a e = go (refused-by a 33 (omega arith) e)
     where
-      go : ((length (a .counts) < 2) × (_≡_ {A = ℕ} 33 33)) ⊎ (callOf (t .server) (t .lent) (a .call) .done .answer ≡ answer.Refused 33) → length (a .counts) < 2
+      go : ((length (a .counts) < 2) × (_≡_ {A = ℕ} 33 33)) ⊎ (callOf (t .server) (t .lent) (a .call) .done .answer ≡ answer.Refused 33)
+          → length (a .counts) < 2
       go (inl p) = p .0
       go (inr p) = absurd (never-33 (t .server) (t .lent) (h .good) (a .call) p)
 

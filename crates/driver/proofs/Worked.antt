@@ -14,7 +14,7 @@ use Rattle.server.specs.State.{lent}
 use Rattle.server.specs.Check as check
 use Rattle.server.specs.Making as making
 use Rattle.history.specs.Calls.{lose, callOf, state, Start, legal, made, History, start, _▸_, after}
-use Rattle.model.specs.State.{Model, empty}
+use Rattle.model.specs.State.{empty}
 use Rattle.model.specs.Step as machine
 use Rattle.views.specs.View.{view}
 use Rattle.cases.specs.Packets.{smallest, completeAs, upload, data′, dataEnd, download}
@@ -77,7 +77,9 @@ module _ (every : EveryDriver) (make : EveryMake) (machines : DriverPlays) where
 
   -- what it leaves: one block of one is free
   pub all-free : freeBy (reached small words nothing .words) (reached small words nothing .lent .map) two ≡ filled 0 (1 ∷ 1 ∷ [])
-  unfolding small callsOf after made making.makeOf making.emptyOf check.sizesFit check.roomFits blocks-answers.makeMap blocks-owners.mapOf blocks-owners.wordOf blocks-map.freeCount ones
+  unfolding
+      small callsOf after made making.makeOf making.emptyOf check.sizesFit check.roomFits blocks-answers.makeMap blocks-owners.mapOf blocks-owners.wordOf
+      blocks-map.freeCount ones
   all-free = every small words makes-it nothing tt .free two (omega arith)
 
   -- ---- it is the server

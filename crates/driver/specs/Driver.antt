@@ -16,7 +16,7 @@ use Rattle.model.specs.State.{Model, empty}
 use Rattle.model.specs.Step.{step, run}
 use Rattle.views.specs.View.{view}
 use Rattle.embed.specs.Words.{serverAt, isState}
-use Rattle.embed.specs.Calls.{Told, told, tellOf, Received, received, receivedBy, receiveBy, openBy, requestBy, loseBy, Begun, makeBy, filled, withCounts, freeBy}
+use Rattle.embed.specs.Calls.{told, tellOf, Received, received, receivedBy, receiveBy, openBy, requestBy, loseBy, Begun, makeBy, filled, withCounts, freeBy}
 
 -- ---- the driver's memory
 
