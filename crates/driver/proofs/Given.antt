@@ -1,7 +1,7 @@
 -- What a call leaves of the last number and time given, and of a session without a link: the two stay numbers of 32 bits where the clock of a receive call
 -- is one, and the session is the closed one. Assumes nothing.
 use mathlib.Core.Path.{_≡_, refl, sym, _∙_}
-use mathlib.Core.Bool.{Bool, true, false, cond}
+use mathlib.Core.Bool.{true, false}
 use mathlib.Core.List.{List, [], _∷_}
 use Prim.Native.Nat.{ℕ, zero, suc, _+_, _<_}
 use native.Mathlib.Omega.{arith}
@@ -40,6 +40,7 @@ use Rattle.sending.specs.Sending.{Due, dataOf, sendingOf, dueOf}
 use Rattle.embed.specs.Fit.{LastFits}
 use Rattle.history.specs.Calls.{Call, login, receive, request, lose, callOf}
 use Rattle.history.specs.Good.{Good}
+use Rattle.history.proofs.Acted.{by-test}
 use Rattle.history.proofs.GoodFacts.{checked}
 use Rattle.driver.specs.Driver.{Clocked}
 
@@ -60,10 +61,6 @@ record Keeps (t : Turn) : Type 0 where
   last : LastFits (t .last)
   rests : Rests (t .session)
 
-by-test : {A : Type 0} (P : A → Type 0) (b : Bool) (t u : A) → P t → P u → P (cond b t u)
-by-test P true t u h k = h
-by-test P false t u h k = k
-
 -- ---- what is given
 
 abbrev Below : Given → Type 0
@@ -71,19 +68,12 @@ Below UsedUp = Unit {0}
 Below (Next n) = n < 4294967296
 
 number-below : (last : ℕ) → last < 4294967296 → Below (nextNumber last)
-number-below last h = go (eqb last 4294967295) refl
-  where
-    go : (b : Bool) → eqb last 4294967295 ≡ b → Below (cond b UsedUp (Next (last + 1)))
-    go true e = tt
-    go false e = omega (arith, eqb-false last 4294967295 e)
+number-below last h = by-test Below (eqb last 4294967295) _ _ (λ e. tt) (λ e. omega (arith, eqb-false last 4294967295 e))
 
 time-below : (clock last : ℕ) → clock < 4294967296 → last < 4294967296 → Below (uploadTime clock last)
-time-below clock last c h = go (eqb last 4294967295) refl (ltb clock (last + 1))
-  where
-    go : (b : Bool) → eqb last 4294967295 ≡ b → (d : Bool) → Below (cond b UsedUp (Next (cond d (last + 1) clock)))
-    go true e d = tt
-    go false e true = omega (arith, eqb-false last 4294967295 e)
-    go false e false = c
+time-below clock last c h =
+    by-test Below (eqb last 4294967295) _ _ (λ e. tt)
+    (λ e. by-test (λ (n : ℕ). n < 4294967296) (ltb clock (last + 1)) _ _ (λ d. omega (arith, eqb-false last 4294967295 e)) (λ d. c))
 
 -- ---- the acts
 
@@ -109,13 +99,15 @@ module _ (s : Session) (last : Last) (fits : LastFits last) (linked : s .linked 
       → Keeps (upload.storeTurn s last place offset received size info disk owner table .turn)
   unfolding upload.storeTurn upload.appendedAs upload.storedAs
   store-keeps place offset received size info disk owner table =
-      by-test (λ (w : Writes). Keeps (w .turn)) (ltb (length info) size) _ _ (stays s _ linked)
-      (by-test Keeps (eqb (files.appendOf disk owner table place (take size info) .answer) 0) _ _ (stays _ _ linked) (stays s _ linked))
+      by-test (λ (w : Writes). Keeps (w .turn)) (ltb (length info) size) _ _ (λ e. stays s _ linked)
+      (λ e.
+      by-test Keeps (eqb (files.appendOf disk owner table place (take size info) .answer) 0) _ _ (λ d. stays _ _ linked) (λ d. stays s _ linked))
 
   accepted-keeps : (n time : ℕ) → time < 4294967296 → Keeps (upload.acceptedAs n s last time)
   unfolding upload.acceptedAs
   accepted-keeps n time h =
-      by-test Keeps (eqb n 0) _ _ (gives _ (lastOf (last .number) time) _ (record { number = fits .number; time = h }) linked) (stays _ _ linked)
+      by-test Keeps (eqb n 0) _ _ (λ e. gives _ (lastOf (last .number) time) _ (record { number = fits .number; time = h }) linked)
+      (λ e. stays _ _ linked)
 
   timed-keeps : (g : Given) → Below g → (place : ℕ) (disk map owner table : List ℕ)
       → Keeps (upload.finishAs (upload.timed g) s last place disk map owner table .turn)
@@ -128,26 +120,28 @@ module _ (s : Session) (last : Last) (fits : LastFits last) (linked : s .linked 
   unfolding upload.judgedAt upload.finishAs upload.withDisk upload.discardTurn
   finish-keeps place clock disk map owner table c =
       by-test (λ j. Keeps (upload.finishAs j s last place disk map owner table .turn)) (eqb (checkOf disk owner table place) 0) _ _
-      (timed-keeps (uploadTime clock (last .time)) (time-below clock (last .time) c (fits .time)) place disk map owner table) (stays _ _ linked)
+      (λ e. timed-keeps (uploadTime clock (last .time)) (time-below clock (last .time) c (fits .time)) place disk map owner table)
+      (λ e. stays _ _ linked)
 
   select-keeps : (most size : ℕ) (info disk owner table selected : List ℕ)
       → Keeps (download.selectTurn s last most size info disk owner table selected .turn)
   unfolding download.selectTurn download.selectedAs
   select-keeps most size info disk owner table selected =
-      by-test (λ (x : Chooses). Keeps (x .turn)) (ltb (length info) size) _ _ (stays s _ linked)
-      (by-test (λ (x : Chooses). Keeps (x .turn)) (eqb (selectOf (take size info) disk owner table selected most .answer .refused) 0) _ _
-      (stays _ _ linked) (stays s _ linked))
+      by-test (λ (x : Chooses). Keeps (x .turn)) (ltb (length info) size) _ _ (λ e. stays s _ linked)
+      (λ e.
+      by-test (λ (x : Chooses). Keeps (x .turn)) (eqb (selectOf (take size info) disk owner table selected most .answer .refused) 0) _ _
+      (λ d. stays _ _ linked) (λ d. stays s _ linked))
 
   send-keeps : (place offset lock passed : ℕ) (disk owner table : List ℕ)
       → Keeps (download.beginTurn s last place offset lock passed disk owner table)
   unfolding download.beginTurn
   send-keeps place offset lock passed disk owner table =
-      by-test Keeps (ltb (destinationsAt disk owner table place) lock) _ _ (stays s _ linked) (stays _ _ linked)
+      by-test Keeps (ltb (destinationsAt disk owner table place) lock) _ _ (λ e. stays s _ linked) (λ e. stays _ _ linked)
 
   confirm-keeps : (place destination : ℕ) (disk owner table : List ℕ) → Keeps (download.confirmTurn s last place destination disk owner table)
   unfolding download.confirmTurn
   confirm-keeps place destination disk owner table =
-      by-test Keeps (ltb (destinationsAt disk owner table place) destination) _ _ (stays _ _ linked) (stays _ _ linked)
+      by-test Keeps (ltb (destinationsAt disk owner table place) destination) _ _ (λ e. stays _ _ linked) (λ e. stays _ _ linked)
 
   carry-keeps : (a : Act) (clock most size : ℕ) (info : List ℕ) (m : Mem) → clock < 4294967296
       → Keeps (carryOut a s last clock most size info m .turn)
@@ -175,7 +169,7 @@ due-linked : (d : Downlink) (s : Session) (disk owner : List ℕ) (fs : List Fil
 unfolding dueOf sendingOf dataOf
 due-linked down.Idle s disk owner fs out e = e
 due-linked (down.Sending place offset sent) s disk owner fs out e =
-    by-test (λ (x : Due). x .asked .session .linked ≡ true) (ltb (offset + sent) (fileAt fs place .size)) _ _ e e
+    by-test (λ (x : Due). x .asked .session .linked ≡ true) (ltb (offset + sent) (fileAt fs place .size)) _ _ (λ d. e) (λ d. e)
 due-linked (down.Ended place) s disk owner fs out e = e
 due-linked (down.Aborting place) s disk owner fs out e = e
 
