@@ -8,33 +8,31 @@ use mathlib.Core.Option.{none, some}
 use Prim.Native.Nat.{ℕ, _+_, _≤_, _<_}
 use native.Mathlib.Omega.{arith}
 use borrow.Author.Tests.{ltb-true}
-use lib.Dec.{eqb, ltb}
+use lib.Dec.{ltb}
 use lib.ListN.{length, getD, take, drop}
 use Rattle.packet.specs.Frame.{packet}
 use Rattle.header.proofs.Examples.{smallest}
 use Rattle.header.specs.Header.{verdict, placeOf}
 use Rattle.header.specs.Fields.{fieldsSet}
 use Rattle.decide.specs.Words.{wordAt}
-use Rattle.calls.specs.Call.{Call, History, start, _▸_}
+use Rattle.calls.specs.Call.{Call, History, _▸_}
 use Rattle.model.specs.State.{File, file, Model, empty, sessionAt}
 use Rattle.model.specs.Files as files
 use Rattle.model.specs.Files.{find}
-use Rattle.model.specs.Uplink.{completed}
 use Rattle.model.specs.Step.{step, run}
 use Rattle.steps.specs.Parts as parts
-use Rattle.steps.specs.Parts.{typeOf}
 use Rattle.cases.specs.Computing.{computing}
 use Rattle.accepted.specs.Exchange.{Exchange, sentIn, Transcript, exchanged, transcript}
 use Rattle.accepted.specs.Link as link
 use Rattle.accepted.specs.Link.{linkBytes, heardIn, infoIn}
 use Rattle.accepted.specs.Events as events
-use Rattle.accepted.specs.Events.{Event, given, added, finished, dropped, uploadOf, eventIn}
+use Rattle.accepted.specs.Events.{Event, given, added, finished, dropped, uploadOf}
 use Rattle.accepted.specs.Accepted as accepted-accepted
 use Rattle.accepted.specs.Accepted.{accepted, announced, reserved, total, numbersGiven, Completion, completion, completions, times}
 use Rattle.accepted.specs.Effect as effect
 use Rattle.accepted.specs.Effect.{Effect}
 use Rattle.accepted.specs.Agreement.{sizeOf, numberOf, Outside, OnlyFour, AreBytes, OfBytes, Listed, Stands, Agrees}
-use Rattle.accepted.proofs.Passes.{output, rx, of, upload, dataEnd, opened, halfway, torn, beforeUpload, continued, rest, lostOnce, tooEarly, mended}
+use Rattle.accepted.proofs.Passes.{rx, of, upload, dataEnd, opened, halfway, torn, beforeUpload, continued, rest, lostOnce, tooEarly, mended}
 use Rattle.accepted.proofs.Passes.{uploads, both}
 use Rattle.accepted.proofs.Theorems.{every-transcript}
 
@@ -60,8 +58,8 @@ two h = every-transcript 2 2 2 1 (omega arith) h
 -- whoever unfolds this unfolds all that the passes compute with
 at-work : ℕ
 unfolding
-    computing run smallest opened halfway torn beforeUpload continued lostOnce tooEarly mended uploads both parts.sentBy transcript link.takenBy link.behind link.receivedBy
-    link.anewBy linkBytes events.namedBy events.noneBy uploadOf events.onQuiet events.onGo events.onSent events.onAnswer accepted-accepted.addedBy
+    computing run smallest opened halfway torn beforeUpload continued lostOnce tooEarly mended uploads both parts.sentBy transcript
+    link.takenBy link.behind link.receivedBy link.anewBy linkBytes events.namedBy events.noneBy uploadOf events.onQuiet events.onGo events.onSent events.onAnswer accepted-accepted.addedBy
     accepted accepted-accepted.announcedBy announced accepted-accepted.blocksOf total accepted-accepted.givenBy numbersGiven accepted-accepted.fromOne
     accepted-accepted.lastFrom accepted-accepted.completedBy completions effect.filesBy effect.numberBy effect.timeBy
 at-work = 0

@@ -1,5 +1,4 @@
 -- Where links bring bytes, the bytes accepted are bytes. Assumes nothing.
-use mathlib.Core.Path.{_≡_, refl}
 use mathlib.Core.Bool.{Bool, true, false, cond}
 use mathlib.Core.List.{List, [], _∷_, _++_}
 use mathlib.Core.Option.{Option, none, some}
@@ -15,7 +14,7 @@ use Rattle.decide.specs.Words.{wordAt}
 use Rattle.calls.specs.Call.{Call, login, receive, request, lose}
 use Rattle.model.specs.Step.{endsIn}
 use Rattle.steps.specs.Parts.{typeOf}
-use Rattle.accepted.specs.Exchange.{Exchange, sessionOf, Transcript, blank, _▹_}
+use Rattle.accepted.specs.Exchange.{sessionOf, Transcript, blank, _▹_}
 use Rattle.accepted.specs.Link.{takenBy, behind, receivedBy, anewBy, bytesBy, linkBytes, heardBy}
 use Rattle.accepted.specs.Events.{Event, nothing, given, added, finished, dropped, uploadOf, onQuiet, onGo, onSent, onAnswer, eventBy, eventIn}
 use Rattle.accepted.specs.Accepted.{addedBy, accepted}

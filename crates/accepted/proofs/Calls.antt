@@ -1,15 +1,14 @@
 -- Each call does to the files what its answer and its packets say, and leaves its session with the bytes and the number that they say. Assumes nothing.
 use mathlib.Core.Path.{_≡_, refl, sym, ap, ap₂, _∙_, subst}
 use mathlib.Core.Bool.{Bool, true, false, cond}
-use mathlib.Core.List.{List, [], _∷_, _++_}
+use mathlib.Core.List.{List, [], _++_}
 use mathlib.Core.Option.{Option, none, some}
 use Prim.Native.Nat.{ℕ, _+_, _*_, _-_, _/_, _%_, _≤_, _<_}
 use native.Mathlib.Omega.{arith}
 use borrow.Author.Tests.{eqb-true}
 use lib.Dec.{eqb, ltb}
-use lib.ListN.{length, getD, set, take, drop, length-set}
-use lib.Seq.{getD-set-same, take-length}
-use Rattle.numbers.proofs.NumberLaws.{number-four}
+use lib.ListN.{length, take, drop, length-set}
+use lib.Seq.{take-length}
 use Rattle.packet.specs.Packet.{packetOf}
 use Rattle.packet.specs.Frame.{packet, too-long}
 use Rattle.packet.specs.Frame as frame
@@ -19,7 +18,6 @@ use Rattle.session.specs.declared.reply.Reply.the-variants as reply
 use Rattle.session.specs.declared.reply.Answer.{Answer}
 use Rattle.session.specs.declared.reply.Answer.the-variants as answer
 use Rattle.session.specs.Reply.{Told, told, tell, sentInfo}
-use Rattle.decide.specs.Words.{wordAt}
 use Rattle.calls.specs.Call.{Call, login, receive, request, lose}
 use Rattle.model.specs.State.{File, Downlink, noDownload, sending, ended, aborting, Session, closedSession, freshSession, withDown, withHeld}
 use Rattle.model.specs.State.{Model, sessionAt, withSession, inSession, Turn, Stepped, stepped}
@@ -34,11 +32,10 @@ use Rattle.steps.proofs.Naming.{down-moves}
 use Rattle.accepted.specs.Exchange.{sessionOf}
 use Rattle.accepted.specs.Link.{takenBy, behind, receivedBy, anewBy, bytesBy, heardBy, infoOf}
 use Rattle.accepted.specs.Events.{Event, nothing, given, added, finished, dropped, namedBy, noneBy, uploadBy, onQuiet, onAnswer, eventBy}
-use Rattle.accepted.specs.Effect.{filesBy, numberBy, timeBy, Meets, Effect}
+use Rattle.accepted.specs.Effect.{Meets, Effect}
 use Rattle.accepted.specs.Agreement.{numberOf}
 use Rattle.accepted.proofs.Hearing.{taken-ends}
-use Rattle.accepted.proofs.Replies.{onReply, namedOn, Small, tell-event, tell-named}
-use Rattle.accepted.proofs.Packets.{Going, Goes, Tells, packet-tells}
+use Rattle.accepted.proofs.Packets.{no-effect, up-left, held-left, Offer, Tells, packet-tells}
 
 -- ---- the answer of a reply
 
@@ -76,35 +73,7 @@ module _ (taken : ℕ) (input was : List ℕ) where
   none-behind a v h (sent size e) = rw (e, h)
   none-behind a v h (closed e) = rw e
 
--- ---- a packet UL_GO_RESP
-
--- its number and offset, for a file that is there afterwards
-pub record Gone (packet info : List ℕ) (m′ : Model) : Type 0 where
-  pub number : ℕ
-  pub offset : ℕ
-  pub going : Going number offset info m′
-  pub number-is : wordAt packet 2 ≡ number
-  pub offset-is : offset < 4294967296 → wordAt packet 6 ≡ offset
-
--- whatever else is sent has another type
-abbrev Offer : Told → List ℕ → Model → Type 0
-Offer t info m′ = typeOf (sentBy (t .answer) (t .out)) ≡ 4 → Gone (sentBy (t .answer) (t .out)) info m′
-
-tell-offer : (r : Reply) (taken : ℕ) (out info : List ℕ) (m′ : Model) → Goes r info m′ → Offer (tell r taken out) info m′
-unfolding tell sentBy packetOf
-tell-offer reply.Nothing taken out info m′ g e = absurd (omega (arith, e))
-tell-offer reply.Closing taken out info m′ g e = absurd (omega (arith, e))
-tell-offer reply.DataEnd taken out info m′ g e = absurd (omega (arith, e))
-tell-offer (reply.Login c) taken out info m′ g e = absurd (omega (arith, e))
-tell-offer (reply.Go k offset) taken out info m′ g e =
-    record { number = k; offset = offset; going = g; number-is = number-four k (g .small); offset-is = λ h. number-four offset h }
-tell-offer (reply.UploadError x) taken out info m′ g e = absurd (omega (arith, e))
-tell-offer reply.Ack taken out info m′ g e = absurd (omega (arith, e))
-tell-offer (reply.Nak x) taken out info m′ g e = absurd (omega (arith, e))
-tell-offer (reply.DownloadError x) taken out info m′ g e = absurd (omega (arith, e))
-tell-offer reply.Aborted taken out info m′ g e = absurd (omega (arith, e))
-tell-offer reply.Completed taken out info m′ g e = absurd (omega (arith, e))
-tell-offer (reply.Selected c) taken out info m′ g e = absurd (omega (arith, e))
+-- ---- DATA is no UL_GO_RESP
 
 data-offer : (bytes : List ℕ) (taken : ℕ) (out info : List ℕ) (m′ : Model) → Offer (sentInfo 0 bytes taken out) info m′
 unfolding sentBy packetOf
@@ -136,23 +105,20 @@ waits-as : (held bytes : List ℕ) → held ≡ bytes → endsIn bytes ≡ none 
 waits-as held bytes e w = ap endsIn e ∙ w
 
 module _ (m : Model) where
-  no-effect : (e : Event) (m′ : Model) → e ≡ nothing → m′ .files ≡ m .files → m′ .lastNumber ≡ m .lastNumber → m′ .lastTime ≡ m .lastTime → Effect e m m′
-  unfolding filesBy numberBy timeBy
-  no-effect e m′ z f n t = subst (λ (v : Event). Effect v m m′) (sym z) (record { before = tt; files = f; number = n; time = t })
-
   -- a call that is refused
   refused : (c : Call) (r : ℕ) (out : List ℕ) → endsIn (sessionAt m (sessionOf c) .held) ≡ none → Acts m c (stepped (told (answer.Refused r) out) m)
   unfolding onAnswer namedBy noneBy receivedBy anewBy sentBy
   refused (login session clock out) r o w =
-      record { effect = no-effect nothing m refl refl refl refl; under = refl; held = refl; waits = w; offer = λ e. absurd (omega (arith, e)) }
+      record { effect = no-effect m nothing m refl refl refl refl; under = refl; held = refl; waits = w; offer = λ e. absurd (omega (arith, e)) }
   refused (receive session clock input out) r o w =
-      record { effect = no-effect nothing m refl refl refl refl; under = refl; held = refl; waits = w; offer = λ e. absurd (omega (arith, e)) }
+      record { effect = no-effect m nothing m refl refl refl refl; under = refl; held = refl; waits = w; offer = λ e. absurd (omega (arith, e)) }
   refused (request session out) r o w =
-      record { effect = no-effect nothing m refl refl refl refl; under = refl; held = refl; waits = w; offer = λ e. absurd (omega (arith, e)) }
+      record { effect = no-effect m nothing m refl refl refl refl; under = refl; held = refl; waits = w; offer = λ e. absurd (omega (arith, e)) }
   refused (lose session) r o w =
-      record { effect = no-effect nothing m refl refl refl refl; under = refl; held = refl; waits = w; offer = λ e. absurd (omega (arith, e)) }
+      record { effect = no-effect m nothing m refl refl refl refl; under = refl; held = refl; waits = w; offer = λ e. absurd (omega (arith, e)) }
 
-  through : (c : Call) (n : ℕ) (out : List ℕ) (x : Stepped) → endsIn (sessionAt m (sessionOf c) .held) ≡ none → (n ≡ 0 → Acts m c x) → Acts m c (unless n m out x)
+  through : (c : Call) (n : ℕ) (out : List ℕ) (x : Stepped) → endsIn (sessionAt m (sessionOf c) .held) ≡ none → (n ≡ 0 → Acts m c x)
+      → Acts m c (unless n m out x)
   unfolding unless
   through c n out x w f = go (eqb n 0) refl
     where
@@ -160,40 +126,30 @@ module _ (m : Model) where
       go true e = f (eqb-true n 0 e)
       go false e = refused c n out w
 
-  -- session i is another one
-  left : (i : ℕ) → i < length (m .sessions) → (x : Session) → getD (set (m .sessions) i x) i closedSession ≡ x
-  left i there x = getD-set-same (m .sessions) i x closedSession there
-
-  up-left : (i : ℕ) → i < length (m .sessions) → (x : Session) → numberOf (getD (set (m .sessions) i x) i closedSession .up) ≡ numberOf (x .up)
-  up-left i there x = ap (λ (k : Session). numberOf (k .up)) (left i there x)
-
-  held-left : (i : ℕ) → i < length (m .sessions) → (x : Session) → getD (set (m .sessions) i x) i closedSession .held ≡ x .held
-  held-left i there x = ap (λ (k : Session). k .held) (left i there x)
-
   -- ---- login, lose, request
 
   login-acts : (session clock : ℕ) (out : List ℕ) → session - 1 < length (m .sessions)
       → Acts m (login session clock out) (stepped (tell (reply.Login clock) 0 out) (withSession m (session - 1) freshSession))
-  unfolding tell noneBy anewBy
+  unfolding tell noneBy anewBy packetOf sentBy
   login-acts session clock out there =
       record {
-        effect = no-effect nothing (withSession m (session - 1) freshSession) refl refl refl refl;
-        under = up-left (session - 1) there freshSession;
-        held = held-left (session - 1) there freshSession;
-        waits = waits-as _ [] (held-left (session - 1) there freshSession) none-waits;
-        offer = tell-offer (reply.Login clock) 0 out [] (withSession m (session - 1) freshSession) tt;
+        effect = no-effect m nothing (withSession m (session - 1) freshSession) refl refl refl refl;
+        under = up-left m (session - 1) there freshSession;
+        held = held-left m (session - 1) there freshSession;
+        waits = waits-as _ [] (held-left m (session - 1) there freshSession) none-waits;
+        offer = λ e. absurd (omega (arith, e));
       }
 
   lose-acts : (session : ℕ) → session - 1 < length (m .sessions)
       → Acts m (lose session) (stepped (tell reply.Nothing 0 []) (withSession m (session - 1) closedSession))
-  unfolding tell noneBy anewBy
+  unfolding tell noneBy anewBy packetOf sentBy
   lose-acts session there =
       record {
-        effect = no-effect nothing (withSession m (session - 1) closedSession) refl refl refl refl;
-        under = up-left (session - 1) there closedSession;
-        held = held-left (session - 1) there closedSession;
-        waits = waits-as _ [] (held-left (session - 1) there closedSession) none-waits;
-        offer = tell-offer reply.Nothing 0 [] [] (withSession m (session - 1) closedSession) tt;
+        effect = no-effect m nothing (withSession m (session - 1) closedSession) refl refl refl refl;
+        under = up-left m (session - 1) there closedSession;
+        held = held-left m (session - 1) there closedSession;
+        waits = waits-as _ [] (held-left m (session - 1) there closedSession) none-waits;
+        offer = λ e. absurd (omega (arith, e));
       }
 
   module _ (session : ℕ) (out : List ℕ) (there : session - 1 < length (m .sessions)) (w : endsIn (sessionAt m (session - 1) .held) ≡ none) where
@@ -201,16 +157,17 @@ module _ (m : Model) where
     Due x = Acts m (request session out) x
 
     due-stays : (t : Told) → ((m′ : Model) → Offer t [] m′) → Due (stepped t m)
-    due-stays t o = record { effect = no-effect nothing m refl refl refl refl; under = refl; held = refl; waits = w; offer = o m }
+    due-stays t o = record { effect = no-effect m nothing m refl refl refl refl; under = refl; held = refl; waits = w; offer = o m }
 
-    due-moves : (t : Told) (d : Downlink) → ((m′ : Model) → Offer t [] m′) → Due (stepped t (withSession m (session - 1) (withDown d (sessionAt m (session - 1)))))
+    due-moves : (t : Told) (d : Downlink) → ((m′ : Model) → Offer t [] m′)
+        → Due (stepped t (withSession m (session - 1) (withDown d (sessionAt m (session - 1)))))
     due-moves t d o =
         let x = withDown d (sessionAt m (session - 1)) in
         record {
-          effect = no-effect nothing (withSession m (session - 1) x) refl refl refl refl;
-          under = up-left (session - 1) there x;
-          held = held-left (session - 1) there x;
-          waits = waits-as _ _ (held-left (session - 1) there x) w;
+          effect = no-effect m nothing (withSession m (session - 1) x) refl refl refl refl;
+          under = up-left m (session - 1) there x;
+          held = held-left m (session - 1) there x;
+          waits = waits-as _ _ (held-left m (session - 1) there x) w;
           offer = o (withSession m (session - 1) x);
         }
 
@@ -219,19 +176,19 @@ module _ (m : Model) where
     either false x y f g = g
 
     due-acts : (d : Downlink) → Due (onRequest d m (session - 1) out)
-    unfolding onRequest dataDue
-    due-acts noDownload = due-stays (tell reply.Nothing 0 out) (λ m′. tell-offer reply.Nothing 0 out [] m′ tt)
+    unfolding onRequest dataDue tell packetOf sentBy
+    due-acts noDownload = due-stays (tell reply.Nothing 0 out) (λ m′ e. absurd (omega (arith, e)))
     due-acts (sending n at) = go (find n (m .files))
       where
         go : (f : Option File) → Due (dataDue f m (session - 1) n at out)
-        go none = due-stays (tell reply.Nothing 0 out) (λ m′. tell-offer reply.Nothing 0 out [] m′ tt)
+        go none = due-stays (tell reply.Nothing 0 out) (λ m′ e. absurd (omega (arith, e)))
         go (some f) =
             either (ltb at (length (f .bytes))) _ _
             (due-moves (sentInfo 0 (take 256 (drop at (f .bytes))) 0 out) (sending n (at + length (take 256 (drop at (f .bytes)))))
             (λ m′. data-offer (take 256 (drop at (f .bytes))) 0 out [] m′))
-            (due-moves (tell reply.DataEnd 0 out) (ended n) (λ m′. tell-offer reply.DataEnd 0 out [] m′ tt))
-    due-acts (ended n) = due-stays (tell reply.Nothing 0 out) (λ m′. tell-offer reply.Nothing 0 out [] m′ tt)
-    due-acts (aborting n) = due-moves (tell reply.Aborted 0 out) noDownload (λ m′. tell-offer reply.Aborted 0 out [] m′ tt)
+            (due-moves (tell reply.DataEnd 0 out) (ended n) (λ m′ e. absurd (omega (arith, e))))
+    due-acts (ended n) = due-stays (tell reply.Nothing 0 out) (λ m′ e. absurd (omega (arith, e)))
+    due-acts (aborting n) = due-moves (tell reply.Aborted 0 out) noDownload (λ m′ e. absurd (omega (arith, e)))
 
 -- ---- receive
 
@@ -245,20 +202,6 @@ meets-over m i x (dropped n) k = k
 
 effect-over : (m : Model) (i : ℕ) (x : Session) (e : Event) (m′ : Model) → Effect e (withSession m i x) m′ → Effect e m m′
 effect-over m i x e m′ k = record { before = meets-over m i x e (k .before); files = k .files; number = k .number; time = k .time }
-
-small : (r : Reply) (info : List ℕ) (m′ : Model) → Goes r info m′ → Small r
-small reply.Nothing info m′ g = tt
-small reply.Closing info m′ g = tt
-small reply.DataEnd info m′ g = tt
-small (reply.Login c) info m′ g = tt
-small (reply.Go k offset) info m′ g = g .small
-small (reply.UploadError e) info m′ g = tt
-small reply.Ack info m′ g = tt
-small (reply.Nak e) info m′ g = tt
-small (reply.DownloadError e) info m′ g = tt
-small reply.Aborted info m′ g = tt
-small reply.Completed info m′ g = tt
-small (reply.Selected c) info m′ g = tt
 
 module _ (m : Model) (s : Named m) (sound : Sound m) (bound : m .lastNumber ≤ mostGiven) (session clock : ℕ) (input out : List ℕ)
     (there : session - 1 < length (m .sessions)) (w : endsIn (sessionAt m (session - 1) .held) ≡ none) where
@@ -275,7 +218,7 @@ module _ (m : Model) (s : Named m) (sound : Sound m) (bound : m .lastNumber ≤ 
   Ok x = Acts m (receive session clock input out) x
 
   waiting : endsIn (held ++ input) ≡ none → Ok (stepped (tell reply.Nothing (length input) out) (inSession i (withHeld (held ++ input)) m))
-  unfolding tell onAnswer onQuiet namedBy takenBy receivedBy behind
+  unfolding tell onAnswer onQuiet namedBy takenBy receivedBy behind sentBy
   waiting e =
       let z : endsIn (held ++ take (length input) input) ≡ none = ap (λ (bs : List ℕ). endsIn (held ++ bs)) (take-length input) ∙ e in
       let x = withHeld (held ++ input) (sessionAt m i) in
@@ -284,18 +227,18 @@ module _ (m : Model) (s : Named m) (sound : Sound m) (bound : m .lastNumber ≤ 
         under = up-left m i there x;
         held = held-left m i there x ∙ sym (ap₂ behind z (ap (λ (bs : List ℕ). held ++ bs) (take-length input)));
         waits = waits-as _ (held ++ input) (held-left m i there x) e;
-        offer = tell-offer reply.Nothing (length input) out _ (withSession m i x) tt;
+        offer = λ d. absurd (omega (arith, d));
       }
 
   too-long-closes : Ok (stepped (tell reply.Closing (2 - length held) out) (withSession m i closedSession))
-  unfolding tell onAnswer namedBy receivedBy
+  unfolding tell onAnswer namedBy receivedBy sentBy
   too-long-closes =
       record {
         effect = no-effect m nothing (withSession m i closedSession) refl refl refl refl;
         under = up-left m i there closedSession;
         held = held-left m i there closedSession;
         waits = waits-as _ [] (held-left m i there closedSession) none-waits;
-        offer = tell-offer reply.Closing (2 - length held) out _ (withSession m i closedSession) tt;
+        offer = λ e. absurd (omega (arith, e));
       }
 
   module _ (kind : ℕ) (info : List ℕ) (came : endsIn (held ++ input) ≡ some (packet kind info)) where
@@ -317,10 +260,11 @@ module _ (m : Model) (s : Named m) (sound : Sound m) (bound : m .lastNumber ≤ 
     inside : i < length (M .sessions)
     inside = subst (λ (n : ℕ). i < n) (sym (length-set (m .sessions) i (withHeld [] (sessionAt m i)))) there
 
-    tells : Tells M i clock kind info t
+    tells : Tells M i taken out clock kind info t
     tells =
         packet-tells M i inside (ap (λ (k : Session). k .held) own)
-        (down-moves m i there s (withHeld [] (sessionAt m i)) refl (s .down i)) (record { numbers = sound .numbers; room = sound .room }) bound clock info kind
+        (down-moves m i there s (withHeld [] (sessionAt m i)) refl (s .down i)) (record { numbers = sound .numbers; room = sound .room }) bound taken out clock
+        info kind
 
     answers : Answers taken (tell (t .reply) taken out .answer)
     answers = tell-answers (t .reply) taken out
@@ -331,26 +275,23 @@ module _ (m : Model) (s : Named m) (sound : Sound m) (bound : m .lastNumber ≤ 
     heard : endsIn (held ++ takenBy (tell (t .reply) taken out .answer) input) ≡ some (packet kind info)
     heard = ap (λ (bs : List ℕ). endsIn (held ++ bs)) (taken-is taken input held _ answers) ∙ ends
 
-    event-is : onReply (t .reply) (numberOf (sessionAt M i .up)) (some (packet kind info)) clock
-        ≡ onAnswer (tell (t .reply) taken out .answer) (tell (t .reply) taken out .out) up
-        (endsIn (held ++ takenBy (tell (t .reply) taken out .answer) input)) clock
-    event-is =
-        ap (λ (n : ℕ). onReply (t .reply) n (some (packet kind info)) clock) up-is
-        ∙ sym (tell-event taken out (t .reply) up (some (packet kind info)) clock (small (t .reply) info (t .after) (tells .goes)))
-        ∙ ap (λ (h : Option frame.Event). onAnswer (tell (t .reply) taken out .answer) (tell (t .reply) taken out .out) up h clock) (sym heard)
+    -- the event by the session's own upload and what is heard
+    abbrev eventAt : ℕ → Option frame.Event → Event
+    eventAt n h = onAnswer (tell (t .reply) taken out .answer) (tell (t .reply) taken out .out) n h clock
+
+    event-is : eventAt (numberOf (sessionAt M i .up)) (some (packet kind info))
+        ≡ eventAt up (endsIn (held ++ takenBy (tell (t .reply) taken out .answer) input))
+    event-is = ap₂ eventAt up-is (sym heard)
 
     packet-acts : Ok (stepped (tell (t .reply) taken out) (t .after))
     packet-acts =
         record {
           effect = subst (λ (e : Event). Effect e m (t .after)) event-is
-              (effect-over m i (withHeld [] (sessionAt m i)) (onReply (t .reply) (numberOf (sessionAt M i .up)) (some (packet kind info)) clock) (t .after)
-              (tells .effect));
-          under = tells .names ∙ ap (namedOn (t .reply)) up-is
-              ∙ sym (tell-named taken out (t .reply) up (small (t .reply) info (t .after) (tells .goes)));
+              (effect-over m i (withHeld [] (sessionAt m i)) (eventAt (numberOf (sessionAt M i .up)) (some (packet kind info))) (t .after) (tells .effect));
+          under = tells .names ∙ ap (namedBy (tell (t .reply) taken out .answer) (tell (t .reply) taken out .out)) up-is;
           held = tells .held ∙ sym (none-behind taken input held _ (packet kind info) ends answers);
           waits = waits-as _ [] (tells .held) none-waits;
-          offer = subst (λ (h : Option frame.Event). Offer (tell (t .reply) taken out) (infoOf h) (t .after)) (sym heard)
-              (tell-offer (t .reply) taken out info (t .after) (tells .goes));
+          offer = subst (λ (h : Option frame.Event). Offer (tell (t .reply) taken out) (infoOf h) (t .after)) (sym heard) (tells .offer);
         }
 
   receive-acts : (e : Option frame.Event) → endsIn (held ++ input) ≡ e → Ok (onEvent e m i clock held input out)

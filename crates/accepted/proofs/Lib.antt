@@ -1,5 +1,4 @@
 pub mod Hearing
-pub mod Replies
 pub mod Files
 pub mod Packets
 pub mod Calls

@@ -1,5 +1,5 @@
 -- Each packet does to the files what its reply says, and leaves the session with the number that the reply names. Assumes nothing.
-use mathlib.Core.Path.{_≡_, refl, sym, ap, _∙_, subst}
+use mathlib.Core.Path.{_≡_, refl, sym, ap, ap₂, _∙_, subst}
 use mathlib.Core.Bool.{Bool, true, false, cond}
 use mathlib.Core.Logic.{_⊎_, inl, inr}
 use mathlib.Core.List.{List, [], _∷_, _++_}
@@ -10,12 +10,15 @@ use borrow.Author.Tests.{eqb-true, eqb-false, leb-true, ltb-true, ltb-false, eq-
 use lib.Dec.{eqb, leb, ltb}
 use lib.ListN.{length, getD, set}
 use lib.Seq.{getD-set-same}
+use Rattle.numbers.proofs.NumberLaws.{number-four}
+use Rattle.packet.specs.Packet.{packetOf}
 use Rattle.packet.specs.Frame.{packet}
 use Rattle.header.specs.Header.{verdict}
 use Rattle.equation.specs.Answer.{validityOf}
 use Rattle.table.specs.Given.{blocksFor, mostGiven}
 use Rattle.session.specs.declared.reply.Reply.{Reply}
 use Rattle.session.specs.declared.reply.Reply.the-variants as reply
+use Rattle.session.specs.Reply.{Told, tell}
 use Rattle.decide.specs.Words.{wordAt}
 use Rattle.model.specs.State.{File, file, Uplink, noUpload, receiving, ignoring, Downlink, noDownload, sending, ended, aborting, Session}
 use Rattle.model.specs.State.{closedSession, withUp, withDown, withNext, withSelection, Model, model, sessionAt, withSession, Turn, turn, closing}
@@ -23,103 +26,112 @@ use Rattle.model.specs.Files.{find, changed, without, free, uploading, selectio
 use Rattle.model.specs.Uplink.{uploadNew, uploadContinued, onUploadCmd, discarded, grown, dataTo, onData, timeAt, completed, dataEndTo, onDataEnd}
 use Rattle.model.specs.Downlink.{destinationsIn, downloadOf, downloadNumbered, onDownloadCmd, onDirCmd, fewerDestinations, onDlAckCmd, onDlNakCmd, onSelectCmd}
 use Rattle.model.specs.Step.{ifNoUpload, ifNoDownload, byType, onPacket}
+use Rattle.steps.specs.Parts.{sentBy, typeOf}
 use Rattle.steps.specs.Sound.{Sound}
 use Rattle.steps.specs.Naming.{Partial, UpOk, Named}
 use Rattle.steps.proofs.Naming.{clash, find-past, find-new}
-use Rattle.accepted.specs.Events.{Event, nothing, given, added, finished, dropped, onQuiet, onGo}
+use Rattle.accepted.specs.Events.{Event, nothing, given, added, finished, dropped, namedBy, onQuiet, onGo, onSent, onAnswer}
 use Rattle.accepted.specs.Effect.{filesBy, numberBy, timeBy, Effect}
 use Rattle.accepted.specs.Agreement.{numberOf}
 use Rattle.accepted.proofs.Files.{number-some}
-use Rattle.accepted.proofs.Replies.{onReply, namedOn}
 
--- UL_GO_RESP names a partial file, with the length of its bytes as offset; `info` is that of the UPLOAD_CMD
-pub record Going (k offset : ℕ) (info : List ℕ) (m′ : Model) : Type 0 where
-  pub small : k < 4294967296
-  pub own : Partial k (m′ .files)
-  pub offset-is : offset ≡ length (own .file .bytes)
-  pub number : (wordAt info 0 ≡ 0 → ⊥) → k ≡ wordAt info 0
+module _ (m : Model) where
+  -- no file changes
+  pub no-effect : (e : Event) (m′ : Model) → e ≡ nothing → m′ .files ≡ m .files → m′ .lastNumber ≡ m .lastNumber → m′ .lastTime ≡ m .lastTime
+      → Effect e m m′
+  unfolding filesBy numberBy timeBy
+  no-effect e m′ z f n t = subst (λ (v : Event). Effect v m m′) (sym z) (record { before = tt; files = f; number = n; time = t })
 
-abbrev pub Goes : Reply → List ℕ → Model → Type 0
-Goes reply.Nothing info m′ = Unit {0}
-Goes reply.Closing info m′ = Unit {0}
-Goes reply.DataEnd info m′ = Unit {0}
-Goes (reply.Login c) info m′ = Unit {0}
-Goes (reply.Go k offset) info m′ = Going k offset info m′
-Goes (reply.UploadError e) info m′ = Unit {0}
-Goes reply.Ack info m′ = Unit {0}
-Goes (reply.Nak e) info m′ = Unit {0}
-Goes (reply.DownloadError e) info m′ = Unit {0}
-Goes reply.Aborted info m′ = Unit {0}
-Goes reply.Completed info m′ = Unit {0}
-Goes (reply.Selected c) info m′ = Unit {0}
+  -- session i is another one
+  module _ (i : ℕ) (there : i < length (m .sessions)) (x : Session) where
+    left : getD (set (m .sessions) i x) i closedSession ≡ x
+    left = getD-set-same (m .sessions) i x closedSession there
 
--- what a turn of session i does in the state m
-pub record Tells (m : Model) (i clock kind : ℕ) (info : List ℕ) (t : Turn) : Type 0 where
-  pub effect : Effect (onReply (t .reply) (numberOf (sessionAt m i .up)) (some (packet kind info)) clock) m (t .after)
-  pub names : numberOf (sessionAt (t .after) i .up) ≡ namedOn (t .reply) (numberOf (sessionAt m i .up))
+    pub up-left : numberOf (getD (set (m .sessions) i x) i closedSession .up) ≡ numberOf (x .up)
+    up-left = ap (λ (k : Session). numberOf (k .up)) left
+
+    pub held-left : getD (set (m .sessions) i x) i closedSession .held ≡ x .held
+    held-left = ap (λ (k : Session). k .held) left
+
+-- ---- UL_GO_RESP (4)
+
+-- it names a partial file, by a number of 32 bits, with the length of its bytes as offset; `info` is that of the UPLOAD_CMD
+pub record Gone (sent info : List ℕ) (m′ : Model) : Type 0 where
+  pub number : ℕ
+  pub own : Partial number (m′ .files)
+  pub number-is : wordAt sent 2 ≡ number
+  pub offset-is : length (own .file .bytes) < 4294967296 → wordAt sent 6 ≡ length (own .file .bytes)
+  pub asked : (wordAt info 0 ≡ 0 → ⊥) → number ≡ wordAt info 0
+
+-- whatever else is sent has another type
+abbrev pub Offer : Told → List ℕ → Model → Type 0
+Offer t info m′ = typeOf (sentBy (t .answer) (t .out)) ≡ 4 → Gone (sentBy (t .answer) (t .out)) info m′
+
+-- ---- what a turn of session i does in the state m, its reply being told with so many bytes taken, in this output
+
+pub record Tells (m : Model) (i taken : ℕ) (out : List ℕ) (clock kind : ℕ) (info : List ℕ) (t : Turn) : Type 0 where
+  pub effect : Effect
+      (onAnswer (tell (t .reply) taken out .answer) (tell (t .reply) taken out .out) (numberOf (sessionAt m i .up)) (some (packet kind info)) clock)
+      m (t .after)
+  pub names : numberOf (sessionAt (t .after) i .up)
+      ≡ namedBy (tell (t .reply) taken out .answer) (tell (t .reply) taken out .out) (numberOf (sessionAt m i .up))
   pub held : sessionAt (t .after) i .held ≡ []
-  pub goes : Goes (t .reply) info (t .after)
+  pub offer : Offer (tell (t .reply) taken out) info (t .after)
 
 module _ (m : Model) (i : ℕ) (there : i < length (m .sessions)) (clear : sessionAt m i .held ≡ []) (s : Named m) (sound : Sound m)
-    (bound : m .lastNumber ≤ mostGiven) (clock : ℕ) (info : List ℕ) where
+    (bound : m .lastNumber ≤ mostGiven) (taken : ℕ) (out : List ℕ) (clock : ℕ) (info : List ℕ) where
   abbrev was : ℕ
   was = numberOf (sessionAt m i .up)
 
   abbrev Ok : ℕ → Turn → Type 0
-  Ok kind t = Tells m i clock kind info t
+  Ok kind t = Tells m i taken out clock kind info t
+
+  -- the event, and the number named, by the reply
+  abbrev eventOn : ℕ → Reply → Event
+  eventOn kind r = onAnswer (tell r taken out .answer) (tell r taken out .out) was (some (packet kind info)) clock
+
+  abbrev namedOn : Reply → ℕ
+  namedOn r = namedBy (tell r taken out .answer) (tell r taken out .out) was
 
   by : (kind : ℕ) (b : Bool) (x y : Turn) → (b ≡ true → Ok kind x) → (b ≡ false → Ok kind y) → Ok kind (cond b x y)
   by kind true x y f g = f refl
   by kind false x y f g = g refl
 
-  -- session i is another one
-  left : (x : Session) → getD (set (m .sessions) i x) i closedSession ≡ x
-  left x = getD-set-same (m .sessions) i x closedSession there
-
-  up-left : (x : Session) → numberOf (getD (set (m .sessions) i x) i closedSession .up) ≡ numberOf (x .up)
-  up-left x = ap (λ (k : Session). numberOf (k .up)) (left x)
-
-  held-left : (x : Session) → getD (set (m .sessions) i x) i closedSession .held ≡ x .held
-  held-left x = ap (λ (k : Session). k .held) (left x)
+  -- by what it leaves
+  leaves : (kind : ℕ) (r : Reply) (n t : ℕ) (fs : List File) (x : Session)
+      → Effect (eventOn kind r) m (model m n t fs (set (m .sessions) i x)) → numberOf (x .up) ≡ namedOn r → x .held ≡ []
+      → Offer (tell r taken out) info (model m n t fs (set (m .sessions) i x)) → Ok kind (turn r (model m n t fs (set (m .sessions) i x)))
+  leaves kind r n t fs x e u h g = record { effect = e; names = up-left m i there x ∙ u; held = held-left m i there x ∙ h; offer = g }
 
   -- ---- turns that change no file
 
-  no-effect : (e : Event) (m′ : Model) → e ≡ nothing → m′ .files ≡ m .files → m′ .lastNumber ≡ m .lastNumber → m′ .lastTime ≡ m .lastTime → Effect e m m′
-  unfolding filesBy numberBy timeBy
-  no-effect e m′ z f n t = subst (λ (v : Event). Effect v m m′) (sym z) (record { before = tt; files = f; number = n; time = t })
-
   -- a reply that says nothing of files
   record Plain (kind : ℕ) (r : Reply) : Type 0 where
-    event : onReply r was (some (packet kind info)) clock ≡ nothing
-    named : namedOn r was ≡ was
-    goes : (m′ : Model) → Goes r info m′
+    event : eventOn kind r ≡ nothing
+    named : namedOn r ≡ was
+    offer : (m′ : Model) → Offer (tell r taken out) info m′
 
   stays : (kind : ℕ) (r : Reply) → Plain kind r → Ok kind (turn r m)
   stays kind r p =
-      record { effect = no-effect _ m (p .event) refl refl refl; names = sym (p .named); held = clear; goes = p .goes m }
+      record { effect = no-effect m _ m (p .event) refl refl refl; names = sym (p .named); held = clear; offer = p .offer m }
 
-  moves : (kind : ℕ) (r : Reply) (x : Session) → Plain kind r → x .up ≡ sessionAt m i .up → x .held ≡ sessionAt m i .held → Ok kind (turn r (withSession m i x))
+  moves : (kind : ℕ) (r : Reply) (x : Session) → Plain kind r → x .up ≡ sessionAt m i .up → x .held ≡ sessionAt m i .held
+      → Ok kind (turn r (withSession m i x))
   moves kind r x p u h =
-      record {
-        effect = no-effect _ (withSession m i x) (p .event) refl refl refl;
-        names = up-left x ∙ ap numberOf u ∙ sym (p .named);
-        held = held-left x ∙ h ∙ clear;
-        goes = p .goes (withSession m i x);
-      }
+      leaves kind r (m .lastNumber) (m .lastTime) (m .files) x (no-effect m _ (withSession m i x) (p .event) refl refl refl) (ap numberOf u ∙ sym (p .named))
+      (h ∙ clear) (p .offer (withSession m i x))
 
   closes : (kind : ℕ) → Ok kind (closing m i)
+  unfolding tell onAnswer onSent namedBy packetOf sentBy
   closes kind =
-      record {
-        effect = no-effect nothing (withSession m i closedSession) refl refl refl refl;
-        names = up-left closedSession;
-        held = held-left closedSession;
-        goes = tt;
-      }
+      leaves kind reply.Closing (m .lastNumber) (m .lastTime) (m .files) closedSession
+      (no-effect m nothing (withSession m i closedSession) refl refl refl refl) refl refl (λ e. absurd (omega (arith, e)))
 
   -- ---- UPLOAD_CMD
 
   error : (e : ℕ) → Ok 3 (turn (reply.UploadError e) m)
-  error e = stays 3 (reply.UploadError e) (record { event = refl; named = refl; goes = λ m′. tt })
+  unfolding tell onAnswer onSent namedBy packetOf sentBy
+  error e = stays 3 (reply.UploadError e) (record { event = refl; named = refl; offer = λ m′ e. absurd (omega (arith, e)) })
 
   -- a new file
   abbrev next : ℕ
@@ -133,24 +145,26 @@ module _ (m : Model) (i : ℕ) (there : i < length (m .sessions)) (clear : sessi
 
   begins : wordAt info 0 ≡ 0 → (m .lastNumber ≡ mostGiven → ⊥) → length (m .files) < m .places → blocksFor (wordAt info 4) ≤ free m
       → Ok 3 (turn (reply.Go next 0) begun)
-  unfolding onGo filesBy numberBy timeBy
+  unfolding tell onAnswer onSent namedBy packetOf sentBy onGo filesBy numberBy timeBy
   begins z p q r =
+      let word = number-four next (omega (arith, bound, p)) in
+      leaves 3 (reply.Go next 0) next (m .lastTime) (m .files ++ fresh ∷ []) (withUp (receiving next) (sessionAt m i))
+      (subst (λ (e : Event). Effect e m begun)
+      (sym (ap₂ (λ (b : Bool) (k : ℕ). cond b (given k (wordAt info 4)) nothing) (eq-eqb (wordAt info 0) 0 z) word))
+      (record { before = record { next = refl; few = omega (arith, bound, p); place = q; room = r }; files = refl; number = refl; time = refl }))
+      (sym word) clear
+      (λ four.
       record {
-        effect = subst (λ (e : Event). Effect e m begun) (sym (ap (λ (b : Bool). cond b (given next (wordAt info 4)) nothing) (eq-eqb (wordAt info 0) 0 z)))
-            (record { before = record { next = refl; few = omega (arith, bound, p); place = q; room = r }; files = refl; number = refl; time = refl });
-        names = up-left (withUp (receiving next) (sessionAt m i));
-        held = held-left (withUp (receiving next) (sessionAt m i)) ∙ clear;
-        goes = record {
-          small = omega (arith, bound, p);
-          own = record {
-            file = fresh;
-            found = find-new (m .files) fresh (find-past next 0 (m .lastNumber) (m .lastTime) (m .files) (sound .numbers) (omega arith));
-            time = refl;
-          };
-          offset-is = refl;
-          number = λ y. absurd (y z);
+        number = next;
+        own = record {
+          file = fresh;
+          found = find-new (m .files) fresh (find-past next 0 (m .lastNumber) (m .lastTime) (m .files) (sound .numbers) (omega arith));
+          time = refl;
         };
-      }
+        number-is = word;
+        offset-is = λ h. number-four 0 h;
+        asked = λ y. absurd (y z);
+      })
 
   new-tells : wordAt info 0 ≡ 0 → Ok 3 (uploadNew m i (wordAt info 4))
   unfolding uploadNew
@@ -166,19 +180,19 @@ module _ (m : Model) (i : ℕ) (there : i < length (m .sessions)) (clear : sessi
 
   taken-up : (n : ℕ) (f : File) → (wordAt info 0 ≡ 0 → ⊥) → n ≡ wordAt info 0 → find n (m .files) ≡ some f → f .time ≡ 0
       → Ok 3 (turn (reply.Go n (length (f .bytes))) (withSession m i (withUp (receiving n) (sessionAt m i))))
-  unfolding onGo
+  unfolding tell onAnswer onSent namedBy packetOf sentBy onGo
   taken-up n f z e found t =
+      let word = number-four n (omega (arith, bound, number-some n 0 (m .lastNumber) (m .lastTime) (m .files) f (sound .numbers) found .most)) in
+      leaves 3 (reply.Go n (length (f .bytes))) (m .lastNumber) (m .lastTime) (m .files) (withUp (receiving n) (sessionAt m i))
+      (no-effect m _ (withSession m i (withUp (receiving n) (sessionAt m i))) (rw (ne-eqb (wordAt info 0) 0 z)) refl refl refl) (sym word) clear
+      (λ four.
       record {
-        effect = no-effect _ (withSession m i (withUp (receiving n) (sessionAt m i))) (rw (ne-eqb (wordAt info 0) 0 z)) refl refl refl;
-        names = up-left (withUp (receiving n) (sessionAt m i));
-        held = held-left (withUp (receiving n) (sessionAt m i)) ∙ clear;
-        goes = record {
-          small = omega (arith, bound, number-some n 0 (m .lastNumber) (m .lastTime) (m .files) f (sound .numbers) found .most);
-          own = record { file = f; found = found; time = t };
-          offset-is = refl;
-          number = λ y. e;
-        };
-      }
+        number = n;
+        own = record { file = f; found = found; time = t };
+        number-is = word;
+        offset-is = λ h. number-four (length (f .bytes)) h;
+        asked = λ y. e;
+      })
 
   upload-tells : Ok 3 (onUploadCmd m i info)
   unfolding onUploadCmd uploadContinued
@@ -218,20 +232,17 @@ module _ (m : Model) (i : ℕ) (there : i < length (m .sessions)) (clear : sessi
     file-is f e = let z : some f ≡ some (own .file) = sym e ∙ own .found in let w : f ≡ own .file = cc in ap (λ (g : File). g .time) w ∙ own .time
 
     drops : (kind e : ℕ) (u : Uplink) → numberOf u ≡ 0 → Ok kind (turn (reply.Nak e) (discarded i n u m))
-    unfolding filesBy numberBy timeBy
+    unfolding tell onAnswer onSent namedBy packetOf sentBy filesBy numberBy timeBy
     drops kind e u z =
-        record {
-          effect = subst (λ (k : ℕ). Effect (dropped k) m (discarded i n u m)) (sym was-is) (record { before = own; files = refl; number = refl; time = refl });
-          names = up-left (withUp u (sessionAt m i)) ∙ z;
-          held = held-left (withUp u (sessionAt m i)) ∙ clear;
-          goes = tt;
-        }
+        leaves kind (reply.Nak e) (m .lastNumber) (m .lastTime) (without n (m .files)) (withUp u (sessionAt m i))
+        (subst (λ (k : ℕ). Effect (dropped k) m (discarded i n u m)) (sym was-is) (record { before = own; files = refl; number = refl; time = refl }))
+        z clear (λ four. absurd (omega (arith, four)))
 
     abbrev longer : Model
     longer = model m (m .lastNumber) (m .lastTime) (changed n (grown info) (m .files)) (m .sessions)
 
     grows : (f : File) → find n (m .files) ≡ some f → length (f .bytes) + length info ≤ f .size → Ok 0 (turn reply.Nothing longer)
-    unfolding onQuiet filesBy numberBy timeBy
+    unfolding tell onAnswer namedBy sentBy onQuiet filesBy numberBy timeBy
     grows f e q =
         record {
           effect = subst (λ (v : Event). Effect v m longer)
@@ -244,7 +255,7 @@ module _ (m : Model) (i : ℕ) (there : i < length (m .sessions)) (clear : sessi
               });
           names = refl;
           held = clear;
-          goes = tt;
+          offer = λ four. absurd (omega (arith, four));
         }
 
     data-tells : Ok 0 (dataTo (find n (m .files)) m i n info)
@@ -263,20 +274,18 @@ module _ (m : Model) (i : ℕ) (there : i < length (m .sessions)) (clear : sessi
         (set (m .sessions) i (withUp noUpload (sessionAt m i)))
 
     finishes : (kind : ℕ) (f : File) → find n (m .files) ≡ some f → verdict (f .bytes) (f .size) ≡ 0 → Ok kind (turn reply.Ack whole)
-    unfolding filesBy numberBy timeBy
+    unfolding tell onAnswer onSent namedBy packetOf sentBy filesBy numberBy timeBy
     finishes kind f e v =
-        record {
-          effect = subst (λ (k : ℕ). Effect (finished k clock) m whole) (sym was-is)
-              (record {
-                before = record { own = record { file = f; found = e; time = file-is f e }; valid = v };
-                files = refl;
-                number = refl;
-                time = refl;
-              });
-          names = up-left (withUp noUpload (sessionAt m i));
-          held = held-left (withUp noUpload (sessionAt m i)) ∙ clear;
-          goes = tt;
-        }
+        leaves kind reply.Ack (m .lastNumber) (timeAt clock (m .lastTime)) (changed n (completed (timeAt clock (m .lastTime))) (m .files))
+        (withUp noUpload (sessionAt m i))
+        (subst (λ (k : ℕ). Effect (finished k clock) m whole) (sym was-is)
+        (record {
+          before = record { own = record { file = f; found = e; time = file-is f e }; valid = v };
+          files = refl;
+          number = refl;
+          time = refl;
+        }))
+        refl clear (λ four. absurd (omega (arith, four)))
 
     end-tells : (kind : ℕ) → Ok kind (dataEndTo (find n (m .files)) m i n clock)
     unfolding dataEndTo
@@ -292,32 +301,30 @@ module _ (m : Model) (i : ℕ) (there : i < length (m .sessions)) (clear : sessi
             (λ _. drops kind (verdict (f .bytes) (f .size)) noUpload refl)
 
   on-data : (u : Uplink) → sessionAt m i .up ≡ u → Ok 0 (onData u m i info)
-  unfolding onData onQuiet
+  unfolding onData tell onAnswer namedBy sentBy onQuiet
   on-data noUpload e = closes 0
   on-data (receiving n) e = data-tells n e
-  on-data ignoring e = stays 0 reply.Nothing (record { event = rw e; named = refl; goes = λ m′. tt })
+  on-data ignoring e = stays 0 reply.Nothing (record { event = rw e; named = refl; offer = λ m′ d. absurd (omega (arith, d)) })
 
   on-data-end : (u : Uplink) → sessionAt m i .up ≡ u → Ok 1 (onDataEnd u m i clock)
-  unfolding onDataEnd onQuiet
+  unfolding onDataEnd tell onAnswer namedBy sentBy onQuiet
   on-data-end noUpload e = closes 1
   on-data-end (receiving n) e = end-tells n e 1
   on-data-end ignoring e =
-      record {
-        effect = no-effect _ (withSession m i (withUp noUpload (sessionAt m i))) refl refl refl refl;
-        names = up-left (withUp noUpload (sessionAt m i)) ∙ sym (ap numberOf e);
-        held = held-left (withUp noUpload (sessionAt m i)) ∙ clear;
-        goes = tt;
-      }
+      leaves 1 reply.Nothing (m .lastNumber) (m .lastTime) (m .files) (withUp noUpload (sessionAt m i))
+      (no-effect m _ (withSession m i (withUp noUpload (sessionAt m i))) refl refl refl refl) (sym (ap numberOf e)) clear
+      (λ four. absurd (omega (arith, four)))
 
   -- ---- the other packets
 
   module _ (kind : ℕ) (other : eqb kind 0 ≡ false) where
     silent : Plain kind reply.Nothing
-    unfolding onQuiet
-    silent = record { event = rw other; named = refl; goes = λ m′. tt }
+    unfolding tell onAnswer namedBy sentBy onQuiet
+    silent = record { event = rw other; named = refl; offer = λ m′ e. absurd (omega (arith, e)) }
 
     refuses : (e : ℕ) → Ok kind (turn (reply.DownloadError e) m)
-    refuses e = stays kind (reply.DownloadError e) (record { event = refl; named = refl; goes = λ m′. tt })
+    unfolding tell onAnswer onSent namedBy packetOf sentBy
+    refuses e = stays kind (reply.DownloadError e) (record { event = refl; named = refl; offer = λ m′ e. absurd (omega (arith, e)) })
 
     file-tells : (f : Option File) (n offset lock passed : ℕ) → Ok kind (downloadOf f m i n offset lock passed)
     unfolding downloadOf
@@ -341,8 +348,9 @@ module _ (m : Model) (i : ℕ) (there : i < length (m .sessions)) (clear : sessi
         (λ _. refuses 1)
 
     aborts : (r : Reply) → (r ≡ reply.Aborted) ⊎ (r ≡ reply.Completed) → Plain kind r
-    aborts r (inl e) = subst (Plain kind) (sym e) (record { event = refl; named = refl; goes = λ m′. tt })
-    aborts r (inr e) = subst (Plain kind) (sym e) (record { event = refl; named = refl; goes = λ m′. tt })
+    unfolding tell onAnswer onSent namedBy packetOf sentBy
+    aborts r (inl e) = subst (Plain kind) (sym e) (record { event = refl; named = refl; offer = λ m′ e. absurd (omega (arith, e)) })
+    aborts r (inr e) = subst (Plain kind) (sym e) (record { event = refl; named = refl; offer = λ m′ e. absurd (omega (arith, e)) })
 
     one-of : (a b : Bool) → (cond a (cond b reply.Aborted reply.Completed) reply.Aborted ≡ reply.Aborted)
         ⊎ (cond a (cond b reply.Aborted reply.Completed) reply.Aborted ≡ reply.Completed)
@@ -360,21 +368,22 @@ module _ (m : Model) (i : ℕ) (there : i < length (m .sessions)) (clear : sessi
     ack-tells (aborting n) = closes kind
 
     nak-tells : (d : Downlink) → Ok kind (onDlNakCmd d m i)
-    unfolding onDlNakCmd
+    unfolding onDlNakCmd tell onAnswer onSent namedBy packetOf sentBy
     nak-tells noDownload = stays kind reply.Nothing silent
     nak-tells (sending n at) =
-        moves kind reply.DataEnd (withDown (aborting n) (sessionAt m i)) (record { event = refl; named = refl; goes = λ m′. tt }) refl refl
+        moves kind reply.DataEnd (withDown (aborting n) (sessionAt m i))
+        (record { event = refl; named = refl; offer = λ m′ e. absurd (omega (arith, e)) }) refl refl
     nak-tells (ended n) =
-        moves kind reply.Aborted (withDown noDownload (sessionAt m i)) (record { event = refl; named = refl; goes = λ m′. tt }) refl refl
+        moves kind reply.Aborted (withDown noDownload (sessionAt m i)) (aborts reply.Aborted (inl refl)) refl refl
     nak-tells (aborting n) = closes kind
 
     select-tells : Ok kind (onSelectCmd m i info)
-    unfolding onSelectCmd
+    unfolding onSelectCmd tell onAnswer onSent namedBy packetOf sentBy
     select-tells =
         by kind (eqb (validityOf info) 0) _ _
         (λ _.
         moves kind (reply.Selected (length (selection (m .maxsel) info (m .files)))) (withSelection (selection (m .maxsel) info (m .files)) (sessionAt m i))
-        (record { event = refl; named = refl; goes = λ m′. tt }) refl refl)
+        (record { event = refl; named = refl; offer = λ m′ e. absurd (omega (arith, e)) }) refl refl)
         (λ _. refuses 8)
 
     if-no-download : (d : Downlink) (x : Turn) → Ok kind x → Ok kind (ifNoDownload d x (closing m i))

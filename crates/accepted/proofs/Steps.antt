@@ -1,5 +1,5 @@
 -- How one event moves what the packets say of the files, and the files with it. Assumes nothing.
-use mathlib.Core.Path.{_≡_, refl, sym, ap, _∙_, subst}
+use mathlib.Core.Path.{_≡_, refl, sym, ap, ap₂, _∙_, subst}
 use mathlib.Core.Bool.{Bool, true, false, cond}
 use mathlib.Core.Logic.{_⊎_, ⊎-elim}
 use mathlib.Core.List.{List, [], _∷_, _++_, append-nil}
@@ -23,7 +23,7 @@ use Rattle.steps.proofs.Changes.{later}
 use Rattle.steps.proofs.Own.{find-away, find-behind}
 use Rattle.accepted.specs.Events.{Event, nothing, given, added, finished, dropped}
 use Rattle.accepted.specs.Accepted.{addedBy, announcedBy, givenBy, fromOne, Completion, completion, lastTime, completedBy, times}
-use Rattle.accepted.specs.Effect.{filesBy, numberBy, timeBy, Effect}
+use Rattle.accepted.specs.Effect.{filesBy, numberBy, timeBy, Adds, Finishes, Effect}
 use Rattle.accepted.specs.Agreement.{Rising, sizeOf, Holds, Listed, Stands}
 use Rattle.accepted.proofs.Files.{number-some, find-own, find-gone}
 use Rattle.accepted.proofs.Lists.{Bounded, rising-snoc, bounded-snoc, times-snoc, last-snoc, listed-old, listed-new, listed-split}
@@ -92,6 +92,34 @@ module _ (m m′ : Model) (sound : Sound m) where
   find-after (dropped k) x n =
       ap (find n) (x .files)
       ∙ by-number k n _ _ _ (λ z. ap (λ (j : ℕ). find j (without k fs)) (sym z) ∙ find-gone k fs) (λ z. find-without n k fs (λ w. z (sym w)))
+
+  -- ---- what is found after an event is its own file, or one of before
+
+  data Now (k n : ℕ) (g f : File) : Type 0 where
+    its-own : k ≡ n → g ≡ f → Now k n g f
+    old : eqb k n ≡ false → find n fs ≡ some f → Now k n g f
+
+  now-some : (k n : ℕ) (g f : File) → cond (eqb k n) (some g) (find n fs) ≡ some f → Now k n g f
+  now-some k n g f d = go (eqb k n) refl d
+    where
+      go : (b : Bool) → eqb k n ≡ b → cond b (some g) (find n fs) ≡ some f → Now k n g f
+      go true t d = its-own (eqb-true k n t) cc
+      go false t d = old t d
+
+  now-mapped : (k n : ℕ) (h : File → File) (own : Partial k fs) (f : File) → cond (eqb k n) (mapped h (find n fs)) (find n fs) ≡ some f
+      → Now k n (h (own .file)) f
+  now-mapped k n h own f d =
+      now-some k n (h (own .file)) f
+      (sym (by-number k n _ _ _
+      (λ z. ap (λ (b : Bool). cond b (mapped h (find n fs)) (find n fs)) (eq-eqb k n z) ∙ ap (mapped h) (ap (λ (j : ℕ). find j fs) (sym z) ∙ own .found))
+      (λ z. ap (λ (b : Bool). cond b (mapped h (find n fs)) (find n fs)) (ne-eqb k n z))) ∙ d)
+
+  now-gone : (k n : ℕ) (f : File) → cond (eqb k n) none (find n fs) ≡ some f → find n fs ≡ some f
+  now-gone k n f d = go (eqb k n) d
+    where
+      go : (b : Bool) → cond b none (find n fs) ≡ some f → find n fs ≡ some f
+      go true d = clash d
+      go false d = d
 
   -- ---- which files there are
 
@@ -166,14 +194,8 @@ module _ (m m′ : Model) (sound : Sound m) where
     fresh-step (dropped k) x n h = append-nil (acc n) ∙ fresh n (omega (arith, number-rises (dropped k) x))
 
     module _ (c : (n : ℕ) (f : File) → find n fs ≡ some f → Holds f (acc n)) where
-      abbrev Held : ℕ → List ℕ → Option File → Type 0
-      Held n bytes o = (f : File) → o ≡ some f → Holds f bytes
-
       same : (n : ℕ) (f : File) → Holds f (acc n) → Holds f (acc n ++ [])
       same n f = subst (Holds f) (sym (append-nil (acc n)))
-
-      old : (n : ℕ) → Held n (acc n ++ []) (find n fs)
-      old n f e = same n f (c n f e)
 
       begun : (k n size : ℕ) → k ≡ n → m .lastNumber < k → Holds (file k size [] 0) (acc n ++ [])
       begun k n size z h =
@@ -212,51 +234,33 @@ module _ (m m′ : Model) (sound : Sound m) where
             whole = λ z. omega (arith, size, ap length e);
           }
 
-      -- the event's own file, or another one
-      pick : (n : ℕ) (b : Bool) (x y : List ℕ) (o p : Option File) → (b ≡ true → Held n (acc n ++ x) o) → Held n (acc n ++ y) p
-          → Held n (acc n ++ cond b x y) (cond b o p)
-      pick n true x y o p f g = f refl
-      pick n false x y o p f g = g
-
-      either : (n : ℕ) (b : Bool) (o p : Option File) → (b ≡ true → Held n (acc n ++ []) o) → Held n (acc n ++ []) p → Held n (acc n ++ []) (cond b o p)
-      either n true o p f g = f refl
-      either n false o p f g = g
-
-      pub contents-step : (e : Event) → Effect e m m′ → (n : ℕ) → Held n (acc n ++ addedBy e n) (find n (m′ .files))
+      pub contents-step : (e : Event) → Effect e m m′ → (n : ℕ) (f : File) → find n (m′ .files) ≡ some f → Holds f (acc n ++ addedBy e n)
       unfolding addedBy
-      contents-step e x n = subst (Held n (acc n ++ addedBy e n)) (sym (find-after e x n)) (go e x)
+      contents-step e x n f found = go e x (sym (find-after e x n) ∙ found)
         where
-          is : (k : ℕ) (f : File) (h : File → File) (g : File) → k ≡ n → find k fs ≡ some f → mapped h (find n fs) ≡ some g → h f ≡ g
-          is k f h g z e d =
-              let w : some (h f) ≡ some g = sym (ap (mapped h) (ap (λ (j : ℕ). find j fs) (sym z) ∙ e)) ∙ d in cc
+          holds : (k : ℕ) (own : Partial k fs) → k ≡ n → Holds (own .file) (acc n)
+          holds k own z = c n (own .file) (ap (λ (j : ℕ). find j fs) (sym z) ∙ own .found)
 
-          holds : (k : ℕ) (f : File) → k ≡ n → find k fs ≡ some f → Holds f (acc n)
-          holds k f z e = c n f (ap (λ (j : ℕ). find j fs) (sym z) ∙ e)
+          news : (k size : ℕ) → m .lastNumber < k → Now k n (file k size [] 0) f → Holds f (acc n ++ [])
+          news k size h (its-own z w) = subst (λ (g : File). Holds g (acc n ++ [])) w (begun k n size z h)
+          news k size h (old t d) = same n f (c n f d)
 
-          go : (e : Event) → Effect e m m′ → Held n (acc n ++ addedBy e n) (foundBy e (m .lastTime) n (find n fs))
-          go nothing x = old n
-          go (given k size) x =
-              either n (eqb k n) _ _
-              (λ t f e. let z : file k size [] 0 ≡ f = cc in
-              subst (λ (g : File). Holds g (acc n ++ [])) z (begun k n size (eqb-true k n t) (omega (arith, x .before .next)))) (old n)
-          go (added k bytes) x =
-              pick n (eqb k n) bytes [] _ _
-              (λ t f e.
-              let own = x .before .own in
-              let z = eqb-true k n t in
-              subst (λ (g : File). Holds g (acc n ++ bytes)) (is k (own .file) (grown bytes) f z (own .found) e)
-              (longer n bytes (own .file) (holds k (own .file) z (own .found)) (own .time) (x .before .room)))
-              (old n)
-          go (finished k clock) x =
-              either n (eqb k n) _ _
-              (λ t f e.
-              let own = x .before .own in
-              let z = eqb-true k n t in
-              let h = completed (timeAt clock (m .lastTime)) in
-              same n f (subst (λ (g : File). Holds g (acc n)) (is k (own .file) h f z (own .found) e)
-              (finish n clock (own .file) (holds k (own .file) z (own .found)) (own .time) (x .before .valid))))
-              (old n)
-          go (dropped k) x = either n (eqb k n) _ _ (λ t f e. clash e) (old n)
+          adds : (k : ℕ) (bytes : List ℕ) (a : Adds k bytes m) → Now k n (grown bytes (a .own .file)) f → Holds f (acc n ++ cond (eqb k n) bytes [])
+          adds k bytes a (its-own z w) =
+              rw (eq-eqb k n z) (subst (λ (g : File). Holds g (acc n ++ bytes)) w (longer n bytes (a .own .file) (holds k (a .own) z) (a .own .time) (a .room)))
+          adds k bytes a (old t d) = rw t (same n f (c n f d))
+
+          ends : (k clock : ℕ) (a : Finishes k m) → Now k n (completed (timeAt clock (m .lastTime)) (a .own .file)) f → Holds f (acc n ++ [])
+          ends k clock a (its-own z w) =
+              same n f (subst (λ (g : File). Holds g (acc n)) w (finish n clock (a .own .file) (holds k (a .own) z) (a .own .time) (a .valid)))
+          ends k clock a (old t d) = same n f (c n f d)
+
+          go : (e : Event) → Effect e m m′ → foundBy e (m .lastTime) n (find n fs) ≡ some f → Holds f (acc n ++ addedBy e n)
+          go nothing x d = same n f (c n f d)
+          go (given k size) x d = news k size (omega (arith, x .before .next)) (now-some k n (file k size [] 0) f d)
+          go (added k bytes) x d = adds k bytes (x .before) (now-mapped k n (grown bytes) (x .before .own) f d)
+          go (finished k clock) x d = ends k clock (x .before) (now-mapped k n (completed (timeAt clock (m .lastTime))) (x .before .own) f d)
+          go (dropped k) x d = same n f (c n f (now-gone k n f d))
 
   -- ---- the files completed
 
@@ -286,44 +290,29 @@ module _ (m m′ : Model) (sound : Sound m) where
     unfolding completedBy
     own-step own e x n f found late = go e x (sym (find-after e x n) ∙ found)
       where
-        old : find n fs ≡ some f → Listed (completion n (f .time)) (cs ++ [])
-        old d = subst (Listed (completion n (f .time))) (sym (append-nil cs)) (own n f d late)
+        listed : find n fs ≡ some f → Listed (completion n (f .time)) (cs ++ [])
+        listed d = subst (Listed (completion n (f .time))) (sym (append-nil cs)) (own n f d late)
 
-        partial : (b : Bool) (g : File) → g .time ≡ 0 → cond b (some g) (find n fs) ≡ some f → Listed (completion n (f .time)) (cs ++ [])
-        partial true g t d = let z : g ≡ f = cc in absurd (late (ap (λ (h : File). h .time) (sym z) ∙ t))
-        partial false g t d = old d
+        partial : (k : ℕ) (g : File) → g .time ≡ 0 → Now k n g f → Listed (completion n (f .time)) (cs ++ [])
+        partial k g t (its-own z w) = absurd (late (ap (λ (h : File). h .time) (sym w) ∙ t))
+        partial k g t (old q d) = listed d
 
-        grows : (k : ℕ) (bytes : List ℕ) → Partial k fs → (b : Bool) → eqb k n ≡ b → cond b (mapped (grown bytes) (find n fs)) (find n fs) ≡ some f
-            → Listed (completion n (f .time)) (cs ++ [])
-        grows k bytes p true t d =
-            partial true (grown bytes (p .file)) (p .time) (sym (ap (mapped (grown bytes)) (ap (λ (j : ℕ). find j fs) (sym (eqb-true k n t)) ∙ p .found)) ∙ d)
-        grows k bytes p false t d = old d
-
-        finishes : (k clock : ℕ) → Partial k fs → (b : Bool) → eqb k n ≡ b
-            → cond b (mapped (completed (timeAt clock (m .lastTime))) (find n fs)) (find n fs) ≡ some f
+        finishes : (k clock : ℕ) (p : Partial k fs) → Now k n (completed (timeAt clock (m .lastTime)) (p .file)) f
             → Listed (completion n (f .time)) (cs ++ completion k (timeAt clock (lastTime cs)) ∷ [])
-        finishes k clock p true t d =
-            let z = eqb-true k n t in
-            let h = completed (timeAt clock (m .lastTime)) in
-            let w : some (h (p .file)) ≡ some f = sym (ap (mapped h) (ap (λ (j : ℕ). find j fs) (sym z) ∙ p .found)) ∙ d in
-            let v : h (p .file) ≡ f = cc in
-            let a : timeAt clock (lastTime cs) ≡ f .time = ap (timeAt clock) last ∙ ap (λ (g : File). g .time) v in
-            subst (λ (j : ℕ). Listed (completion n (f .time)) (cs ++ completion j (timeAt clock (lastTime cs)) ∷ [])) (sym z)
-            (subst (λ (t : ℕ). Listed (completion n t) (cs ++ completion n (timeAt clock (lastTime cs)) ∷ [])) a
-            (listed-new (completion n (timeAt clock (lastTime cs))) cs))
-        finishes k clock p false t d = listed-old (completion n (f .time)) (completion k (timeAt clock (lastTime cs))) cs (own n f d late)
-
-        gone : (b : Bool) → cond b none (find n fs) ≡ some f → Listed (completion n (f .time)) (cs ++ [])
-        gone true d = clash d
-        gone false d = old d
+        finishes k clock p (its-own z w) =
+            let a : timeAt clock (lastTime cs) ≡ f .time = ap (timeAt clock) last ∙ ap (λ (g : File). g .time) w in
+            subst (λ (c : Completion). Listed c (cs ++ completion k (timeAt clock (lastTime cs)) ∷ [])) (ap₂ completion z a)
+            (listed-new (completion k (timeAt clock (lastTime cs))) cs)
+        finishes k clock p (old q d) = listed-old (completion n (f .time)) (completion k (timeAt clock (lastTime cs))) cs (own n f d late)
 
         go : (e : Event) → Effect e m m′ → foundBy e (m .lastTime) n (find n fs) ≡ some f
             → Listed (completion n (f .time)) (cs ++ completedBy e (lastTime cs))
-        go nothing x d = old d
-        go (given k size) x d = partial (eqb k n) (file k size [] 0) refl d
-        go (added k bytes) x d = grows k bytes (x .before .own) (eqb k n) refl d
-        go (finished k clock) x d = finishes k clock (x .before .own) (eqb k n) refl d
-        go (dropped k) x d = gone (eqb k n) d
+        go nothing x d = listed d
+        go (given k size) x d = partial k (file k size [] 0) refl (now-some k n (file k size [] 0) f d)
+        go (added k bytes) x d =
+            partial k (grown bytes (x .before .own .file)) (x .before .own .time) (now-mapped k n (grown bytes) (x .before .own) f d)
+        go (finished k clock) x d = finishes k clock (x .before .own) (now-mapped k n (completed (timeAt clock (m .lastTime))) (x .before .own) f d)
+        go (dropped k) x d = listed (now-gone k n f d)
 
     pub kept-step : Kept fs cs → (e : Event) → Effect e m m′ → Kept (m′ .files) (cs ++ completedBy e (lastTime cs))
     unfolding completedBy
@@ -343,7 +332,8 @@ module _ (m m′ : Model) (sound : Sound m) where
             let h = completed (timeAt clock (m .lastTime)) in
             record {
               file = h (own .file);
-              found = find-after (finished k clock) x k ∙ ap (λ (b : Bool). cond b (mapped h (find k fs)) (find k fs)) (eq-eqb k k refl) ∙ ap (mapped h) (own .found);
+              found = find-after (finished k clock) x k ∙ ap (λ (b : Bool). cond b (mapped h (find k fs)) (find k fs)) (eq-eqb k k refl)
+                  ∙ ap (mapped h) (own .found);
               complete = λ z. omega (arith, later clock (m .lastTime), z);
               time = ap (timeAt clock) (sym last);
             }

@@ -1,6 +1,6 @@
 -- What the packets say of the files holds of the machine after every history: by one step for each call. Assumes nothing.
-use mathlib.Core.Path.{_≡_, refl, sym, ap, _∙_, subst}
-use mathlib.Core.Bool.{Bool, true, false, cond}
+use mathlib.Core.Path.{_≡_, refl, sym, ap, ap₂, _∙_, subst}
+use mathlib.Core.Bool.{Bool, cond}
 use mathlib.Core.List.{List, [], _∷_}
 use mathlib.Core.Option.{none}
 use Prim.Native.Nat.{ℕ, zero, suc, _≤_, _<_}
@@ -55,9 +55,8 @@ module _ (m : Model) (t : Transcript) (y : Story m t) (c : Call) where
   pub as-told : Told m t c
   as-told =
       subst (λ (e : Event). Effect e m (step m c .after))
-      (ap (λ (bytes : List ℕ). eventBy (numberOf (sessionAt m i .up)) (heardBy c (step m c .told .answer) bytes) c (step m c .told .answer) (step m c .told .out))
-      (y .unfinished i)
-      ∙ ap (λ (n : ℕ). eventBy n (heardBy c (step m c .told .answer) (linkBytes t i)) c (step m c .told .answer) (step m c .told .out)) (y .under i))
+      (ap₂ (λ (n : ℕ) (bytes : List ℕ). eventBy n (heardBy c (step m c .told .answer) bytes) c (step m c .told .answer) (step m c .told .out)) (y .under i)
+      (y .unfinished i))
       (acts .effect)
 
   -- the call's own session, or another one

@@ -29,11 +29,13 @@ use Rattle.accepted.specs.Exchange.{Exchange, sessionOf, sentIn, Transcr
 use Rattle.accepted.specs.Link.{heardBy, heardIn, infoOf, infoIn}
 use Rattle.accepted.specs.Events.{nothing, given, uploadOf, onGo, onSent, onAnswer, eventBy}
 use Rattle.accepted.specs.Accepted.{addedBy, accepted, reserved, total, numbersGiven, fromOne, blocksOf}
-use Rattle.accepted.specs.Agreement.{NumbersOnce, BlocksReserved, numberOf, Outside, OnlyFour, FourFields, StaysValid, Offered, Offers, OwnFile, Agrees, EveryTranscript}
+use Rattle.accepted.specs.Agreement.{NumbersOnce, BlocksReserved, numberOf, Outside, OnlyFour, FourFields, StaysValid, Offered, Offers, OwnFile}
+use Rattle.accepted.specs.Agreement.{Agrees, EveryTranscript}
 use Rattle.accepted.proofs.Files.{found-number, number-some, numbers-rise, total-same, blocksIn, reserved-total, reserved-some}
 use Rattle.accepted.proofs.Lists.{from-one-length, from-one-rising}
 use Rattle.accepted.proofs.Bytes.{accepted-bytes}
-use Rattle.accepted.proofs.Calls.{Gone, call-acts}
+use Rattle.accepted.proofs.Packets.{Gone}
+use Rattle.accepted.proofs.Calls.{call-acts}
 use Rattle.accepted.proofs.Story.{Story, as-told, story-step, story}
 
 module _ (m : Model) (t : Transcript) (y : Story m t) where
@@ -168,12 +170,10 @@ module _ (m : Model) (t : Transcript) (y : Story m t) (few : m .blocks ≤ 4096)
     where
       given : Gone (sentIn x) (infoIn t x) m′ → Offered t (infoIn t x) (sentIn x)
       given g =
-          let own = g .going .own in
           record {
-            offset = g .offset-is (subst (λ (n : ℕ). n < 4294967296) (sym (g .going .offset-is)) (small (g .number) own)) ∙ g .going .offset-is
-                ∙ ap length (as-accepted four (g .number) own)
+            offset = g .offset-is (small (g .number) (g .own)) ∙ ap length (as-accepted four (g .number) (g .own))
                 ∙ ap (λ (n : ℕ). length (accepted t n)) (sym (g .number-is));
-            number = λ z. g .number-is ∙ g .going .number z;
+            number = λ z. g .number-is ∙ g .asked z;
           }
 
 -- ---- AFTER ANY CALLS

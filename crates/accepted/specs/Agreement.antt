@@ -17,7 +17,7 @@ use Rattle.model.specs.Files as files
 use Rattle.model.specs.Files.{find}
 use Rattle.model.specs.Step.{step, run}
 use Rattle.steps.specs.Parts.{typeOf}
-use Rattle.accepted.specs.Exchange.{Exchange, sessionOf, sentIn, Transcript, blank, _▹_, exchanged, transcript}
+use Rattle.accepted.specs.Exchange.{sessionOf, sentIn, Transcript, blank, _▹_, exchanged, transcript}
 use Rattle.accepted.specs.Link.{linkBytes, infoIn}
 use Rattle.accepted.specs.Events.{uploadOf, eventIn}
 use Rattle.accepted.specs.Accepted.{accepted, announced, reserved, total, numbersGiven, fromOne, Completion, completion, completions, times}

@@ -6,11 +6,8 @@ use Prim.Native.Nat.{ℕ, _*_, _-_, _≤_, _<_}
 use native.Mathlib.Omega.{arith}
 use borrow.Author.Tests.{le-ltb, ne-eqb, ltb-true, ltb-false, leb-true, eqb-false}
 use lib.Dec.{eqb, leb, ltb}
-use lib.ListN.{length, drop, length-drop, List·getD-eq-default}
+use lib.ListN.{length, drop, length-drop}
 use lib.Seq.{length-take-le}
-use Rattle.blocks.proofs.Bits.{by-lt}
-use Rattle.session.specs.declared.state.Session.{Session}
-use Rattle.session.specs.State.{closedSession}
 use Rattle.table.specs.Table.{files}
 use Rattle.files.specs.Sound.{soundTest, Sound, Sizes}
 use Rattle.files.proofs.Soundness.{sound-facts}
@@ -250,19 +247,6 @@ state-facts sv l f s =
           store-sizes = record { some = omega (arith, some .0); most = omega (arith, z .blocks); bytes = omega (arith, r .disk) };
           sessions = links.sound-facts (files (tablePart sv l)) (sv .sessions) (sv .most) (l .selected) (l .held) (sv .links) u;
         }
-
--- an open session is one of the four, and of the sessions that there are
-pub linked-below : (sv : Server) (l : Lent)
-    → links.LinksFacts (files (tablePart sv l)) (sv .sessions) (sv .most) (l .selected) (l .held) (sv .links)
-    → length (sv .links) ≡ 4
-    → (i : ℕ)
-    → linkOf sv i .linked ≡ true
-    → i < sv .sessions
-linked-below sv l f n i e =
-    by-lt i (sv .sessions) (λ h. h)
-    (λ h. absurd (by-lt i 4
-    (λ k. clash (sym (f .beyond i h k) ∙ e))
-    (λ k. clash (sym (ap (λ (s : Session). s .linked) (List·getD-eq-default (sv .links) closedSession {n = i} (omega arith))) ∙ e))))
 
 -- a session's part of the unfinished packets, and of the selections, is lent whole
 pub part-length : (l : List ℕ) (i parts n : ℕ) → i < parts → parts * n ≤ length l → length (part (i * n) n l) ≡ n

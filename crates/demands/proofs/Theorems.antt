@@ -4,7 +4,7 @@ use mathlib.Core.Bool.{true}
 use mathlib.Core.List.{List, [], _∷_}
 use mathlib.Core.Option.{Option}
 use mathlib.Core.Logic.{_⊎_, inl, inr, ⊎-elim}
-use Prim.Native.Nat.{ℕ, zero, suc, _+_, _≤_, _<_}
+use Prim.Native.Nat.{ℕ, zero, suc, _+_, _<_}
 use native.Mathlib.Omega.{arith}
 use native.Mathlib.Numerals.{add-one}
 use borrow.Author.Tests.{eq-eqb}
@@ -14,7 +14,6 @@ use Rattle.blocks.specs.Owners.{blocks}
 use Rattle.blocks.proofs.Agreement.{free-and-held, free-or-one}
 use Rattle.session.specs.Reply.{Told}
 use Rattle.table.specs.declared.File as table
-use Rattle.table.specs.Given.{blocksFor}
 use Rattle.table.specs.Table.{noFile, files, numbers}
 use Rattle.files.specs.Sound.{places}
 use Rattle.files.proofs.Soundness.{file-blocks, free-blocks}
@@ -29,7 +28,7 @@ use Rattle.history.proofs.Kept.{call-change}
 use Rattle.model.specs.State.{File, Model, empty}
 use Rattle.model.specs.Files as model
 use Rattle.model.specs.Files.{find, free}
-use Rattle.model.specs.Step.{step, run}
+use Rattle.model.specs.Step.{step}
 use Rattle.accepted.specs.Exchange.{Exchange, exchange, Transcript, _▹_, exchanged, transcript}
 use Rattle.accepted.specs.Accepted.{blocksOf, reserved}
 use Rattle.accepted.specs.Agreement.{sizeOf, Agrees}
@@ -38,7 +37,7 @@ use Rattle.views.specs.View.{view}
 use Rattle.views.proofs.Views.{found-at, placed-at}
 use Rattle.views.proofs.Counting.{reserved-is, free-is}
 use Rattle.refines.proofs.Refining.{every-call, every-history}
-use Rattle.demands.specs.Demand3.{serverAt, lentAt, filesAt, modelAt, exchangedAt, transcriptAt, Live, ByPlace, Free, Owned, EachBlock, BlocksHeld, Demand3}
+use Rattle.demands.specs.Demand3.{serverAt, lentAt, filesAt, modelAt, exchangedAt, transcriptAt, Live, ByPlace, Free, Owned, EachBlock, BlocksHeld}
 
 -- ---- of one good state
 
@@ -108,7 +107,8 @@ module _ (s : Start) (ok : legal s ≡ true) where
   pub agrees : (h : History) → Agrees (modelAt s h) (transcriptAt s h)
   agrees h =
       subst (Agrees (modelAt s h)) (sym (transcript-is h))
-      (every-transcript (s .blocks) (s .files) (s .sessions) (s .most) (omega (arith, facts (serverAt s h) (lentAt s h) (good h) .sizes .blocks, blocks-made h)) h)
+      (every-transcript (s .blocks) (s .files) (s .sessions) (s .most)
+      (omega (arith, facts (serverAt s h) (lentAt s h) (good h) .sizes .blocks, blocks-made h)) h)
 
   -- by place
   pub by-place : (h : History) → ByPlace s h

@@ -22,7 +22,7 @@ use Rattle.input.specs.Parts.{bytesFrom}
 use Rattle.script.specs.Doing.{restsOf}
 use Rattle.input.specs.Input.{findOf, shiftOf}
 use Rattle.script.specs.Day.{beginOf}
-use Rattle.script.specs.Sheet.{firstLine, errorThenLast, sheetOf}
+use Rattle.script.specs.Sheet.{firstLine, Counted, sheetOf}
 use Rattle.script.proofs.Reaching.{begin-server}
 use Rattle.script.proofs.Agreeing.{Agree, drop-take}
 use Rattle.script.proofs.Commands.{begin-session, ReadsLine, reads-line}
@@ -30,11 +30,11 @@ use Rattle.input.proofs.Finding.{LineFound, find-line, find-part}
 use Rattle.script.proofs.SheetLaws.{toCome, readable, not-readable, lines-unreadable, lines-begin-in}
 use Rattle.passday.specs.declared.pass.Pass.{Pass}
 use Rattle.passday.specs.declared.pass.Stage.the-variants as stage
-use Rattle.passday.specs.Pass.{Memory, memory, passing, overOf, withStage, leastOf, wrapped, unread, beyond, begunAs, begunOf}
-use Rattle.passday.specs.Pass.{waitingText, keptOf, filledTo}
-use Rattle.passday.specs.Run.{MayFollow, PrintsSheet}
-use Rattle.passday.proofs.Holding.{least-first, least-second, wrapped-same, remaining, Holds, Standing, going, over, ends-with, few-lines}
-use Rattle.passday.proofs.Holding.{error-last, as-lines}
+use Rattle.passday.specs.Pass.{Memory, memory, passing, leastOf, wrapped, unread, errorOf, beyond, begunAs, readAt, begunOf, waitingText}
+use Rattle.passday.specs.Pass.{keptOf, filledTo}
+use Rattle.passday.specs.Run.{MayFollow}
+use Rattle.passday.proofs.Holding.{least-first, least-second, wrapped-same, remaining, Holds, few-lines, as-lines}
+use Rattle.passday.proofs.Ending.{Standing, going, last, error-stage, ends-error}
 
 clash : false ≡ true → ⊥
 clash e = let z : _≡_ {A = ℕ} 0 1 = cc in omega arith
@@ -86,17 +86,17 @@ rests-agree (doing.Dropping session) a b e = tt
 rests-agree (doing.Hearing session at n) a b e = absurd (clash e)
 rests-agree (doing.Pumping session) a b e = tt
 
-begun-on : (p : Pass) (to : ℕ) (c : Command) → readable c ≡ true → begunAs p to c ≡ beyond p to c
+begun-on : (p : Pass) (to : ℕ) (c : Command) (m : Memory) → readable c ≡ true → begunAs p to c m ≡ passing (beyond p to c) m
 unfolding readable begunAs
-begun-on p to command.Unreadable e = absurd (clash e)
-begun-on p to (command.Time clock) e = refl
-begun-on p to (command.Open session) e = refl
-begun-on p to (command.Drop session) e = refl
-begun-on p to (command.Rx session n) e = refl
+begun-on p to command.Unreadable m e = absurd (clash e)
+begun-on p to (command.Time clock) m e = refl
+begun-on p to (command.Open session) m e = refl
+begun-on p to (command.Drop session) m e = refl
+begun-on p to (command.Rx session n) m e = refl
 
-begun-over : (p : Pass) (to : ℕ) (c : Command) → c ≡ command.Unreadable → begunAs p to c ≡ withStage p stage.Unreadable
+begun-last : (p : Pass) (to : ℕ) (c : Command) (m : Memory) → c ≡ command.Unreadable → begunAs p to c m ≡ errorOf p m
 unfolding begunAs
-begun-over p to c e = rw e
+begun-last p to c m e = rw e
 
 module _ (s : Start) (read wrote : List ℕ) (p : Pass) (m : Memory) (h : Holds s read wrote p m) where
   abbrev u : List ℕ
@@ -135,13 +135,16 @@ module _ (s : Start) (read wrote : List ℕ) (p : Pass) (m : Memory) (h : Holds 
     reads =
         reads-line (p .day) line (m .bytes) (omega (arith, here .most, length-take-le n u (here .within))) (h .room .bytes)
 
-    begun-is : begunOf p n m
-        ≡ passing (begunAs p (wrapped (p .from + n)) (commandOf line)) (memory (m .lent) (m .input) bytes (m .text))
+    begun-is : begunOf p n m ≡ begunAs p (wrapped (p .from + n)) (commandOf line) (memory (m .lent) (m .input) bytes (m .text))
     unfolding begunOf
     begun-is =
-        ap (λ (l : List ℕ). passing (begunAs p (wrapped (p .from + n)) (readOf l (m .bytes) .command))
+        ap (λ (l : List ℕ). begunAs p (wrapped (p .from + n)) (readOf l (m .bytes) .command)
         (memory (m .lent) (m .input) (readOf l (m .bytes) .bytes) (m .text))) line-is
-        ∙ ap (λ (c : Command). passing (begunAs p (wrapped (p .from + n)) c) (memory (m .lent) (m .input) bytes (m .text))) (reads .command)
+        ∙ ap (λ (c : Command). begunAs p (wrapped (p .from + n)) c (memory (m .lent) (m .input) bytes (m .text))) (reads .command)
+
+    -- the command of the line that is read in place
+    read-is : readAt p n m .command ≡ commandOf line
+    read-is = ap (λ (l : List ℕ). readOf l (m .bytes) .command) line-is ∙ reads .command
 
     from-is : leastOf (wrapped (wrapped (p .from + n) + 1)) (p .end) ≡ leastOf (p .from + (n + 1)) (p .end)
     from-is =
@@ -204,28 +207,27 @@ module _ (s : Start) (read wrote : List ℕ) (p : Pass) (m : Memory) (h : Holds 
           sheet = λ rest f. h .sheet rest f ∙ ap (λ (x : List ℕ). firstLine ++ (wrote ++ (waitingText p (m .text) ++ x))) (on c rest f);
         }
 
-    prints-unreadable : commandOf line ≡ command.Unreadable
-        → PrintsSheet s read wrote (passing (withStage p stage.Unreadable) (memory (m .lent) (m .input) bytes (m .text)))
-    prints-unreadable c =
-        ends-with s read wrote p m h stage.Unreadable bytes (errorThenLast (p .lines + 1) (m .lent))
-        (λ rest f. as-lines s read wrote p m h rests rest
-        ∙ lines-unreadable (p .day) (m .lent) (p .lines + 1) n (u ++ rest) (lf rest f .found)
-        (ap commandOf (take-append-le n u rest (here .within)) ∙ c))
-        (error-last s read wrote p m h bytes small)
+    module _ (counted : readAt p n m .command ≡ command.Unreadable → Counted (m .lent .map) (m .lent .owner))
+        (room : 560 ≤ length (m .text) - p .filled) where
+      stands-unreadable : commandOf line ≡ command.Unreadable → Standing s read wrote (errorOf p (memory (m .lent) (m .input) bytes (m .text)))
+      stands-unreadable c =
+          let k = counted (read-is ∙ c) in
+          last (error-stage s read wrote p m h k room small bytes)
+          (ends-error s read wrote p m h k room small bytes
+          (λ rest f. as-lines s read wrote p m h rests rest
+          ∙ lines-unreadable (p .day) (m .lent) (p .lines + 1) n (u ++ rest) (lf rest f .found)
+          (ap commandOf (take-append-le n u rest (here .within)) ∙ c)))
 
-    over-unreadable : overOf stage.Unreadable ≡ true
-    unfolding overOf
-    over-unreadable = refl
-
-    pub stands-line : p .stage ≡ stage.Going → Standing s read wrote (begunOf p n m)
-    stands-line g = rw begun-is (go (readable (commandOf line)) refl)
-      where
-        go : (t : Bool) → readable (commandOf line) ≡ t
-            → Standing s read wrote (passing (begunAs p (wrapped (p .from + n)) (commandOf line)) (memory (m .lent) (m .input) bytes (m .text)))
-        go true c = rw (begun-on p (wrapped (p .from + n)) (commandOf line) c) (going g (holds-begun c))
-        go false c =
-            let z = not-readable (commandOf line) c in
-            rw (begun-over p (wrapped (p .from + n)) (commandOf line) z) (over over-unreadable (prints-unreadable z))
+      pub stands-line : p .stage ≡ stage.Going → Standing s read wrote (begunOf p n m)
+      stands-line g = rw begun-is (go (readable (commandOf line)) refl)
+        where
+          go : (t : Bool) → readable (commandOf line) ≡ t
+              → Standing s read wrote (begunAs p (wrapped (p .from + n)) (commandOf line) (memory (m .lent) (m .input) bytes (m .text)))
+          go true c =
+              rw (begun-on p (wrapped (p .from + n)) (commandOf line) (memory (m .lent) (m .input) bytes (m .text)) c) (going g (holds-begun c))
+          go false c =
+              let z = not-readable (commandOf line) c in
+              rw (begun-last p (wrapped (p .from + n)) (commandOf line) (memory (m .lent) (m .input) bytes (m .text)) z) (stands-unreadable z)
 
   -- ---- more input
 

@@ -1,6 +1,6 @@
 // The script program: reads a script's lines from standard input, runs them against a server of 128 blocks, 32 files, 4 sessions and MAXSEL 50, and
-// prints what it answers. All but reading and writing is done by the crate script. In whatever pieces the input comes, what the program writes is the
-// sheet of the script that it read (specs/Run.antt, Whole.antt).
+// prints what it answers. All but reading and writing is done by the crate script. In whatever pieces the input comes, the program goes on until the
+// script ends, and what it then has written is the sheet of the script that it read (specs/Run.antt, Whole.antt).
 mod pass;
 
 use libc::STDOUT_FILENO;
@@ -11,9 +11,9 @@ ghost use lib.ListN.{length};
 ghost use Rattle.server.specs.State.{lent};
 ghost use Rattle.passday.specs.Pass.{memory, passing, overOf};
 ghost use Rattle.passday.specs.Run.{Played};
-ghost use Rattle.passday.specs.Whole.{Ready, PlayedAll};
+ghost use Rattle.passday.specs.Whole.{Ready, PlayedAll, RanInMemory};
 
-// Turns of the program. Nothing says that the input ends, so they are counted down from a number that no run uses up.
+// Turns of the program, until it is over. Nothing says that the input ends, so they are counted down from a number that no run uses up.
 fn play(
     start: Pass,
     disk: &mut [u8],
@@ -49,10 +49,7 @@ fn play(
             bytes,
             text,
         );
-        if pass::is_over(pass) {
-            return pass;
-        }
-        turns -= 1;
+        turns = pass::turns_left(pass, turns);
     }
     pass
 }
@@ -114,8 +111,10 @@ fn blank_text() -> [u8; 65536]
     [0u8; 65536]
 }
 
-// The program's memory, what is done in it, and what is printed last.
-fn run_in_memory() {
+// The program's memory, and what is done in it.
+fn run_in_memory() -> Pass
+    ensures { λ r. ⌜ RanInMemory r ⌝ }
+{
     let mut disk = blank_disk();
     let mut map = [0u64; 2];
     let mut owner = [0u16; 128];
@@ -125,7 +124,7 @@ fn run_in_memory() {
     let mut input = blank_input();
     let mut bytes = blank_text();
     let mut text = blank_text();
-    let end = run(
+    run(
         &mut disk,
         &mut map,
         &mut owner,
@@ -135,8 +134,7 @@ fn run_in_memory() {
         &mut input,
         &mut bytes,
         &mut text,
-    );
-    pass::finish(end, &map, &owner, &mut text);
+    )
 }
 
 // Where the first line can't be written, nothing is.

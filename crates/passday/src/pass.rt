@@ -1,27 +1,27 @@
-// The program between two turns, and a turn of it: a step of the line that is being run, the next line, more input, or output written.
+// The program between two turns, and a turn of it: a step of the line that is being run, the next line, the last lines, more input, or output written.
 use input::Found;
 use input::parts::least;
 use libc::STDIN_FILENO;
 use libc::STDOUT_FILENO;
 use lines::Command;
 use script::Day;
+use script::Stepped;
 use script::doing::Doing;
 use server::Server;
 use std::num::wrapping_add_usize;
 ghost use mathlib.Core.Path.{_≡_};
-ghost use mathlib.Core.Bool.{true};
+ghost use mathlib.Core.Bool.{cond};
 ghost use mathlib.Core.List.{List};
-ghost use Prim.Native.Nat.{ℕ, _+_};
-ghost use lib.ListN.{take};
-ghost use Rattle.blocks.specs.FreeMap.{freeCount};
-ghost use Rattle.blocks.specs.Owners.{heldCount};
-ghost use Rattle.server.specs.State.{Lent, lent};
-ghost use Rattle.lines.specs.Lines.{printedIn, errorLine, blocksLine};
+ghost use Prim.Native.Nat.{ℕ, _+_, _-_};
+ghost use Rattle.server.specs.State.{lent};
+ghost use Rattle.lines.specs.declared.commands.Command.the-variants as command;
+ghost use Rattle.lines.specs.Commands.{readOf};
+ghost use Rattle.input.specs.Parts.{bytesFrom};
 ghost use Rattle.input.specs.Input.{findOf};
-ghost use Rattle.passday.specs.declared.pass.Stage.the-variants as stage;
-ghost use Rattle.passday.specs.Pass.{memory, passing, newOf, overOf, withStage, wrapped, flushOrFill, onFound, unread, decideOf, steppedOf};
-ghost use Rattle.passday.specs.Pass.{begunOf, Turned};
-ghost use Rattle.passday.specs.Narrow.{readableOf, Flushed, Filled, lastText};
+ghost use Rattle.script.specs.Sheet.{Counted};
+ghost use Rattle.passday.specs.Pass.{memory, passing, passOf, newOf, overOf, withStage, leastOf, wrapped, flushOrFill, onFound, unread};
+ghost use Rattle.passday.specs.Pass.{writesFirst, decideOf, lastOf, errorOf, beyond, begunOf, writtenStage, Turned};
+ghost use Rattle.passday.specs.Narrow.{readableOf, Flushed, Filled};
 
 // The script, where the bytes that are not yet read as lines stand in the input, whether the input has ended, the number of lines begun, and how
 // many bytes of the text wait to be written.
@@ -35,11 +35,11 @@ pub struct Pass {
     stage: Stage,
 }
 
-// Going on, or over: at the end of the script, at a line that can't be read, or where nothing more can be written.
+// Going on; with the last lines put and only writing left; over with all written; or over because writing failed.
 pub enum Stage {
     Going,
+    Last,
     Done,
-    Unreadable,
     Broken,
 }
 
@@ -49,7 +49,8 @@ enum Next {
     Line(usize),
     Flush,
     Fill,
-    Stop(Stage),
+    Last,
+    Error,
 }
 
 pub(crate) fn new_pass(server: Server) -> Pass
@@ -71,16 +72,29 @@ pub(crate) fn new_pass(server: Server) -> Pass
     }
 }
 
-pub(crate) fn is_over(pass: Pass) -> bool
+fn is_over(pass: Pass) -> bool
     ensures { λ r. ⌜ r ≡ overOf (pass .stage) ⌝ }
 {
     let stage = pass.stage;
     match stage {
         Stage::Going => false,
+        Stage::Last => false,
         Stage::Done => true,
-        Stage::Unreadable => true,
         Stage::Broken => true,
     }
+}
+
+// How many turns are left after a turn: none where the program is over, and else one less.
+pub(crate) fn turns_left(pass: Pass, turns: u64) -> u64
+    ensures { λ r. ⌜ r ≡ cond (overOf (pass .stage)) 0 (turns - 1) ⌝ }
+{
+    if is_over(pass) {
+        return 0;
+    }
+    if 0 < turns {
+        return turns - 1;
+    }
+    0
 }
 
 fn with_stage(pass: Pass, stage: Stage) -> Pass
@@ -115,69 +129,89 @@ fn next_line(pass: Pass, input: &[u8]) -> Next
     match input::find_line(input, pass.from, pass.end, pass.ended) {
         Found::Part => flush_or_fill(pass),
         Found::Line(n) => Next::Line(n),
-        Found::TooLong => Next::Stop(Stage::Unreadable),
-        Found::Nothing => Next::Stop(Stage::Done),
+        Found::TooLong => Next::Error,
+        Found::Nothing => Next::Last,
     }
 }
 
-// A line that is being run is stepped while the text, of `size` bytes, has room for what it prints.
+// Whether what waits is written first: where the text, of `size` bytes, has not room for any line, and where only writing is left.
+fn writes_first(stage: Stage, filled: usize, size: usize) -> bool
+    ensures { λ r. ⌜ r ≡ writesFirst stage filled size ⌝ }
+{
+    match stage {
+        Stage::Going => input::parts::rest(filled, size, size) < script::ROOM,
+        Stage::Last => true,
+        Stage::Done => true,
+        Stage::Broken => true,
+    }
+}
+
+// What is to be done next. A line that is being run is stepped to its end before the next.
 fn decide(pass: Pass, input: &[u8], size: usize) -> Next
     ensures { λ r. ⌜ r ≡ decideOf pass (now (input .entry)) size ⌝ }
 {
+    let stage = pass.stage;
     let day = pass.day;
     let doing = day.doing;
+    if writes_first(stage, pass.filled, size) {
+        return Next::Flush;
+    }
     if script::doing::rests(doing) {
         return next_line(pass, input);
-    }
-    if input::parts::rest(pass.filled, size, size) < script::ROOM {
-        return Next::Flush;
     }
     Next::Step
 }
 
-// One call of the server for the line that is being run, and its line.
-fn step(
-    pass: Pass,
-    disk: &mut [u8],
-    map: &mut [u64],
-    owner: &mut [u16],
-    table: &mut [u32],
-    selected: &mut [u32],
-    held: &mut [u8],
-    bytes: &[u8],
-    text: &mut [u8],
-) -> Pass
-    ensures { λ r. ⌜ ((input : List ℕ) → passing r (memory
-        (lent (now (disk .exit)) (now (map .exit)) (now (owner .exit)) (now (table .exit)) (now (selected .exit)) (now (held .exit)))
-        input (now (bytes .entry)) (now (text .exit)))
-        ≡ steppedOf pass (memory
-        (lent (now (disk .entry)) (now (map .entry)) (now (owner .entry)) (now (table .entry)) (now (selected .entry)) (now (held .entry)))
-        input (now (bytes .entry)) (now (text .entry)))) ⌝ }
+// With so many bytes more in the text behind its first `at`.
+fn with_more(pass: Pass, day: Day, at: usize, more: usize, stage: Stage) -> Pass
+    ensures { λ r. ⌜ r ≡ passOf day (pass .from) (pass .end) (pass .ended) (pass .lines) (wrapped (at + more)) stage ⌝ }
 {
-    let day = pass.day;
-    let stage = pass.stage;
-    let at = least(pass.filled, text.len());
-    let s = script::step(
-        day,
-        disk,
-        map,
-        owner,
-        table,
-        selected,
-        held,
-        bytes,
-        &mut text[at..],
-    );
-    let next = s.day;
     Pass {
-        day: next,
+        day: day,
         from: pass.from,
         end: pass.end,
         ended: pass.ended,
         lines: pass.lines,
-        filled: wrapping_add_usize(at, s.written),
+        filled: wrapping_add_usize(at, more),
         stage: stage,
     }
+}
+
+// After a step, in a text of `size` bytes.
+fn stepped(pass: Pass, s: Stepped, size: usize) -> Pass
+    ensures { λ r. ⌜ r ≡ passOf (s .day) (pass .from) (pass .end) (pass .ended) (pass .lines)
+        (wrapped (leastOf (pass .filled) size + s .written)) (pass .stage) ⌝ }
+{
+    let day = s.day;
+    let stage = pass.stage;
+    with_more(pass, day, least(pass.filled, size), s.written, stage)
+}
+
+// Puts the last line behind what waits. Then only writing is left.
+fn put_last(pass: Pass, map: &[u64], owner: &[u16], text: &mut [u8]) -> Pass
+    ensures { λ r. ⌜ ((disk table selected held input bytes : List ℕ)
+        → passing r (memory (lent disk (now (map .entry)) (now (owner .entry)) table selected held) input bytes (now (text .exit)))
+        ≡ lastOf pass (memory (lent disk (now (map .entry)) (now (owner .entry)) table selected held) input bytes (now (text .entry)))) ⌝ }
+    ensures { λ _. ⌜ Counted (now (map .entry)) (now (owner .entry)) ⌝ }
+{
+    let day = pass.day;
+    let at = least(pass.filled, text.len());
+    let n = script::blocks(map, owner, &mut text[at..]);
+    with_more(pass, day, at, n, Stage::Last)
+}
+
+// The same with the line of the line that can't be read before it.
+fn put_error(pass: Pass, map: &[u64], owner: &[u16], text: &mut [u8]) -> Pass
+    ensures { λ r. ⌜ ((disk table selected held input bytes : List ℕ)
+        → passing r (memory (lent disk (now (map .entry)) (now (owner .entry)) table selected held) input bytes (now (text .exit)))
+        ≡ errorOf pass (memory (lent disk (now (map .entry)) (now (owner .entry)) table selected held) input bytes (now (text .entry)))) ⌝ }
+    ensures { λ _. ⌜ Counted (now (map .entry)) (now (owner .entry)) ⌝ }
+{
+    let day = pass.day;
+    let stage = pass.stage;
+    let at = least(pass.filled, text.len());
+    let n = lines::error_line(wrapping_add_usize(pass.lines, 1), &mut text[at..]);
+    put_last(with_more(pass, day, at, n, stage), map, owner, text)
 }
 
 fn is_readable(command: Command) -> bool
@@ -192,34 +226,66 @@ fn is_readable(command: Command) -> bool
     }
 }
 
-// Begins the line of n bytes that stands next in the input, and passes over its newline.
-fn begin_line(pass: Pass, n: usize, input: &[u8], bytes: &mut [u8]) -> Pass
-    ensures { λ r. ⌜ ((l : Lent) (text : List ℕ) → passing r (memory l (now (input .entry)) (now (bytes .exit)) text)
-        ≡ begunOf pass n (memory l (now (input .entry)) (now (bytes .entry)) text)) ⌝ }
+// The line that ends at `to` is passed over with its newline, and begun.
+fn begun(pass: Pass, to: usize, command: Command) -> Pass
+    ensures { λ r. ⌜ r ≡ beyond pass to command ⌝ }
 {
     let day = pass.day;
     let stage = pass.stage;
+    let next = script::begin(day, command);
+    Pass {
+        day: next,
+        from: least(wrapping_add_usize(to, 1), pass.end),
+        end: pass.end,
+        ended: pass.ended,
+        lines: wrapping_add_usize(pass.lines, 1),
+        filled: pass.filled,
+        stage: stage,
+    }
+}
+
+// Begins the line of n bytes that stands next in the input. One that can't be read is the last.
+fn begin_line(
+    pass: Pass,
+    n: usize,
+    map: &[u64],
+    owner: &[u16],
+    input: &[u8],
+    bytes: &mut [u8],
+    text: &mut [u8],
+) -> Pass
+    ensures { λ r. ⌜ ((disk table selected held : List ℕ)
+        → passing r (memory (lent disk (now (map .entry)) (now (owner .entry)) table selected held)
+        (now (input .entry)) (now (bytes .exit)) (now (text .exit)))
+        ≡ begunOf pass n (memory (lent disk (now (map .entry)) (now (owner .entry)) table selected held)
+        (now (input .entry)) (now (bytes .entry)) (now (text .entry)))) ⌝ }
+    ensures { λ _. ⌜ (readOf (bytesFrom (pass .from) (wrapped (pass .from + n)) (now (input .entry))) (now (bytes .entry)) .command ≡ command.Unreadable
+        → Counted (now (map .entry)) (now (owner .entry))) ⌝ }
+{
     let to = wrapping_add_usize(pass.from, n);
     let command = input::read_line(input, pass.from, to, bytes);
     if is_readable(command) {
-        let next = script::begin(day, command);
-        return Pass {
-            day: next,
-            from: least(wrapping_add_usize(to, 1), pass.end),
-            end: pass.end,
-            ended: pass.ended,
-            lines: wrapping_add_usize(pass.lines, 1),
-            filled: pass.filled,
-            stage: stage,
-        };
+        return begun(pass, to, command);
     }
-    with_stage(pass, Stage::Unreadable)
+    put_error(pass, map, owner, text)
 }
 
-// Writes the first n bytes of the text (`handed`), and says whether all were written.
+// Writes the first n bytes of the text, and says whether all were written.
 fn write_front(text: &[u8], n: usize) -> bool {
     let size = least(n, text.len());
     io::write_all(STDOUT_FILENO, &text[..size])
+}
+
+// After what waits was written: where only that was left, the program is done.
+fn written_stage(stage: Stage) -> Stage
+    ensures { λ r. ⌜ r ≡ writtenStage stage ⌝ }
+{
+    match stage {
+        Stage::Going => Stage::Going,
+        Stage::Last => Stage::Done,
+        Stage::Done => Stage::Done,
+        Stage::Broken => Stage::Broken,
+    }
 }
 
 // Writes out what waits (`waitingText`).
@@ -229,6 +295,7 @@ fn flush(pass: Pass, text: &[u8]) -> Pass
     let day = pass.day;
     let stage = pass.stage;
     if write_front(text, pass.filled) {
+        let then = written_stage(stage);
         return Pass {
             day: day,
             from: pass.from,
@@ -236,7 +303,7 @@ fn flush(pass: Pass, text: &[u8]) -> Pass
             ended: pass.ended,
             lines: pass.lines,
             filled: 0,
-            stage: stage,
+            stage: then,
         };
     }
     with_stage(pass, Stage::Broken)
@@ -283,71 +350,29 @@ pub(crate) fn turn(
         (lent (now (disk .exit)) (now (map .exit)) (now (owner .exit)) (now (table .exit)) (now (selected .exit)) (now (held .exit)))
         (now (input .exit)) (now (bytes .exit)) (now (text .exit)))) ⌝ }
 {
-    let next = decide(pass, &*input, text.len());
+    let size = text.len();
+    let next = decide(pass, &*input, size);
     match next {
-        Next::Step => step(pass, disk, map, owner, table, selected, held, &*bytes, text),
-        Next::Line(n) => begin_line(pass, n, &*input, bytes),
+        Next::Step => {
+            let day = pass.day;
+            let s = script::step(
+                day,
+                disk,
+                map,
+                owner,
+                table,
+                selected,
+                held,
+                &*bytes,
+                text,
+                pass.filled,
+            );
+            stepped(pass, s, size)
+        }
+        Next::Line(n) => begin_line(pass, n, &*map, &*owner, &*input, bytes, text),
         Next::Flush => flush(pass, &*text),
         Next::Fill => fill(pass, input),
-        Next::Stop(stage) => with_stage(pass, stage),
-    }
-}
-
-// The line of the line that can't be read.
-fn write_error(pass: Pass, text: &mut [u8]) -> bool
-    ensures { λ _. ⌜ now (text .exit) ≡ printedIn (errorLine (wrapped (pass .lines + 1))) (now (text .entry)) .text ⌝ }
-{
-    let n = lines::error_line(wrapping_add_usize(pass.lines, 1), text);
-    write_front(&*text, n)
-}
-
-// The last line.
-fn write_blocks(map: &[u64], owner: &[u16], text: &mut [u8]) -> bool
-    ensures { λ _. ⌜ now (text .exit)
-        ≡ printedIn (blocksLine (freeCount (take 64 (now (map .entry)))) (heldCount (now (owner .entry)))) (now (text .entry)) .text ⌝ }
-{
-    let n = script::blocks(map, owner, text);
-    write_front(&*text, n)
-}
-
-// What waits, then the last line, and whether all was written: each part only where all before it was.
-fn end_done(pass: Pass, map: &[u64], owner: &[u16], text: &mut [u8]) -> bool
-    ensures { λ r. ⌜ (r ≡ true → now (text .exit)
-        ≡ lastText stage.Done pass (blocksLine (freeCount (take 64 (now (map .entry)))) (heldCount (now (owner .entry))))
-        (now (text .entry))) ⌝ }
-{
-    if write_front(&*text, pass.filled) {
-        return write_blocks(map, owner, text);
-    }
-    false
-}
-
-// The same with the line of the line that can't be read in between.
-fn end_unreadable(pass: Pass, map: &[u64], owner: &[u16], text: &mut [u8]) -> bool
-    ensures { λ r. ⌜ (r ≡ true → now (text .exit)
-        ≡ lastText stage.Unreadable pass (blocksLine (freeCount (take 64 (now (map .entry)))) (heldCount (now (owner .entry))))
-        (now (text .entry))) ⌝ }
-{
-    if write_front(&*text, pass.filled) {
-        if write_error(pass, text) {
-            return write_blocks(map, owner, text);
-        }
-        return false;
-    }
-    false
-}
-
-// What is written last, and whether all of it was. Where writing has failed, nothing is.
-pub(crate) fn finish(pass: Pass, map: &[u64], owner: &[u16], text: &mut [u8]) -> bool
-    ensures { λ r. ⌜ (r ≡ true → now (text .exit)
-        ≡ lastText (pass .stage) pass (blocksLine (freeCount (take 64 (now (map .entry)))) (heldCount (now (owner .entry))))
-        (now (text .entry))) ⌝ }
-{
-    let stage = pass.stage;
-    match stage {
-        Stage::Going => false,
-        Stage::Done => end_done(pass, map, owner, text),
-        Stage::Unreadable => end_unreadable(pass, map, owner, text),
-        Stage::Broken => false,
+        Next::Last => put_last(pass, &*map, &*owner, text),
+        Next::Error => put_error(pass, &*map, &*owner, text),
     }
 }

@@ -38,7 +38,7 @@ each-none zero f h = refl
 each-none (suc n) f h = ap₂ (λ (x : model.Session) (xs : List model.Session). x ∷ xs) (h 0) (each-none n (λ i. f (suc i)) (λ i. h (suc i)))
 
 -- any entry of a list of the default
-all-same : {A : Type 0} (n i : ℕ) (a : A) → getD (replicate n a) i a ≡ a
+pub all-same : {A : Type 0} (n i : ℕ) (a : A) → getD (replicate n a) i a ≡ a
 all-same zero i a = refl
 all-same (suc n) zero a = refl
 all-same (suc n) (suc i) a = all-same n i a
@@ -53,7 +53,7 @@ new-view blocks places sessions most l =
     ap (sessionFrom (filesOf (newServer blocks places sessions most) l) (part (i * most) most (l .selected)) (part (i * 258) 258 (l .held)))
     (all-same 4 i closedSession)))
 
-made-server : (s : Start) → legal s ≡ true → made s .server ≡ newServer (s .blocks) (s .files) (s .sessions) (s .most)
+pub made-server : (s : Start) → legal s ≡ true → made s .server ≡ newServer (s .blocks) (s .files) (s .sessions) (s .most)
 unfolding made makeOf
 made-server s e = rw e
 

@@ -24,9 +24,9 @@ use Rattle.input.specs.Parts.{restOf, bytesFrom}
 use Rattle.script.specs.Doing.{restsOf, sessionOf, goesOn, heardOn, pumpedOn, afterOf}
 use Rattle.script.specs.Calling.{hearOf, callOf}
 use Rattle.script.specs.Day.{stepping, steppedTo, printsOf, answeredOf, turnOf, stepOf}
-use Rattle.script.specs.Line.{Ran, ran, printing, room, lineOf}
+use Rattle.script.specs.Line.{printing, room, lineOf}
 use Rattle.script.proofs.Own.{by-call}
-use Rattle.script.proofs.Ending.{line-settled}
+use Rattle.script.proofs.Ending.{rested, stepped, line-settled}
 
 -- ---- a step leaves a good state
 
@@ -193,13 +193,28 @@ step-next-agrees day l a b w =
 
 -- ---- so the whole line is the same
 
+module _ (k : ℕ) (day : Day) (l : Lent) (a b : List ℕ) (w : Agree (day .doing) a b) where
+  further-agrees : lineOf k (stepOf day l a room .stepped .day) (stepOf day l a room .lent) a
+      ≡ lineOf k (stepOf day l a room .stepped .day) (stepOf day l a room .lent) b
+      → printing (stepOf day l a room) (lineOf k (stepOf day l a room .stepped .day) (stepOf day l a room .lent) a)
+      ≡ printing (stepOf day l b room) (lineOf k (stepOf day l b room .stepped .day) (stepOf day l b room .lent) b)
+  further-agrees e = rw (← step-agrees day l a b room w) (ap (printing (stepOf day l a room)) e)
+
+  more-agrees : lineOf k (stepOf day l a room .stepped .day) (stepOf day l a room .lent) a
+      ≡ lineOf k (stepOf day l a room .stepped .day) (stepOf day l a room .lent) b
+      → lineOf (suc k) day l a ≡ lineOf (suc k) day l b
+  more-agrees e = go (restsOf (day .doing)) refl
+    where
+      go : (t : Bool) → restsOf (day .doing) ≡ t → lineOf (suc k) day l a ≡ lineOf (suc k) day l b
+      go true f = rested (suc k) day l a f ∙ sym (rested (suc k) day l b f)
+      go false f = stepped k day l a f ∙ further-agrees e ∙ sym (stepped k day l b f)
+
 line-agrees : (k : ℕ) (day : Day) (l : Lent) (a b : List ℕ) → Agree (day .doing) a b → lineOf k day l a ≡ lineOf k day l b
 unfolding lineOf
 line-agrees zero day l a b w = refl
 line-agrees (suc k) day l a b w =
-    rw (← step-agrees day l a b room w)
-    (ap (λ (r : Ran). cond (restsOf (day .doing)) (ran day l []) (printing (stepOf day l a room) r))
-    (line-agrees k (stepOf day l a room .stepped .day) (stepOf day l a room .lent) a b (step-next-agrees day l a b w)))
+    more-agrees k day l a b w
+    (line-agrees k (stepOf day l a room .stepped .day) (stepOf day l a room .lent) a b (step-next-agrees day l a b w))
 
 -- however many bytes are lent, with enough steps for them
 pub ends-agree : (day : Day) (l : Lent) (a b : List ℕ) → Good (day .server) l → Agree (day .doing) a b

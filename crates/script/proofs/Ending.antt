@@ -41,18 +41,20 @@ further k day l bytes =
 abbrev pub RestsIn : ℕ → Day → Lent → List ℕ → Type 0
 RestsIn k day l bytes = restsOf (lineOf k day l bytes .day .doing) ≡ true
 
-rests-either : (t : Bool) (a b : Ran) → (t ≡ true → restsOf (a .day .doing) ≡ true) → (t ≡ false → restsOf (b .day .doing) ≡ true)
-    → restsOf (cond t a b .day .doing) ≡ true
-rests-either true a b p q = p refl
-rests-either false a b p q = q refl
+pub rested : (m : ℕ) (day : Day) (l : Lent) (bytes : List ℕ) → restsOf (day .doing) ≡ true → lineOf m day l bytes ≡ ran day l []
+unfolding lineOf
+rested zero day l bytes e = refl
+rested (suc m) day l bytes e = rw (e, lineOf)
+
+pub stepped : (m : ℕ) (day : Day) (l : Lent) (bytes : List ℕ) → restsOf (day .doing) ≡ false → lineOf (suc m) day l bytes ≡ further m day l bytes
+unfolding lineOf
+stepped m day l bytes e = rw (e, lineOf)
 
 clash : true ≡ false → ⊥
 clash e = let z : _≡_ {A = ℕ} 0 1 = cc in omega arith
 
 rests-now : (k : ℕ) (day : Day) (l : Lent) (bytes : List ℕ) → restsOf (day .doing) ≡ true → RestsIn k day l bytes
-unfolding lineOf
-rests-now zero day l bytes e = e
-rests-now (suc k) day l bytes e = rests-either (restsOf (day .doing)) (ran day l []) (further k day l bytes) (λ f. e) (λ f. absurd (clash (sym e ∙ f)))
+rests-now k day l bytes e = ap (λ (r : Ran). restsOf (r .day .doing)) (rested k day l bytes e) ∙ e
 
 rest-rests : restsOf doing.Rest ≡ true
 unfolding restsOf
@@ -78,8 +80,11 @@ step-lent day l bytes = refl
 
 steps-on : (k : ℕ) (day : Day) (l : Lent) (bytes : List ℕ)
     → RestsIn k (stepOf day l bytes room .stepped .day) (stepOf day l bytes room .lent) bytes → RestsIn (suc k) day l bytes
-unfolding lineOf
-steps-on k day l bytes h = rests-either (restsOf (day .doing)) (ran day l []) (further k day l bytes) (λ f. f) (λ f. h)
+steps-on k day l bytes h = go (restsOf (day .doing)) refl
+  where
+    go : (t : Bool) → restsOf (day .doing) ≡ t → RestsIn (suc k) day l bytes
+    go true e = rests-now (suc k) day l bytes e
+    go false e = ap (λ (r : Ran). restsOf (r .day .doing)) (stepped k day l bytes e) ∙ h
 
 rests-next : (k : ℕ) (day : Day) (l : Lent) (bytes : List ℕ) → RestsIn k (next day bytes (called day l bytes)) (called day l bytes .lent) bytes
     → RestsIn (suc k) day l bytes
@@ -251,15 +256,6 @@ line-ends zero day l bytes g p = absurd (omega (arith, p))
 line-ends (suc k) day l bytes g p = ends-doing (day .doing) k (day .server) (day .clock) l bytes g p
 
 -- ---- more steps change nothing
-
-pub rested : (m : ℕ) (day : Day) (l : Lent) (bytes : List ℕ) → restsOf (day .doing) ≡ true → lineOf m day l bytes ≡ ran day l []
-unfolding lineOf
-rested zero day l bytes e = refl
-rested (suc m) day l bytes e = rw e
-
-pub stepped : (m : ℕ) (day : Day) (l : Lent) (bytes : List ℕ) → restsOf (day .doing) ≡ false → lineOf (suc m) day l bytes ≡ further m day l bytes
-unfolding lineOf
-stepped m day l bytes e = rw e
 
 now-rests : (day : Day) (l : Lent) (bytes : List ℕ) → RestsIn zero day l bytes → restsOf (day .doing) ≡ true
 unfolding lineOf

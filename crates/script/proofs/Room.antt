@@ -20,7 +20,7 @@ line-most session (answer.Sent taken size) out p q = omega (arith, packet-most s
 line-most session (answer.Closed taken) out p q = omega (arith, closed-most session p)
 line-most session (answer.Refused number) out p q = omega (arith, refused-most session number p (q number refl))
 
-printed-all : (line text : List ℕ) → length line ≤ length text → printedIn line text ≡ printed (length line) (line ++ drop (length line) text)
+pub printed-all : (line text : List ℕ) → length line ≤ length text → printedIn line text ≡ printed (length line) (line ++ drop (length line) text)
 unfolding printedIn
 printed-all line text p = rw (le-leb (length line) (length text) p)
 

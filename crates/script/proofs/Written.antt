@@ -6,17 +6,15 @@ use mathlib.Core.List.{List, [], _++_}
 use Prim.Native.Nat.{ℕ, _≤_}
 use lib.Dec.{leb}
 use lib.ListN.{length, drop, replicate}
-use borrow.Author.Tests.{leb-true, le-leb, le-ltb}
+use borrow.Author.Tests.{leb-true, le-leb}
 use Rattle.session.specs.declared.reply.Answer.{Answer}
-use Rattle.server.specs.declared.Done.{Done}
-use Rattle.server.specs.State.{Lent, Outcome, outcome}
+use Rattle.server.specs.State.{Lent, Outcome}
 use Rattle.lines.specs.Lines.{printed, printedIn}
 use Rattle.script.specs.declared.Day.{Day}
-use Rattle.script.specs.declared.Stepped.{Stepped}
 use Rattle.script.specs.Doing.{sessionOf}
 use Rattle.script.specs.Calling.{callOf}
 use Rattle.script.specs.Printing.{lineFor, showOf}
-use Rattle.script.specs.Day.{Stepping, stepping, printsOf, answeredOf, turnOf, stepOf}
+use Rattle.script.specs.Day.{Stepping, printsOf, answeredOf, turnOf}
 
 pub printed-fits : (line text : List ℕ) → printedIn line text .size ≤ length text
 unfolding printedIn
@@ -48,13 +46,3 @@ no-line text = rw (le-leb 0 (length text) (omega arith))
 -- the same of a step that is known to be that turn
 pub written-fits : (s : Stepping) (day : Day) (l : Lent) (bytes text : List ℕ) → s ≡ turnOf day l bytes text → s .stepped .written ≤ length text
 written-fits s day l bytes text e = rw e (turn-fits day l bytes text)
-
--- a step with room for its line: a call, and what is concluded from it
-pub step-turned : (day : Day) (l left : Lent) (bytes text after out : List ℕ) (done : Done) (r : Stepped) → 560 ≤ length text
-    → outcome done left out ≡ callOf (day .server) (day .clock) (day .doing) bytes l (replicate 258 0)
-    → stepping r left after ≡ answeredOf day (length bytes) text (outcome done left out)
-    → (stepping r left after ≡ stepOf day l bytes text) × (r .written ≤ length text)
-unfolding stepOf turnOf
-step-turned day l left bytes text after out done r p e f =
-    let t : stepping r left after ≡ turnOf day l bytes text = rw (← e) f in
-    (rw (le-ltb (length text) 560 p) t, written-fits (stepping r left after) day l bytes text t)

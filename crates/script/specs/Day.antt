@@ -1,9 +1,9 @@
 -- A script's lines (document 01, "The script program"): what a line begins, and a step of it. Assumes nothing.
 use mathlib.Core.Bool.{cond}
-use mathlib.Core.List.{List}
+use mathlib.Core.List.{List, _++_}
 use Prim.Native.Nat.{ℕ}
 use lib.Dec.{ltb}
-use lib.ListN.{length, replicate}
+use lib.ListN.{length, take, drop, replicate}
 use Rattle.server.specs.declared.Server.{Server}
 use Rattle.server.specs.State.{Lent, Outcome}
 use Rattle.lines.specs.declared.commands.Command.{Command}
@@ -58,3 +58,16 @@ turnOf day l bytes text = answeredOf day (length bytes) text (callOf (day .serve
 -- nothing happens where the text is shorter than any line can be
 unfoldable pub stepOf : Day → Lent → List ℕ → List ℕ → Stepping
 stepOf day l bytes text = cond (ltb (length text) 560) (stepping (steppedTo day 0) l text) (turnOf day l bytes text)
+
+-- ---- a step in a text in which something stands already: it is printed behind that
+
+-- a place, cut to the text
+abbrev pub placeIn : ℕ → List ℕ → ℕ
+placeIn at text = cond (ltb at (length text)) at (length text)
+
+-- what stands before the place stays
+abbrev pub behind : ℕ → List ℕ → Stepping → Stepping
+behind at text s = stepping (s .stepped) (s .lent) (take at text ++ s .text)
+
+unfoldable pub stepBehind : ℕ → Day → Lent → List ℕ → List ℕ → Stepping
+stepBehind at day l bytes text = behind (placeIn at text) text (stepOf day l bytes (drop (placeIn at text) text))

@@ -1,5 +1,5 @@
 -- The steps of a line, one after the other, and what they print (document 01, "The script program"). Assumes nothing.
-use mathlib.Core.Bool.{cond}
+use mathlib.Core.Bool.{true, false}
 use mathlib.Core.List.{List, [], _++_}
 use Prim.Native.Nat.{ℕ, zero, suc}
 use lib.ListN.{take, replicate}
@@ -25,9 +25,11 @@ printing s r = ran (r .day) (r .lent) (take (s .stepped .written) (s .text) ++ r
 abbrev pub room : List ℕ
 room = replicate 560 0
 
--- at most k steps, until the script rests
+-- at most k steps, until the script rests; `elim` lets a computed example stop there
 unfoldable pub lineOf : ℕ → Day → Lent → List ℕ → Ran
 lineOf zero day l bytes = ran day l []
 lineOf (suc k) day l bytes =
-    cond (restsOf (day .doing)) (ran day l [])
-    (printing (stepOf day l bytes room) (lineOf k (stepOf day l bytes room .stepped .day) (stepOf day l bytes room .lent) bytes))
+    elim (restsOf (day .doing)) [
+      | true ↦ ran day l []
+      | false ↦ printing (stepOf day l bytes room) (lineOf k (stepOf day l bytes room .stepped .day) (stepOf day l bytes room .lent) bytes)
+    ]

@@ -2,7 +2,7 @@
 -- line. The script is all its bytes; nothing is said of how they are read in pieces. Assumes nothing.
 use mathlib.Core.Bool.{true}
 use mathlib.Core.List.{List, [], _∷_, _++_}
-use Prim.Native.Nat.{ℕ, zero, suc, _+_}
+use Prim.Native.Nat.{ℕ, zero, suc, _+_, _<_, _^_}
 use lib.ListN.{length, take, drop}
 use Rattle.packet.specs.Names.{bytesOf}
 use Rattle.blocks.specs.FreeMap.{freeCount}
@@ -28,6 +28,11 @@ firstLine = bytesOf "session" ++ (9 ∷ bytesOf "packet" ++ (9 ∷ bytesOf "info
 -- "The last line is free and held."
 abbrev pub lastLine : Lent → List ℕ
 lastLine l = blocksLine (freeCount (take 64 (l .map))) (heldCount (l .owner))
+
+-- its two numbers, of a map and of owners in a machine's memory, are numbers of the machine
+pub record Counted (map owner : List ℕ) : Type 0 where
+  pub free : freeCount (take 64 map) < 2 ^ 64
+  pub held : heldCount owner < 2 ^ 64
 
 -- "A line it can't read prints `error`, the line's number, and then the last line."
 abbrev pub errorThenLast : ℕ → Lent → List ℕ

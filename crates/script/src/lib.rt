@@ -10,17 +10,19 @@ pub mod doing;
 mod printing;
 
 use doing::Doing;
+use input::parts::least;
+use input::parts::rest;
 use lines::Command;
 use server::Done;
 use server::Server;
 ghost use mathlib.Core.Path.{_≡_};
-ghost use Prim.Native.Nat.{_≤_};
-ghost use lib.ListN.{length, take};
+ghost use lib.ListN.{take, drop};
 ghost use Rattle.blocks.specs.FreeMap.{freeCount};
 ghost use Rattle.blocks.specs.Owners.{heldCount};
 ghost use Rattle.server.specs.State.{Lent, lent, outcome};
 ghost use Rattle.lines.specs.Lines.{printed, printedIn, blocksLine};
-ghost use Rattle.script.specs.Day.{beginOf, stepping, answeredOf, stepOf};
+ghost use Rattle.script.specs.Sheet.{Counted};
+ghost use Rattle.script.specs.Day.{beginOf, stepping, answeredOf, placeIn, behind, stepBehind};
 
 // The script between two calls: the server, the clock, and what is being done.
 pub struct Day {
@@ -69,13 +71,16 @@ pub fn begin(day: Day, command: Command) -> Day
     }
 }
 
-// After a call: its line is printed, and the script goes on.
-fn conclude(day: Day, done: Done, size: usize, out: &[u8], text: &mut [u8]) -> Stepped
-    ensures { λ r. ⌜ ((l : Lent) → stepping r l (now (text .exit)) ≡ answeredOf day size (now (text .entry)) (outcome done l (now (out .entry)))) ⌝ }
+// After a call: its line is printed behind the place `at`, and the script goes on.
+fn conclude(day: Day, done: Done, size: usize, out: &[u8], text: &mut [u8], at: usize) -> Stepped
+    ensures { λ r. ⌜ ((l : Lent) → stepping r l (now (text .exit))
+        ≡ behind (placeIn at (now (text .entry))) (now (text .entry))
+        (answeredOf day size (drop (placeIn at (now (text .entry))) (now (text .entry))) (outcome done l (now (out .entry))))) ⌝ }
 {
     let doing = day.doing;
     let answer = done.answer;
-    let written = printing::show(doing::session_of(doing), answer, out, text);
+    let from = least(at, text.len());
+    let written = printing::show(doing::session_of(doing), answer, out, &mut text[from..]);
     let next = done.server;
     let then = doing::after(doing, answer, size);
     let after = Day {
@@ -89,8 +94,8 @@ fn conclude(day: Day, done: Done, size: usize, out: &[u8], text: &mut [u8]) -> S
     }
 }
 
-// One call of the server for what is being done, and its line, if it has one, at the front of the text. Where the text is shorter than any line
-// can be, nothing happens at all, so that the caller can empty it and go on.
+// One call of the server for what is being done, and its line, if it has one, behind the first `at` bytes of the text. Where less is left of the
+// text than any line can be, nothing happens at all, so that the caller can empty it and go on.
 pub fn step(
     day: Day,
     disk: &mut [u8],
@@ -101,12 +106,12 @@ pub fn step(
     held: &mut [u8],
     bytes: &[u8],
     text: &mut [u8],
+    at: usize,
 ) -> Stepped
     ensures { λ r. ⌜ stepping r (lent (now (disk .exit)) (now (map .exit)) (now (owner .exit)) (now (table .exit)) (now (selected .exit)) (now (held .exit))) (now (text .exit))
-        ≡ stepOf day (lent (now (disk .entry)) (now (map .entry)) (now (owner .entry)) (now (table .entry)) (now (selected .entry)) (now (held .entry))) (now (bytes .entry)) (now (text .entry)) ⌝ }
-    ensures { λ r. ⌜ r .written ≤ length (now (text .entry)) ⌝ }
+        ≡ stepBehind at day (lent (now (disk .entry)) (now (map .entry)) (now (owner .entry)) (now (table .entry)) (now (selected .entry)) (now (held .entry))) (now (bytes .entry)) (now (text .entry)) ⌝ }
 {
-    if text.len() < ROOM {
+    if rest(at, text.len(), text.len()) < ROOM {
         return Stepped {
             day: day,
             written: 0,
@@ -128,12 +133,13 @@ pub fn step(
         held,
         &mut out,
     );
-    conclude(day, done, bytes.len(), &out, text)
+    conclude(day, done, bytes.len(), &out, text, at)
 }
 
 // The last line: the blocks free, the one bits of the map, and the blocks held.
 pub fn blocks(map: &[u64], owner: &[u16], text: &mut [u8]) -> usize
     ensures { λ r. ⌜ printed r (now (text .exit)) ≡ printedIn (blocksLine (freeCount (take 64 (now (map .entry)))) (heldCount (now (owner .entry)))) (now (text .entry)) ⌝ }
+    ensures { λ _. ⌜ Counted (now (map .entry)) (now (owner .entry)) ⌝ }
 {
     let free = blocks::free_count(map);
     let held = blocks::held_count(owner);

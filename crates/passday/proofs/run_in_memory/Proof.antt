@@ -3,11 +3,8 @@ use Rattle.passday.proofs.run_in_memory.Statement.{statement}
 use Rattle.passday.proofs.run_in_memory.Tie as tie
 use Rattle.passday.proofs.run_in_memory.Reads as reads
 use Rattle.passday.proofs.run_in_memory.Lts as lts
-use Rattle.passday.proofs.pass.finish.Reads as finish-reads
 use Rattle.passday.proofs.run.Reads as run-reads
-use mathlib.Core.Path.{sym, _∙_}
-use Prim.Native.Nat.{ℕ}
-use lib.ListN.{length-replicate}
+use mathlib.Core.Path.{refl, sym}
 use Rattle.passday.proofs.Starting.{ready}
 
 blank-disk-requires : tie.Need-blank-disk-requires
@@ -64,20 +61,15 @@ run-requires c κs =
       text = sym (slice-aggregate-run-9 c);
     })
 
-slice-aggregate-finish : tie.Need-slice-aggregate-finish
-slice-aggregate-finish c = sym (c .before .before .before .before .before .before .before .before .before .before .run .kept .1 .0 ∙ length-replicate {A = ℕ} 2 0)
-
-slice-aggregate-finish-2 : tie.Need-slice-aggregate-finish-2
-slice-aggregate-finish-2 c = sym (c .before .before .before .before .before .before .before .before .before .before .before .run .kept .1 .1 .0 ∙ length-replicate {A = ℕ} 128 0)
-
-slice-aggregate-finish-3 : tie.Need-slice-aggregate-finish-3
-slice-aggregate-finish-3 c = sym (c .before .before .before .before .before .before .before .before .before .before .before .before .run .kept .1 .1 .1 .1 .1 .1 .1 .1 .0 ∙ c .before .before .before .before .before .before .before .before .before .before .before .before .before .before .before .before .before .before .before .before .before .before .blank-text2 .ensures)
-
-finish-requires : tie.Need-finish-requires
-finish-requires c κs = tt
-
 returns : tie.Need-returns
-returns c = search needs
+returns c =
+    record {
+      memory = _;
+      ready = run-requires (c .before .before .before .before .before .before .before .before .before .before) (c .before .before .before .before .before .before .before .before .before .run .lifetimes);
+      after = _;
+      played = c .before .before .before .before .before .before .before .before .before .run .ensures;
+      pass = refl;
+    }
 
 pub run-in-memory-spec : {M : Type 1} → statement M
 run-in-memory-spec =
@@ -97,8 +89,4 @@ run-in-memory-spec =
     slice-aggregate-run-8
     slice-aggregate-run-9
     run-requires
-    slice-aggregate-finish
-    slice-aggregate-finish-2
-    slice-aggregate-finish-3
-    finish-requires
     returns)

@@ -1,3 +1,4 @@
+use native.Mathlib.Omega.{arith}
 use borrow.Author.Needs.{needs}
 use Rattle.script.proofs.blocks.Statement.{statement}
 use Rattle.script.proofs.blocks.Tie as tie
@@ -20,7 +21,13 @@ same-length : tie.Need-same-length
 same-length c = search needs
 
 returns : tie.Need-returns
-returns c = rw (← c .before .before .before .before .held-count .ensures, ← c .before .before .before .before .before .free-count .ensures) (c .before .before .blocks-line .ensures)
+returns c = (
+  rw (← c .before .before .before .before .held-count .ensures, ← c .before .before .before .before .before .free-count .ensures) (c .before .before .blocks-line .ensures),
+  record {
+    free = omega (arith, c .before .before .before .before .before .free-count .ensures, c .before .before .before .before .before .free-count .ok);
+    held = omega (arith, c .before .before .before .before .held-count .ensures, c .before .before .before .before .held-count .ok);
+  },
+)
 
 pub blocks-spec : {M : Type 1} → statement M
 blocks-spec =

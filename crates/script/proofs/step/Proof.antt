@@ -2,14 +2,13 @@ use mathlib.Core.Path.{_∙_}
 use borrow.Author.Needs.{needs}
 use Rattle.script.proofs.step.Statement.{statement}
 use Rattle.script.proofs.step.Tie as tie
-use native.Mathlib.Omega.{arith}
-use borrow.Author.Tests.{lt-ltb}
-use Rattle.script.specs.Day.{stepOf}
-use Rattle.script.proofs.Written.{step-turned}
+use Rattle.script.proofs.Behind.{no-step-behind, step-behind}
+
+rest-requires : tie.Need-rest-requires
+rest-requires c κs = tt
 
 returns : tie.Need-returns
-unfolding stepOf
-returns c = (rw (lt-ltb _ _ (c .if1 .taken)), omega arith)
+returns c = no-step-behind _ _ _ _ _ _ (c .before .rest .ensures) (c .if1 .taken)
 
 slice-aggregate-call : tie.Need-slice-aggregate-call
 slice-aggregate-call c = search needs
@@ -45,12 +44,14 @@ same-length-7 : tie.Need-same-length-7
 same-length-7 c = c .before .before .conclude .kept .1 .1 .1 .1 .0
 
 returns-2 : tie.Need-returns-2
-returns-2 c = step-turned _ _ _ _ _ _ _ _ _ (c .before .before .before .before .before .before .before .before .before .before .before .before .before .before .before .before .before .before .before .before .before .before .before .before .before .before .before .if1 .left) (c .before .before .before .before .before .before .before .before .before .before .before .before .before .before .before .before .before .before .call .ensures) (c .before .before .conclude .ensures _)
+returns-2 c =
+    step-behind _ _ _ _ _ _ _ _ _ _ _ (c .before .before .before .before .before .before .before .before .before .before .before .before .before .before .before .before .before .before .before .before .before .before .before .before .before .before .before .before .rest .ensures) (c .before .before .before .before .before .before .before .before .before .before .before .before .before .before .before .before .before .before .before .before .before .before .before .before .before .before .before .if1 .left) (c .before .before .before .before .before .before .before .before .before .before .before .before .before .before .before .before .before .before .call .ensures) (c .before .before .conclude .ensures _)
 
 pub step-spec : {M : Type 1} → statement M
 step-spec =
     tie.close
     (tie.spec
+    rest-requires
     returns
     slice-aggregate-call
     call-requires

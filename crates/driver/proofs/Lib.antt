@@ -1,0 +1,5 @@
+pub mod Given
+pub mod Fits
+pub mod Answers
+pub mod Driving
+pub mod Worked

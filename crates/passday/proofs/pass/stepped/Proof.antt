@@ -1,0 +1,19 @@
+use Rattle.passday.proofs.pass.stepped.Statement.{statement}
+use Rattle.passday.proofs.pass.stepped.Tie as tie
+
+least-requires : tie.Need-least-requires
+least-requires c κs = tt
+
+with-more-requires : tie.Need-with-more-requires
+with-more-requires c κs = tt
+
+returns : tie.Need-returns
+returns c = rw (← c .before .least .ensures .2) (c .with-more .ensures)
+
+pub stepped-spec : {M : Type 1} → statement M
+stepped-spec =
+    tie.close
+    (tie.spec
+    least-requires
+    with-more-requires
+    returns)
