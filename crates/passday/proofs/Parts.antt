@@ -36,6 +36,12 @@ pub step-joins : (p r : Pass) (l left : Lent) (input bytes text after : List ℕ
 unfolding steppedOf
 step-joins p r l left input bytes text after s e f = rw (← e, f)
 
+pub stepped-as : (p r : Pass) (s : Stepped) (size at : ℕ) → at ≡ leastOf (p .filled) size
+    → r ≡ passOf (s .day) (p .from) (p .end) (p .ended) (p .lines) (wrapped (at + s .written)) (p .stage)
+    → r ≡ passOf (s .day) (p .from) (p .end) (p .ended) (p .lines) (wrapped (leastOf (p .filled) size + s .written)) (p .stage)
+stepped-as p r s size at e f =
+    f ∙ ap (λ (k : ℕ). passOf (s .day) (p .from) (p .end) (p .ended) (p .lines) (wrapped (k + s .written)) (p .stage)) e
+
 -- ---- the last lines
 
 module _ (p : Pass) (text part : List ℕ) (at n : ℕ) (e : at ≡ leastOf (p .filled) (length text)) where
