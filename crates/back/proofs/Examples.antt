@@ -1,0 +1,76 @@
+-- Worked equations, computed: their texts, or why none is written. Assumes nothing.
+use mathlib.Core.Path.{_≡_, refl}
+use mathlib.Core.List.{List, [], _∷_, _++_, map}
+use Prim.Native.Nat.{ℕ, zero, suc, _-_}
+use lib.ListN.{length, replicate, drop}
+use Rattle.packet.specs.Names.{bytesOf}
+use Rattle.back.specs.Answer.{Answers, answers, writtenOf}
+use Rattle.back.specs.declared.Answer.{Answer}
+use Rattle.back.specs.declared.Answer.the-variants as answer
+use Rattle.numbers.specs.Numbers.{number}
+use Rattle.lines.specs.Text.{digitsWithin, decimalOf, hexDigit}
+use Rattle.equation.specs.Relation.{width}
+use Rattle.equation.specs.Symbols.{starsIn, goodText, goodNumber, good, connectiveOf, relationAt, tokenOf, follow, symbolsPast}
+use Rattle.equation.specs.Tree.{pushed, joined, result, bind, run, parse}
+use Rattle.equation.specs.Newer.{beforeMark, unmarkedPast}
+use Rattle.grammar.specs.Names.{items, widthIn, nameIn}
+use Rattle.grammar.specs.Meaning.{isPrinted, leastWidth}
+use Rattle.grammar.specs.Grammar.{itemText, operatorText, characterText, charactersText, constantText, writtenText}
+use Rattle.back.specs.Text.{itemBy, characterFor, numberFor, constantFor, comparisonFor, textOf, productText, factorText, nesting, productNesting, factorNesting}
+use Rattle.back.specs.Answer.{formulaOf, delivered, written, writtenBy}
+
+record Row : Type 0 where
+  bytes : List ℕ
+  room : ℕ
+  says : Answers
+
+row : List ℕ → List ℕ → Row
+row bytes text = record { bytes = bytes; room = length text; says = answers (answer.Text (length text)) text }
+
+none : List ℕ → Answer → Row
+none bytes a = record { bytes = bytes; room = 0; says = answers a [] }
+
+said : Row → Answers
+said r = writtenOf (r .bytes) (replicate (r .room) 0)
+
+want : Row → Answers
+want r = r .says
+
+-- PRIORITY > n
+more : ℕ → List ℕ
+more n = 144 ∷ 24 ∷ 0 ∷ 1 ∷ n ∷ []
+
+-- n ANDs, each on the right of the one before
+right : ℕ → List ℕ
+right zero = more 0
+right (suc n) = more 0 ++ (right n ++ 1 ∷ [])
+
+-- an AND of n relations with a text in front
+quoted : List ℕ → List ℕ
+quoted s = 131 ∷ 34 ∷ 0 ∷ length s ∷ s
+
+rows : List Row
+rows =
+    row (160 ∷ 4 ∷ 0 ∷ 4 ∷ 64 ∷ 31 ∷ 0 ∷ 0 ∷ 131 ∷ 35 ∷ 0 ∷ 7 ∷ (bytesOf "*rover*" ++ 144 ∷ 24 ∷ 0 ∷ 1 ∷ 2 ∷ 2 ∷ 1 ∷ []))
+    (bytesOf "FILE_SIZE < 8000 && (KEYWORDS == \"*rover*\" || PRIORITY > 2)")
+    ∷ row (more 1 ++ (more 2 ++ 1 ∷ (more 3 ++ 1 ∷ []))) (bytesOf "PRIORITY > 1 && PRIORITY > 2 && PRIORITY > 3")
+    ∷ row (more 1 ++ (more 2 ++ (more 3 ++ 1 ∷ 1 ∷ []))) (bytesOf "PRIORITY > 1 && (PRIORITY > 2 && PRIORITY > 3)")
+    ∷ row (more 1 ++ (more 2 ++ (more 3 ++ 2 ∷ 2 ∷ []))) (bytesOf "PRIORITY > 1 || (PRIORITY > 2 || PRIORITY > 3)")
+    ∷ row (more 1 ++ (more 2 ++ (more 3 ++ 1 ∷ 2 ∷ []))) (bytesOf "PRIORITY > 1 || PRIORITY > 2 && PRIORITY > 3")
+    ∷ row (more 1 ++ (more 2 ++ 2 ∷ (more 3 ++ 1 ∷ []))) (bytesOf "(PRIORITY > 1 || PRIORITY > 2) && PRIORITY > 3")
+    ∷ row (176 ∷ 52 ∷ 171 ∷ 2 ∷ 44 ∷ 1 ∷ []) (bytesOf "#ab34 != 300")
+    ∷ row (192 ∷ 4 ∷ 0 ∷ 1 ∷ 255 ∷ []) (bytesOf "FILE_SIZE >= 255:1")
+    ∷ row (208 ∷ 24 ∷ 0 ∷ 4 ∷ 0 ∷ 0 ∷ 0 ∷ 0 ∷ []) (bytesOf "PRIORITY <= 0:4")
+    ∷ row (quoted (65 ∷ 34 ∷ 92 ∷ 31 ∷ 255 ∷ [])) (bytesOf "TITLE == \"A\\\"\\\\\\x1f\\xff\"")
+    ∷ none (replicate 2048 0) (answer.Refused 33)
+    ∷ none [] (answer.Refused 8)
+    ∷ none (more 1 ++ 0 ∷ []) answer.Mark
+    ∷ none (right 17) (answer.Refused 33)
+    ∷ none (right 18) answer.Deeper
+    ∷ none (quoted (replicate 252 97)) (answer.Refused 33)
+    ∷ none (quoted (replicate 253 97)) answer.Bytes
+    ∷ []
+
+computed : map said rows ≡ map want rows
+unfolding want said rows row none more right quoted bytesOf number digitsWithin decimalOf hexDigit width starsIn goodText goodNumber good connectiveOf relationAt tokenOf follow symbolsPast pushed joined result bind run parse beforeMark unmarkedPast items widthIn nameIn isPrinted leastWidth itemText operatorText characterText charactersText constantText writtenText itemBy characterFor numberFor constantFor comparisonFor textOf productText factorText nesting productNesting factorNesting formulaOf delivered written writtenBy writtenOf
+computed = refl

@@ -1,0 +1,5 @@
+pub mod Names
+pub mod Formula
+pub mod Meaning
+pub mod Grammar
+pub mod Machine
