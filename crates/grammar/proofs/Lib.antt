@@ -1,1 +1,9 @@
+pub mod Tests
+pub mod NameLaws
+pub mod Steps
+pub mod Relations
+pub mod Complete
+pub mod RelationSound
+pub mod Sound
+pub mod Viable
 pub mod Examples
