@@ -6,4 +6,5 @@ pub mod Complete
 pub mod RelationSound
 pub mod Sound
 pub mod Viable
+pub mod Bytes
 pub mod Examples
