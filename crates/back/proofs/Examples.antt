@@ -13,8 +13,9 @@ use Rattle.equation.specs.Relation.{width}
 use Rattle.equation.specs.Symbols.{starsIn, goodText, goodNumber, good, connectiveOf, relationAt, tokenOf, follow, symbolsPast}
 use Rattle.equation.specs.Tree.{pushed, joined, result, bind, run, parse}
 use Rattle.equation.specs.Newer.{beforeMark, unmarkedPast}
-use Rattle.grammar.specs.Names.{items, widthIn, nameIn}
-use Rattle.grammar.specs.Meaning.{isPrinted, leastWidth}
+use Rattle.names.specs.Names.{items, widthIn, nameIn}
+use Rattle.names.specs.Kinds.{isPrinted}
+use Rattle.grammar.specs.Meaning.{leastWidth}
 use Rattle.grammar.specs.Grammar.{itemText, operatorText, characterText, charactersText, constantText, writtenText}
 use Rattle.back.specs.Text.{itemBy, characterFor, numberFor, constantFor, comparisonFor, textOf, productText, factorText, nesting, productNesting, factorNesting}
 use Rattle.back.specs.Answer.{formulaOf, delivered, written, writtenBy}

@@ -13,9 +13,10 @@ use Rattle.packet.specs.Names.{bytesOf}
 use Rattle.lines.specs.Text.{decimalOf, hexDigit}
 use Rattle.equation.specs.Relation.{operatorOf, kindOf}
 use Rattle.equation.specs.Holds.{Relation}
-use Rattle.grammar.specs.Names.{nameOf}
+use Rattle.names.specs.Names.{nameOf}
 use Rattle.grammar.specs.Formula.{Formula, relation, both, either}
-use Rattle.grammar.specs.Meaning.{isPrinted, widthOf}
+use Rattle.names.specs.Kinds.{isPrinted}
+use Rattle.grammar.specs.Meaning.{widthOf}
 use Rattle.grammar.specs.Grammar as grammar
 use Rattle.grammar.specs.Grammar.{Item, Character, Constant, Written, writtenText}
 use Rattle.grammar.specs.declared.Comparison.{Comparison}

@@ -10,6 +10,7 @@ use lib.Dec.{ltb, leb, eqb}
 use lib.ListN.{length, take, drop, length-append}
 use lib.Seq.{take-at}
 use borrow.Author.Tests.{ltb-true, leb-true, lt-ltb, le-ltb, le-leb, eqb-true}
+use Rattle.names.specs.Kinds.{hexOf, isHexDigit, every}
 use Rattle.numbers.specs.Numbers.{two, four}
 use Rattle.text.specs.Match.{lower}
 use Rattle.lines.specs.Numerals.{valueFrom}
@@ -26,15 +27,15 @@ use Rattle.equation.specs.declared.evaluation.Truth.the-variants.{No, Yes}
 use Rattle.equation.specs.declared.tokens.Token.{Token}
 use Rattle.equation.specs.declared.tokens.Token.the-variants.{Rel}
 use Rattle.equation.proofs.Trees.{valid, answer-truth}
-use Rattle.grammar.specs.Names.{Named, items, small, idIn, idNamed, widthIn, usualWidth}
+use Rattle.names.specs.Names.{Named, items, small, idIn, idNamed, widthIn, usualWidth}
 use Rattle.grammar.specs.Formula.{Formula, relation, both, either, relationBytes, postfix, trueOn, relationsIn, treeFrom}
-use Rattle.grammar.specs.Meaning.{hexOf, isHexDigit, operatorNumber, isEquality, leastWidth, widthOf, isWidth, numberRelation, textRelation}
+use Rattle.grammar.specs.Meaning.{operatorNumber, isEquality, leastWidth, widthOf, isWidth, numberRelation, textRelation}
 use Rattle.grammar.specs.Grammar as grammar
-use Rattle.grammar.specs.Grammar.{every, Item, Stands, Character, charactersBytes, Constant, Characters, GoodConstant, meant, Written, relationOf, GoodWritten}
+use Rattle.grammar.specs.Grammar.{Item, Stands, Character, charactersBytes, Constant, Characters, GoodConstant, meant, Written, relationOf, GoodWritten}
 use Rattle.grammar.specs.Grammar.{Sum, product, plus, Product, factor, times, Factor, bracket, formulaS, formulaP, formulaF, GoodS, GoodP, GoodF, Reads}
 use Rattle.grammar.specs.declared.Comparison.{Comparison}
 use Rattle.grammar.specs.declared.Comparison.the-variants.{Equal, Greater, Less, NotEqual, GreaterOrEqual, LessOrEqual}
-use Rattle.grammar.proofs.Tests as tests
+use Rattle.names.proofs.Tests as tests
 
 -- ---- relations that the evaluator takes
 

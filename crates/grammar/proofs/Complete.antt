@@ -8,13 +8,13 @@ use native.Mathlib.Omega.{arith}
 use lib.Dec.{ltb}
 use lib.ListN.{length, getD}
 use borrow.Author.Tests.{lt-ltb}
+use Rattle.names.specs.Kinds.{isBlank, every}
 use Rattle.lines.specs.Numerals.{digit}
 use Rattle.grammar.specs.Formula.{Formula, andAfter, orAfter}
-use Rattle.grammar.specs.Meaning.{isBlank}
-use Rattle.grammar.specs.Grammar.{every, Blanks, Written, writtenText, relationOf, Sum, product, plus, Product, factor, times, Factor, relation, bracket}
+use Rattle.grammar.specs.Grammar.{Blanks, Written, writtenText, relationOf, Sum, product, plus, Product, factor, times, Factor, relation, bracket}
 use Rattle.grammar.specs.Grammar.{textS, textP, textF, formulaS, formulaP, formulaF, GoodS, GoodP, GoodF, nestS, nestP, nestF, Reads}
 use Rattle.grammar.specs.Machine.{Level, level, fresh, State, want, have, ampersand, bar, Outcome, accepted, ended, ending, run, outcomeOf}
-use Rattle.grammar.proofs.Tests as tests
+use Rattle.names.proofs.Tests as tests
 use Rattle.grammar.proofs.Steps as steps
 use Rattle.grammar.proofs.Steps.{Reach, then, one, after-relation, over-blanks, want-still, have-still, Closes}
 use Rattle.grammar.proofs.Relations.{relation-runs}

@@ -3,14 +3,15 @@ use mathlib.Core.Path.{_≡_, refl}
 use mathlib.Core.List.{List, [], _∷_, _++_, map}
 use Prim.Native.Nat.{ℕ, suc, _+_, _*_}
 use lib.ListN.{length, replicate}
+use Rattle.names.specs.Kinds.{isBlank, isPrinted}
 use Rattle.packet.specs.Names.{bytesOf}
 use Rattle.text.specs.Match.{lower}
 use Rattle.lines.specs.Commands.{same}
 use Rattle.lines.specs.Numerals.{digit, hexValue}
 use Rattle.equation.specs.Symbols.{starsIn}
-use Rattle.grammar.specs.Names.{items, small, beginsWith, idIn, startsIn, widthIn}
+use Rattle.names.specs.Names.{items, small, beginsWith, idIn, startsIn, widthIn}
 use Rattle.grammar.specs.Formula.{relationBytes, postfix}
-use Rattle.grammar.specs.Meaning.{isBlank, isPrinted, operatorNumber, isEquality, orEqual, leastWidth, isWidth, numberRelation, textRelation}
+use Rattle.grammar.specs.Meaning.{operatorNumber, isEquality, orEqual, leastWidth, isWidth, numberRelation, textRelation}
 use Rattle.grammar.specs.Machine.{lettered, wanted, added, partOf, closed, after, taken, step, Outcome, accepted, refused, ended, endedIn, ending, moved, run, outcomeOf}
 use Rattle.grammar.specs.declared.Reason.{Reason}
 use Rattle.grammar.specs.declared.Reason.the-variants as reason

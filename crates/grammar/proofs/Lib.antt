@@ -1,5 +1,3 @@
-pub mod Tests
-pub mod NameLaws
 pub mod Steps
 pub mod Relations
 pub mod Complete

@@ -8,15 +8,16 @@ use native.Mathlib.Omega.{arith}
 use lib.Dec.{ltb, leb, eqb}
 use lib.ListN.{length, length-append}
 use borrow.Author.Tests.{ltb-true, leb-true, leb-false, eqb-true, eqb-false, ne-eqb}
+use Rattle.names.specs.Kinds.{isBlank, isPrinted, hexOf, isHexDigit, every}
 use Rattle.packet.specs.Names.{bytesOf}
 use Rattle.text.specs.Match.{lower}
 use Rattle.lines.specs.Numerals.{digit, valueFrom}
 use Rattle.equation.specs.Holds.{Relation}
 use Rattle.equation.specs.Symbols.{starsIn}
-use Rattle.grammar.specs.Names.{idNamed, startsName}
-use Rattle.grammar.specs.Meaning.{isBlank, isPrinted, hexOf, isHexDigit, isEquality, orEqual, widthOf, isWidth, numberRelation, textRelation}
+use Rattle.names.specs.Names.{idNamed, startsName}
+use Rattle.grammar.specs.Meaning.{isEquality, orEqual, widthOf, isWidth, numberRelation, textRelation}
 use Rattle.grammar.specs.Grammar as grammar
-use Rattle.grammar.specs.Grammar.{every, Blanks, Item, itemText, Stands, operatorText, Character, characterText, characterByte, goodCharacter}
+use Rattle.grammar.specs.Grammar.{Blanks, Item, itemText, Stands, operatorText, Character, characterText, characterByte, goodCharacter}
 use Rattle.grammar.specs.Grammar.{charactersText, charactersBytes, goodCharacters, Constant, constantText, Digits, Characters, GoodConstant, meant}
 use Rattle.grammar.specs.Grammar.{Written, writtenText, relationOf, GoodWritten}
 use Rattle.grammar.specs.Machine.{Phase, name, hash, item, half, order, constant, digits, colon, string, escape, coded, code, Part, on, whole, past, stop}
@@ -24,7 +25,8 @@ use Rattle.grammar.specs.Machine.{lettered, wanted, added, partOf}
 use Rattle.grammar.specs.declared.Comparison.{Comparison}
 use Rattle.grammar.specs.declared.Comparison.the-variants.{Equal, Greater, Less, NotEqual, GreaterOrEqual, LessOrEqual}
 use Rattle.grammar.specs.declared.Reason.{Reason}
-use Rattle.grammar.proofs.Tests as tests
+use Rattle.names.proofs.Tests as tests
+use Rattle.grammar.proofs.Steps as steps
 
 -- ---- parts of a relation with their texts
 
@@ -265,8 +267,8 @@ unfolding starsIn
 stars-kept bytes b h = by (eqb b 42) refl
   where
     by : (t : Bool) → eqb b 42 ≡ t → cond t (leb 4 (starsIn bytes)) false ≡ false → starsIn (bytes ++ b ∷ []) ≤ 4
-    by true e z = let y : starsIn (b ∷ []) ≡ 1 = rw e in omega (arith, tests.stars-append bytes (b ∷ []), leb-false 4 (starsIn bytes) z)
-    by false e z = let y : starsIn (b ∷ []) ≡ 0 = rw e in omega (arith, tests.stars-append bytes (b ∷ []))
+    by true e z = let y : starsIn (b ∷ []) ≡ 1 = rw e in omega (arith, steps.stars-append bytes (b ∷ []), leb-false 4 (starsIn bytes) z)
+    by false e z = let y : starsIn (b ∷ []) ≡ 0 = rw e in omega (arith, steps.stars-append bytes (b ∷ []))
 
 stars-now : (id : ℕ) (c : Comparison) (bytes w s : List ℕ) → StringHeld id c bytes w s → starsIn bytes ≤ 4
 stars-now id c bytes w s h = rw (h .is) at (h .good .stars)
@@ -300,7 +302,7 @@ held-escape id c bytes s b h i =
     quoted : (d : ℕ) → goodCharacter (grammar.escaped d) ≡ true → starsIn (d ∷ []) ≡ 0 → StringHeld id c (bytes ++ d ∷ []) [] (s ++ d ∷ [])
     quoted d g z =
         string-more id c bytes (92 ∷ []) s (d ∷ []) (grammar.escaped d) d h g (unfold characterByte in refl) (unfold characterText in refl) i
-        (omega (arith, tests.stars-append bytes (d ∷ []), stars-now id c bytes (92 ∷ []) s h))
+        (omega (arith, steps.stars-append bytes (d ∷ []), stars-now id c bytes (92 ∷ []) s h))
 
 -- ---- every phase
 

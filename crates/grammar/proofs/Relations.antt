@@ -8,14 +8,15 @@ use native.Mathlib.Omega.{arith}
 use lib.Dec.{ltb, leb, eqb}
 use lib.ListN.{length, getD, length-append}
 use borrow.Author.Tests.{leb-true, eqb-true, eqb-false, ne-eqb}
+use Rattle.names.specs.Kinds.{isBlank, isPrinted, hexOf, isHexDigit, every}
 use Rattle.packet.specs.Names.{bytesOf}
 use Rattle.text.specs.Match.{lower}
 use Rattle.lines.specs.Numerals.{digit, valueFrom}
 use Rattle.equation.specs.Symbols.{starsIn}
-use Rattle.grammar.specs.Names.{idNamed, startsName}
-use Rattle.grammar.specs.Meaning.{isBlank, isPrinted, hexOf, isHexDigit, isEquality, orEqual, numberRelation, textRelation}
+use Rattle.names.specs.Names.{idNamed, startsName}
+use Rattle.grammar.specs.Meaning.{isEquality, orEqual, numberRelation, textRelation}
 use Rattle.grammar.specs.Grammar as grammar
-use Rattle.grammar.specs.Grammar.{every, Item, itemText, Stands, operatorText, Character, plain, escaped, coded, characterText, characterByte, goodCharacter}
+use Rattle.grammar.specs.Grammar.{Item, itemText, Stands, operatorText, Character, plain, escaped, coded, characterText, characterByte, goodCharacter}
 use Rattle.grammar.specs.Grammar.{charactersText, charactersBytes, goodCharacters, Constant, constantText, Digits, Characters, GoodConstant, meant}
 use Rattle.grammar.specs.Grammar.{Written, writtenText, relationOf, GoodWritten}
 use Rattle.grammar.specs.Machine as machine
@@ -23,8 +24,8 @@ use Rattle.grammar.specs.Machine.{Phase, name, hash, item, half, order, 
 use Rattle.grammar.specs.Machine.{Level, fresh, State, want, inside, go, taken, step, run}
 use Rattle.grammar.specs.declared.Comparison.{Comparison}
 use Rattle.grammar.specs.declared.Comparison.the-variants.{Equal, Greater, Less, NotEqual, GreaterOrEqual, LessOrEqual}
-use Rattle.grammar.proofs.Tests as tests
-use Rattle.grammar.proofs.NameLaws as names
+use Rattle.names.proofs.Tests as tests
+use Rattle.names.proofs.NameLaws as names
 use Rattle.grammar.proofs.Steps.{Reach, stay, then, one, after-relation, part-on, part-whole, over-blanks, item-still, constant-still, Closes}
 use Rattle.grammar.proofs.Steps as steps
 
@@ -195,7 +196,7 @@ module _ (id : ℕ) (c : Comparison) (l : Level) (ls : List Level) where
       let i' : starsIn ((bytes ++ characterByte x ∷ []) ++ charactersBytes xs) ≤ 4 = rw split at i in
       rw (split, append-assoc (characterText x) (charactersText xs) bs)
       (then (character-runs x bytes p (charactersText xs ++ bs) (tests.first-true (goodCharacter x) _ g) (omega (arith, h', length-append (bytes ++ characterByte x ∷ []) (charactersBytes xs), length-append bytes (characterByte x ∷ [])))
-      (omega (arith, i', tests.stars-append (bytes ++ characterByte x ∷ []) (charactersBytes xs))))
+      (omega (arith, i', steps.stars-append (bytes ++ characterByte x ∷ []) (charactersBytes xs))))
       (λ q. characters-run xs (bytes ++ characterByte x ∷ []) q bs (tests.second-true (goodCharacter x) _ g) h' i'))
 
   pub constant-runs : (k : Constant) (p : ℕ) (bs : List ℕ) → GoodConstant c k → Closes bs → Reach (inside (constant id c) l ls) p (constantText k ++ bs) (after-relation l ls (meant id c k)) bs

@@ -8,18 +8,18 @@ use native.Mathlib.Omega.{arith}
 use lib.Dec.{leb, ltb, eqb}
 use lib.ListN.{length}
 use borrow.Author.Tests.{eqb-true, ltb-true}
+use Rattle.names.specs.Kinds.{isBlank, every}
 use Rattle.text.specs.Match.{lower}
 use Rattle.equation.specs.Holds.{Relation}
 use Rattle.grammar.specs.Formula as formula
 use Rattle.grammar.specs.Formula.{Formula, andAfter, orAfter}
-use Rattle.grammar.specs.Meaning.{isBlank}
-use Rattle.grammar.specs.Grammar.{every, Blanks, writtenText, relationOf, Sum, product, plus, Product, factor, times, Factor, relation, bracket}
+use Rattle.grammar.specs.Grammar.{Blanks, writtenText, relationOf, Sum, product, plus, Product, factor, times, Factor, relation, bracket}
 use Rattle.grammar.specs.Grammar.{textS, textP, textF, formulaS, formulaP, formulaF, GoodS, GoodP, GoodF, nestS, nestP, nestF, Reads}
 use Rattle.grammar.specs.Machine.{Phase, name, hash, Part, on, whole, past, stop, partOf, Level, level, fresh, State, want, inside, have, ampersand, bar, Move, go, halt}
 use Rattle.grammar.specs.Machine.{closed, after, taken, step, Outcome, accepted, refused, ended, endedIn, ending, moved, run, outcomeOf}
 use Rattle.grammar.specs.declared.Reason.{Reason}
 use Rattle.grammar.specs.declared.Reason.the-variants as reason
-use Rattle.grammar.proofs.Tests as tests
+use Rattle.names.proofs.Tests as tests
 use Rattle.grammar.proofs.RelationSound.{RelationHeld, HashHeld, PhaseHeld, PartHeld, held-letters, held-part}
 use Rattle.grammar.proofs.Complete.{complete}
 

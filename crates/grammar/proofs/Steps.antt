@@ -8,14 +8,15 @@ use native.Mathlib.Omega.{arith}
 use lib.Dec.{ltb, leb, eqb}
 use lib.ListN.{length, getD}
 use borrow.Author.Tests.{lt-ltb, le-ltb, le-leb, lt-leb, eq-eqb, ne-eqb}
+use Rattle.names.specs.Kinds.{isBlank, isPrinted, hexOf, isHexDigit, every}
 use Rattle.text.specs.Match.{lower}
 use Rattle.lines.specs.Numerals.{digit}
 use Rattle.equation.specs.Holds.{Relation}
 use Rattle.equation.specs.Symbols.{starsIn}
-use Rattle.grammar.specs.Names.{idNamed, startsName}
+use Rattle.names.specs.Names.{idNamed, startsName}
 use Rattle.grammar.specs.Formula.{Formula, relation, andAfter, orAfter}
-use Rattle.grammar.specs.Meaning.{isBlank, isPrinted, hexOf, isHexDigit, isEquality, orEqual, widthOf, isWidth, numberRelation, textRelation}
-use Rattle.grammar.specs.Grammar.{every, Blanks}
+use Rattle.grammar.specs.Meaning.{isEquality, orEqual, widthOf, isWidth, numberRelation, textRelation}
+use Rattle.grammar.specs.Grammar.{Blanks}
 use Rattle.grammar.specs.Machine.{Phase, name, hash, item, half, order, constant, digits, colon, string, escape, coded, code, Part, on, whole, past, stop}
 use Rattle.grammar.specs.Machine.{lettered, wanted, added, partOf, Level, level, fresh, State, want, inside, have, ampersand, bar, Move, go, halt}
 use Rattle.grammar.specs.Machine.{closed, after, taken, step, Outcome, accepted, refused, ended, endedIn, ending, moved, run, outcomeOf}
@@ -23,7 +24,18 @@ use Rattle.grammar.specs.declared.Comparison.{Comparison}
 use Rattle.grammar.specs.declared.Comparison.the-variants as comparison
 use Rattle.grammar.specs.declared.Reason.{Reason}
 use Rattle.grammar.specs.declared.Reason.the-variants as reason
-use Rattle.grammar.proofs.Tests as tests
+use Rattle.names.proofs.Tests as tests
+
+-- ---- stars
+
+pub stars-append : (a b : List ℕ) → starsIn (a ++ b) ≡ starsIn a + starsIn b
+unfolding starsIn
+stars-append [] b = omega arith
+stars-append (x ∷ a) b = by (stars-append a b) (eqb x 42)
+  where
+    by : starsIn (a ++ b) ≡ starsIn a + starsIn b → (t : Bool) → cond t (suc (starsIn (a ++ b))) (starsIn (a ++ b)) ≡ cond t (suc (starsIn a)) (starsIn a) + starsIn b
+    by ih true = omega arith
+    by ih false = ih
 
 -- ---- runs
 
@@ -194,7 +206,7 @@ module _ (id : ℕ) (c : Comparison) where
       no-star false e = refl
       no-star true e =
           let z : starsIn (b ∷ []) ≡ 1 = unfold starsIn in rw e in
-          lt-leb 4 (starsIn bytes) (omega (arith, tests.stars-append bytes (b ∷ [])))
+          lt-leb 4 (starsIn bytes) (omega (arith, stars-append bytes (b ∷ [])))
 
 -- a digit, ":" and the like do not follow: then digits are a whole number
 abbrev pub Closes : List ℕ → Type 0

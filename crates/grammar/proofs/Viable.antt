@@ -9,12 +9,13 @@ use native.Mathlib.Numerals.{add-one}
 use lib.Dec.{ltb, leb, eqb}
 use lib.ListN.{length, take}
 use borrow.Author.Tests.{lt-ltb, ne-eqb}
+use Rattle.names.specs.Kinds.{isBlank, hexOf, isHexDigit}
 use Rattle.text.specs.Match.{lower}
 use Rattle.lines.specs.Numerals.{digit, hexValue}
 use Rattle.equation.specs.Symbols.{starsIn}
-use Rattle.grammar.specs.Names.{idNamed, startsName}
+use Rattle.names.specs.Names.{idNamed, startsName}
 use Rattle.grammar.specs.Formula.{Formula, relation, andAfter, orAfter}
-use Rattle.grammar.specs.Meaning.{isBlank, hexOf, isHexDigit, orEqual, isWidth, numberRelation, textRelation, widthOf}
+use Rattle.grammar.specs.Meaning.{orEqual, isWidth, numberRelation, textRelation, widthOf}
 use Rattle.grammar.specs.Grammar.{Reads, Begins, WrongPlace}
 use Rattle.grammar.specs.Machine.{Phase, name, hash, item, half, order, constant, digits, colon, string, escape, coded, code, Part, on, whole, past, stop, partOf, wanted, added}
 use Rattle.grammar.specs.Machine.{Level, level, fresh, State, want, inside, have, ampersand, bar, Move, go, halt, closed, after, taken, step}
@@ -23,8 +24,8 @@ use Rattle.grammar.specs.declared.Comparison.{Comparison}
 use Rattle.grammar.specs.declared.Comparison.the-variants as comparison
 use Rattle.grammar.specs.declared.Reason.{Reason}
 use Rattle.grammar.specs.declared.Reason.the-variants as reason
-use Rattle.grammar.proofs.Tests as tests
-use Rattle.grammar.proofs.NameLaws as names
+use Rattle.names.proofs.Tests as tests
+use Rattle.names.proofs.NameLaws as names
 use Rattle.grammar.proofs.Steps as steps
 use Rattle.grammar.proofs.Steps.{Reach, then, one, after-relation}
 use Rattle.grammar.proofs.Relations.{letters-run, inside-acts}

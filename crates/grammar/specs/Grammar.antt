@@ -15,22 +15,18 @@ use mathlib.Core.Option.{Option, some}
 use Prim.Native.Nat.{ℕ, suc, _+_, _*_, _-_, _≤_, _<_, max}
 use lib.Dec.{eqb}
 use lib.ListN.{length, take}
+use Rattle.names.specs.Kinds.{isBlank, isPrinted, hexOf, isHexDigit, every}
 use Rattle.packet.specs.Names.{bytesOf}
 use Rattle.text.specs.Match.{lower}
 use Rattle.lines.specs.Numerals.{digit, valueFrom}
 use Rattle.equation.specs.Holds.{Relation}
 use Rattle.equation.specs.Symbols.{starsIn}
-use Rattle.grammar.specs.Names.{idNamed}
+use Rattle.names.specs.Names.{idNamed}
 use Rattle.grammar.specs.Formula as formula
 use Rattle.grammar.specs.Formula.{Formula}
-use Rattle.grammar.specs.Meaning.{isBlank, isPrinted, hexOf, isHexDigit, isEquality, widthOf, isWidth, numberRelation, textRelation}
+use Rattle.grammar.specs.Meaning.{isEquality, widthOf, isWidth, numberRelation, textRelation}
 use Rattle.grammar.specs.declared.Comparison.{Comparison}
 use Rattle.grammar.specs.declared.Comparison.the-variants.{Equal, Greater, Less, NotEqual, GreaterOrEqual, LessOrEqual}
-
--- a test holds of every byte
-unfoldable pub every : (ℕ → Bool) → List ℕ → Bool
-every test [] = true
-every test (b ∷ bs) = cond (test b) (every test bs) false
 
 abbrev pub Blanks : List ℕ → Type 0
 Blanks bs = every isBlank bs ≡ true

@@ -1,4 +1,3 @@
-pub mod Names
 pub mod Formula
 pub mod Meaning
 pub mod Grammar

@@ -6,13 +6,14 @@ use mathlib.Core.Option.{Option, none, some}
 use Prim.Native.Nat.{ℕ, suc, _+_, _-_, _*_}
 use lib.Dec.{ltb, leb, eqb}
 use lib.ListN.{length, drop}
+use Rattle.names.specs.Kinds.{isBlank, isPrinted, hexOf, isHexDigit}
 use Rattle.text.specs.Match.{lower}
 use Rattle.lines.specs.Numerals.{digit}
 use Rattle.equation.specs.Holds.{Relation}
 use Rattle.equation.specs.Symbols.{starsIn}
-use Rattle.grammar.specs.Names.{idNamed, startsName}
+use Rattle.names.specs.Names.{idNamed, startsName}
 use Rattle.grammar.specs.Formula.{Formula, relation, andAfter, orAfter}
-use Rattle.grammar.specs.Meaning.{isBlank, isPrinted, hexOf, isHexDigit, isEquality, orEqual, widthOf, isWidth, numberRelation, textRelation}
+use Rattle.grammar.specs.Meaning.{isEquality, orEqual, widthOf, isWidth, numberRelation, textRelation}
 use Rattle.grammar.specs.declared.Comparison.{Comparison}
 use Rattle.grammar.specs.declared.Comparison.the-variants as comparison
 use Rattle.grammar.specs.declared.Reason.{Reason}

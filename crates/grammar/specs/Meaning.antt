@@ -1,33 +1,14 @@
--- What the parts of a relation mean: operators, numbers with their widths, strings, and the bytes that make them. Assumes nothing.
+-- What the parts of a relation mean: operators, numbers with their widths, strings. Assumes nothing.
 use mathlib.Core.Bool.{Bool, true, false, cond}
 use mathlib.Core.List.{List}
 use Prim.Native.Nat.{ℕ, _+_, _*_, max}
-use lib.Dec.{ltb, leb, eqb}
+use lib.Dec.{ltb, eqb}
 use lib.ListN.{take}
 use Rattle.numbers.specs.Numbers.{four}
-use Rattle.text.specs.Match.{lower}
-use Rattle.lines.specs.Numerals.{hexValue}
 use Rattle.equation.specs.Holds.{Relation, relationOf}
-use Rattle.grammar.specs.Names.{usualWidth}
+use Rattle.names.specs.Names.{usualWidth}
 use Rattle.grammar.specs.declared.Comparison.{Comparison}
 use Rattle.grammar.specs.declared.Comparison.the-variants.{Equal, Greater, Less, NotEqual, GreaterOrEqual, LessOrEqual}
-
--- ---- bytes
-
--- "A blank is 20h or 09h"
-unfoldable pub isBlank : ℕ → Bool
-isBlank b = cond (eqb b 32) true (eqb b 9)
-
--- "a byte 20h to 7eh"
-unfoldable pub isPrinted : ℕ → Bool
-isPrinted b = cond (leb 32 b) (leb b 126) false
-
--- the value of a "hex digit of either case", 16 for any other byte
-abbrev pub hexOf : ℕ → ℕ
-hexOf b = hexValue (lower b)
-
-abbrev pub isHexDigit : ℕ → Bool
-isHexDigit b = ltb (hexOf b) 16
 
 -- ---- operators
 

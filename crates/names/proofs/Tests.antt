@@ -1,4 +1,4 @@
--- Laws on tests of bytes, on digits and on stars. Assumes nothing.
+-- Laws on tests of bytes and on digits. Assumes nothing.
 use mathlib.Core.Path.{_≡_, refl, sym, ap, _∙_}
 use mathlib.Core.Bool.{Bool, true, false, cond}
 use mathlib.Core.List.{List, [], _∷_, _++_}
@@ -7,11 +7,9 @@ use native.Mathlib.Omega.{arith}
 use lib.Dec.{ltb, leb, eqb}
 use lib.ListN.{length}
 use borrow.Author.Tests.{ltb-true, ltb-false, leb-true, eqb-true, eqb-false}
+use Rattle.names.specs.Kinds.{isBlank, isPrinted, hexOf, isHexDigit, every}
 use Rattle.text.specs.Match.{lower}
 use Rattle.lines.specs.Numerals.{digit, valueFrom, hexValue}
-use Rattle.equation.specs.Symbols.{starsIn}
-use Rattle.grammar.specs.Meaning.{isBlank, isPrinted, hexOf, isHexDigit}
-use Rattle.grammar.specs.Grammar.{every}
 
 -- ---- two tests
 
@@ -89,14 +87,3 @@ pub value-snoc : (v : ℕ) (ds : List ℕ) (d : ℕ) → valueFrom v (ds ++ d �
 unfolding valueFrom
 value-snoc v [] d = refl
 value-snoc v (x ∷ ds) d = value-snoc (10 * v + (x - 48)) ds d
-
--- ---- stars
-
-pub stars-append : (a b : List ℕ) → starsIn (a ++ b) ≡ starsIn a + starsIn b
-unfolding starsIn
-stars-append [] b = omega arith
-stars-append (x ∷ a) b = by (stars-append a b) (eqb x 42)
-  where
-    by : starsIn (a ++ b) ≡ starsIn a + starsIn b → (t : Bool) → cond t (suc (starsIn (a ++ b))) (starsIn (a ++ b)) ≡ cond t (suc (starsIn a)) (starsIn a) + starsIn b
-    by ih true = omega arith
-    by ih false = ih

@@ -12,8 +12,8 @@ use Rattle.packet.specs.Names.{bytesOf}
 use Rattle.text.specs.Match.{lower}
 use Rattle.lines.specs.Commands.{same}
 use Rattle.lines.proofs.FieldLaws.{same-equal}
-use Rattle.grammar.specs.Names.{Named, items, small, beginsWith, idIn, idNamed, startsIn, startsName}
-use Rattle.grammar.proofs.Tests.{first-true, second-true, clash}
+use Rattle.names.specs.Names.{Named, items, small, beginsWith, idIn, idNamed, startsIn, startsName}
+use Rattle.names.proofs.Tests.{first-true, second-true, clash}
 
 unknown : Option ℕ → Bool
 unknown none = true
