@@ -1,1 +1,4 @@
+pub mod Relations
+pub mod Derived
+pub mod Bytes
 pub mod Examples
