@@ -48,15 +48,23 @@ module _ (r : Relation) (f : Fit r) (bs : List ℕ) where
   relation-token : tokenOf (relationBytes r ++ bs) ≡ Rel (r .code) (r .id) (length (r .constant))
   unfolding relationBytes tokenOf relationAt
   relation-token =
-      rw (le-ltb (r .code) 128 (f .coded), le-leb (length (r .constant)) (length (r .constant ++ bs)) (omega (arith, length-append (r .constant) bs)),
-      take-at (r .constant) bs (length (r .constant)) refl, f .good, id-back)
+      rw (
+        le-ltb (r .code) 128 (f .coded),
+        le-leb (length (r .constant)) (length (r .constant ++ bs)) (omega (arith, length-append (r .constant) bs)),
+        take-at (r .constant) bs (length (r .constant)) refl,
+        f .good,
+        id-back,
+      )
 
   relation-symbols : symbols (relationBytes r ++ bs) ≡ rel r ∷ symbols bs
   unfolding relationBytes follow
   relation-symbols =
       first (r .code) (r .id % 256 ∷ r .id / 256 % 256 ∷ length (r .constant) ∷ (r .constant ++ bs)) (Rel (r .code) (r .id) (length (r .constant))) relation-token
-      ∙ rw (past-three (r .id % 256) (r .id / 256 % 256) (length (r .constant)) (length (r .constant)) (r .constant ++ bs), skip (r .constant) bs,
-      take-at (r .constant) bs (length (r .constant)) refl)
+      ∙ rw (
+        past-three (r .id % 256) (r .id / 256 % 256) (length (r .constant)) (length (r .constant)) (r .constant ++ bs),
+        skip (r .constant) bs,
+        take-at (r .constant) bs (length (r .constant)) refl,
+      )
 
 and-symbols : (bs : List ℕ) → symbols (1 ∷ bs) ≡ and ∷ symbols bs
 unfolding symbolsPast follow tokenOf connectiveOf
@@ -260,6 +268,7 @@ relation-is c d i m bs s e = go (ltb c 128) refl bs s e
   where
     three : 3 + m ≡ suc (suc (suc m))
     three = omega arith
+
     rest : 128 ≤ c → (a b n : ℕ) (bs : List ℕ) → Small (c ∷ a ∷ b ∷ n ∷ bs) → (x y : Bool) → leb n (length bs) ≡ x → good c (take n bs) ≡ y
         → cond x (cond y (Rel c (a + 256 * b) n) Bad) Bad ≡ Rel d i m → RelationIs c d i m (a ∷ b ∷ n ∷ bs)
     rest q a b n bs s false y l g e = let w : _≡_ {A = ℕ} 0 1 = cc in absurd (omega arith)
@@ -285,6 +294,7 @@ relation-is c d i m bs s e = go (ltb c 128) refl bs s e
                 short = omega arith;
               };
         }
+
     go : (x : Bool) → ltb c 128 ≡ x → (bs : List ℕ) → Small (c ∷ bs) → cond x (connectiveOf c (length bs)) (relationAt c bs) ≡ Rel d i m → RelationIs c d i m bs
     go true q bs s e = let w = no-relation c (length bs) d i m e in absurd (omega arith)
     go false q [] s e = let w : _≡_ {A = ℕ} 0 1 = cc in absurd (omega arith)

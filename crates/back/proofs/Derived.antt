@@ -276,11 +276,11 @@ mutual
 abbrev pub pairsOf : {text : List ℕ} {f : Formula} → Reads text f → ℕ
 pairsOf r = pairsS (r .sum)
 
-module _ (text : List ℕ) (f : Formula) (r : Reads text f) where
+module _ (text : List ℕ) (u : Formula) (r : Reads text u) (f : Formula) (e : u ≡ f) where
   -- The theorems: no text with this meaning has fewer pairs of brackets than the text of the formula, and none is nested less deep
   pub fewest : (w : AllWhole f) (n : nesting f ≤ 16) → pairsOf (text-reads f w n) ≤ pairsOf r
   unfolding text-reads
-  fewest w n = rw (paired f .of-sum [] [], ← r .is-formula) (few-sums (r .sum) .few)
+  fewest w n = omega (arith, paired f .of-sum [] [], ap pairsIn (r .is-formula ∙ e), few-sums (r .sum) .few)
 
   pub flattest : nesting f ≤ nestS (r .sum)
-  flattest = rw (← r .is-formula) (few-sums (r .sum) .flat)
+  flattest = omega (arith, ap nesting (r .is-formula ∙ e), few-sums (r .sum) .flat)

@@ -314,9 +314,16 @@ module _ (bytes steps : List ℕ) (e level n : ℕ) (w : Room bytes steps e leve
 
     total : length (opening p level) + (length (textAt p fst) + (4 + (length (textAt (p + 1) snd) + length (closing p level)))) ≤ n
     total =
-        omega (arith, w .room, ap length text-both, four-long, length-append (opening p level) (textAt p fst ++ (connectiveText p ++ (textAt (p + 1) snd ++ closing p level))),
-        length-append (textAt p fst) (connectiveText p ++ (textAt (p + 1) snd ++ closing p level)), length-append (connectiveText p) (textAt (p + 1) snd ++ closing p level),
-        length-append (textAt (p + 1) snd) (closing p level))
+        omega (
+          arith,
+          w .room,
+          ap length text-both,
+          four-long,
+          length-append (opening p level) (textAt p fst ++ (connectiveText p ++ (textAt (p + 1) snd ++ closing p level))),
+          length-append (textAt p fst) (connectiveText p ++ (textAt (p + 1) snd ++ closing p level)),
+          length-append (connectiveText p) (textAt (p + 1) snd ++ closing p level),
+          length-append (textAt (p + 1) snd) (closing p level),
+        )
 
     pub closing-room : length (closing p level) ≤ n
     closing-room = omega (arith, total)
@@ -369,9 +376,9 @@ module _ (bytes steps : List ℕ) (e level n : ℕ) (w : Room bytes steps e leve
 -- ---- a whole equation
 
 module _ (bytes steps : List ℕ) (w : Accepted bytes steps) where
-  pub all-ready : Ready bytes steps (length steps)
+  unfoldable pub all-ready : Ready bytes steps (length steps)
   all-ready = record { formula = w .formula; before = []; fits = omega arith; is = ap (symbolsBy bytes) (take-length steps) ∙ w .is }
 
-  pub all-room : length bytes ≤ 256 → Room bytes steps (length steps) 0 2560
+  unfoldable pub all-room : length bytes ≤ 256 → Room bytes steps (length steps) 0 2560
   unfolding textAt all-ready
   all-room h = record { ready = all-ready; stand = w .stand; room = w .short h }

@@ -4,4 +4,7 @@ pub mod Bytes
 pub mod Pieces
 pub mod Formulas
 pub mod Marks
+pub mod Lengths
+pub mod Answers
+pub mod Theorems
 pub mod Examples

@@ -154,8 +154,14 @@ module _ (s : List ℕ) (n : ℕ) (start out : List ℕ) (i k : ℕ) (p : Quotin
 
   pub quote-room : length (characterText (characterFor (getD s (i - 1) 0))) ≤ k
   quote-room =
-      omega (arith, p .fits, p .piece .place, quoted-drop (i - 1) s, ap length quoted-last,
-      length-append (characterText (characterFor (getD s (i - 1) 0))) (quoted (drop i s)))
+      omega (
+        arith,
+        p .fits,
+        p .piece .place,
+        quoted-drop (i - 1) s,
+        ap length quoted-last,
+        length-append (characterText (characterFor (getD s (i - 1) 0))) (quoted (drop i s)),
+      )
 
   pub quote-next : (r : ℕ) (now : List ℕ) → Piece (characterText (characterFor (getD s (i - 1) 0))) k out r now → Quoting s n start now (i - 1) r
   quote-next r now q =
@@ -185,6 +191,7 @@ width-small n w = by (eqb n 1) refl w
     by2 : (t : Bool) → eqb n 2 ≡ t → cond t true (eqb n 4) ≡ true → n ≤ 4
     by2 true e z = omega (arith, eqb-true n 2 e)
     by2 false e z = omega (arith, eqb-true n 4 z)
+
     by : (t : Bool) → eqb n 1 ≡ t → cond t true (cond (eqb n 2) true (eqb n 4)) ≡ true → n ≤ 4
     by true e z = omega (arith, eqb-true n 1 e)
     by false e z = by2 (eqb n 2) refl z
@@ -326,6 +333,7 @@ row-is (x ∷ xs) id h = here (row-is xs id) (eqb (length (bytesOf (x .name))) 0
           within = omega (arith, length-append (bytesOf (x .name)) (replicate (23 - length (bytesOf (x .name))) 0));
         }
     by n ih false = ih
+
     here : (allNamed xs ≡ true → RowIs id (rowIn xs id) (nameIn xs id)) → (t : Bool) → eqb (length (bytesOf (x .name))) 0 ≡ t → cond t false (allNamed xs) ≡ true
         → RowIs id (cond (eqb (x .id) id) (rowFor x) (rowIn xs id)) (cond (eqb (x .id) id) (some (bytesOf (x .name))) (nameIn xs id))
     here ih true e z = absurd (tests.clash false z refl)
@@ -373,9 +381,11 @@ module _ (r : Relation) where
       ≡ length (itemText (itemFor (r .id))) + (1 + (length (operatorText (comparisonFor (operatorOf (r .code)))) + (1 + length (constantText (constantFor r)))))
   relation-length =
       rw relation-is
-      (omega (arith,
-      length-append (itemText (itemFor (r .id))) (32 ∷ (operatorText (comparisonFor (operatorOf (r .code))) ++ (32 ∷ constantText (constantFor r)))),
-      length-append (operatorText (comparisonFor (operatorOf (r .code)))) (32 ∷ constantText (constantFor r))))
+      (omega (
+        arith,
+        length-append (itemText (itemFor (r .id))) (32 ∷ (operatorText (comparisonFor (operatorOf (r .code))) ++ (32 ∷ constantText (constantFor r)))),
+        length-append (operatorText (comparisonFor (operatorOf (r .code)))) (32 ∷ constantText (constantFor r)),
+      ))
 
   pub relation-piece : (n k j i h m : ℕ) (out m1 m2 m3 m4 now : List ℕ) → Piece (constantText (constantFor r)) n out k m1 → Piece (32 ∷ []) k m1 j m2
       → Piece (operatorText (comparisonFor (operatorOf (r .code)))) j m2 i m3 → Piece (32 ∷ []) i m3 h m4 → Piece (itemText (itemFor (r .id))) h m4 m now

@@ -77,6 +77,7 @@ name-back (x ∷ xs) id letters a h = by (name-back xs id letters (tests.second-
   where
     first : idNamed (small x) ≡ some (x .id)
     first = is-id (idNamed (small x)) (x .id) (tests.first-true (isId (idNamed (small x)) (x .id)) _ a)
+
     by : (nameIn xs id ≡ some letters → idNamed (map lower letters) ≡ some id)
         → (t : Bool) → eqb (x .id) id ≡ t → cond t (some (bytesOf (x .name))) (nameIn xs id) ≡ some letters → idNamed (map lower letters) ≡ some id
     by ih true e z =
@@ -99,9 +100,10 @@ item-stands id h none e =
     let a : id / 4096 % 16 < 16 = omega arith in
     let b : id / 256 % 16 < 16 = omega arith in
     let c : id / 16 % 16 < 16 = omega arith in
-    let d : id % 16 < 16 = omega arith in
-    (rw (hex-is (id / 4096 % 16) a, hex-is (id / 256 % 16) b, hex-is (id / 16 % 16) c, hex-is (id % 16) d),
-    rw (hex-back (id / 4096 % 16) a, hex-back (id / 256 % 16) b, hex-back (id / 16 % 16) c, hex-back (id % 16) d) (four-digits id h))
+    let d : id % 16 < 16 = omega arith in (
+      rw (hex-is (id / 4096 % 16) a, hex-is (id / 256 % 16) b, hex-is (id / 16 % 16) c, hex-is (id % 16) d),
+      rw (hex-back (id / 4096 % 16) a, hex-back (id / 256 % 16) b, hex-back (id / 16 % 16) c, hex-back (id % 16) d) (four-digits id h),
+    )
 
 -- ---- numbers
 
@@ -206,11 +208,13 @@ character-back b h = by (eqb b 34) refl
         let p : b / 16 < 16 = omega arith in
         let q : b % 16 < 16 = omega arith in
         (rw (hex-back (b / 16) p, hex-back (b % 16) q) (omega arith), rw (hex-is (b / 16) p, hex-is (b % 16) q))
+
     by2 : eqb b 34 ≡ false → (t : Bool) → eqb b 92 ≡ t
         → (characterByte (cond t (grammar.escaped 92) (cond (isPrinted b) (grammar.plain b) (grammar.coded (hexDigit (b / 16)) (hexDigit (b % 16))))) ≡ b)
         × (goodCharacter (cond t (grammar.escaped 92) (cond (isPrinted b) (grammar.plain b) (grammar.coded (hexDigit (b / 16)) (hexDigit (b % 16))))) ≡ true)
     by2 x true e = (sym (eqb-true b 92 e), refl)
     by2 x false e = by3 x e (isPrinted b) refl
+
     by : (t : Bool) → eqb b 34 ≡ t → CharacterBack b
     by true e = record { is = rw e (sym (eqb-true b 34 e)); good = rw e }
     by false e = let z = by2 e (eqb b 92) refl in record { is = rw e (z .0); good = rw e (z .1) }
@@ -235,10 +239,12 @@ text-told op bs h = by (eqb op 0) refl h
   where
     stars : cond (leb (starsIn bs) 4) true false ≡ true → starsIn bs ≤ 4
     stars z = leb-true (starsIn bs) 4 (tests.first-true (leb (starsIn bs) 4) true z)
+
     by2 : (t : Bool) → eqb op 3 ≡ t → cond t (leb (starsIn bs) 4) false ≡ true
         → (isEquality (comparisonFor op) ≡ true) × (operatorNumber (comparisonFor op) ≡ op) × (starsIn bs ≤ 4)
     by2 true e z = rw (eqb-true op 3 e) (unfold comparisonFor isEquality operatorNumber in (refl, refl, leb-true (starsIn bs) 4 z))
     by2 false e z = absurd (tests.clash false z refl)
+
     by : (t : Bool) → eqb op 0 ≡ t → cond (cond t true (eqb op 3)) (leb (starsIn bs) 4) false ≡ true
         → (isEquality (comparisonFor op) ≡ true) × (operatorNumber (comparisonFor op) ≡ op) × (starsIn bs ≤ 4)
     by true e z = rw (eqb-true op 0 e) (unfold comparisonFor isEquality operatorNumber in (refl, refl, leb-true (starsIn bs) 4 z))
@@ -268,12 +274,16 @@ module _ (r : Relation) (w : Whole r) where
     where
       t : (operatorOf (r .code) ≤ 5) × (width (length (r .constant)) ≡ true)
       t = number-told (operatorOf (r .code)) (length (r .constant)) g
+
       n : Numeral (r .constant)
       n = numeral (r .constant) (t .1) (w .bytes)
+
       c : 128 + 16 * operatorNumber (comparisonFor (operatorOf (r .code))) ≡ r .code
       c = rw (operator-back (operatorOf (r .code)) (t .0)) (omega (arith, w .code, w .fit .coded))
+
       v : ℕ
       v = number (r .constant)
+
       by : (t : Bool) → eqb (length (r .constant)) (widthOf (r .id) (number (r .constant))) ≡ t
           → ConstantBack r (comparisonFor (operatorOf (r .code))) (cond t (grammar.number (decimalOf (number (r .constant)))) (grammar.sized (decimalOf (number (r .constant))) (48 + length (r .constant))))
       by true e =
@@ -298,6 +308,14 @@ module _ (r : Relation) (w : Whole r) where
       by true e t f z = text-back (eqb-true (kindOf (r .code)) 3 e) (w .fit .good)
       by false e true f z = numeral-back (eqb-true (kindOf (r .code)) 0 f) z
       by false e false f z = absurd (tests.clash false z refl)
+
+  pub whole-number : eqb (kindOf (r .code)) 3 ≡ false → number (r .constant) ≤ 4294967295
+  unfolding good
+  whole-number k = by (eqb (kindOf (r .code)) 0) (rw k at (w .fit .good))
+    where
+      by : (t : Bool) → cond t (goodNumber (operatorOf (r .code)) (length (r .constant))) false ≡ true → number (r .constant) ≤ 4294967295
+      by true z = numeral (r .constant) (number-told (operatorOf (r .code)) (length (r .constant)) z .1) (w .bytes) .most
+      by false z = absurd (tests.clash false z refl)
 
   -- the laws
   pub relation-good : GoodWritten (writtenFor r)
