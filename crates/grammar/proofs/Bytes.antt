@@ -198,7 +198,7 @@ item-small (grammar.number a b c d) id h =
     ltb-true (hexOf c) 16 (tests.first-true (isHexDigit c) _ g2), ltb-true (hexOf d) 16 (tests.first-true (isHexDigit d) _ g3))
 
 -- 1, 2 and 4
-width-cases : (n : ℕ) → width n ≡ true → (P : ℕ → Type 0) → P 1 → P 2 → P 4 → P n
+pub width-cases : (n : ℕ) → width n ≡ true → (P : ℕ → Type 0) → P 1 → P 2 → P 4 → P n
 unfolding width
 width-cases n h P a b c = by (eqb n 1) refl h
   where
@@ -258,7 +258,7 @@ unfolding textRelation
 text-fit id c bytes h e i = record { coded = code-high c 131 (omega arith); good = text-good c bytes e i; id = h }
 
 -- a digit behind ":" is a width
-digit-width : (b v : ℕ) → isWidth b v ≡ true → width (b - 48) ≡ true
+pub digit-width : (b v : ℕ) → isWidth b v ≡ true → width (b - 48) ≡ true
 unfolding isWidth
 digit-width b v h = by (eqb b 49) refl h
   where
@@ -269,10 +269,14 @@ digit-width b v h = by (eqb b 49) refl h
     by true e z = rw (eqb-true b 49 e) (unfold width in refl)
     by false e z = by2 (eqb b 50) refl z
 
+-- a number without ":" has a width
+pub width-good : (id v : ℕ) → width (widthOf id v) ≡ true
+width-good id v = max-good (usualWidth id) (leastWidth v) (usual-good items id widths-good) (least-good v)
+
 meant-fit : (id : ℕ) (c : Comparison) (k : Constant) → id < 65536 → GoodConstant c k → Fit (meant id c k)
 unfolding GoodConstant meant
 meant-fit id c (grammar.number ds) h g =
-    number-fit id c (widthOf id (valueFrom 0 ds)) (valueFrom 0 ds) h (max-good (usualWidth id) (leastWidth (valueFrom 0 ds)) (usual-good items id widths-good) (least-good (valueFrom 0 ds)))
+    number-fit id c (widthOf id (valueFrom 0 ds)) (valueFrom 0 ds) h (width-good id (valueFrom 0 ds))
 meant-fit id c (grammar.sized ds w) h g = number-fit id c (w - 48) (valueFrom 0 ds) h (digit-width w (valueFrom 0 ds) (g .1))
 meant-fit id c (grammar.string cs) h g = text-fit id c (charactersBytes cs) h (g .1) (g .0 .stars)
 

@@ -31,7 +31,7 @@ use Rattle.grammar.proofs.Steps as steps
 
 -- ---- items
 
-lower-high : (b c : ℕ) → lower b ≡ c → 48 ≤ c → 48 ≤ b
+pub lower-high : (b c : ℕ) → lower b ≡ c → 48 ≤ c → 48 ≤ b
 unfolding lower
 lower-high b c e h = by (leb 65 b) refl e
   where
@@ -63,7 +63,7 @@ module _ (l : Level) (ls : List Level) where
   unfolding partOf lettered taken
   last-letter w b c id e h = rw (e, h)
 
-  next-letter : (w : List ℕ) (b c : ℕ) → lower b ≡ c → idNamed (w ++ c ∷ []) ≡ none → startsName (w ++ c ∷ []) ≡ true
+  pub next-letter : (w : List ℕ) (b c : ℕ) → lower b ≡ c → idNamed (w ++ c ∷ []) ≡ none → startsName (w ++ c ∷ []) ≡ true
       → taken (partOf (name w) b) l ls b ≡ go (inside (name (w ++ c ∷ [])) l ls)
   unfolding partOf lettered taken
   next-letter w b c e h i = rw (e, h, i)
@@ -124,7 +124,7 @@ module _ (id : ℕ) (l : Level) (ls : List Level) where
 
   order-runs : (c : Comparison) (b p : ℕ) (bs : List ℕ) → partOf (item id) b ≡ on (order id c) → NotEqualSign bs → Reach (inside (item id) l ls) p (b ∷ bs) (inside (constant id c) l ls) bs
   order-runs c b p bs h n =
-      then (part-on l ls (item id) (order id c) p b bs h) (λ q. record { place = q; runs = steps.order-ends id c l ls q bs n })
+      then (part-on l ls (item id) (order id c) p b bs h) (λ q. record { place = q; moves = refl; runs = steps.order-ends id c l ls q bs n })
 
   or-equal-runs : (c : Comparison) (b p : ℕ) (bs : List ℕ) → partOf (item id) b ≡ on (order id c) → Reach (inside (item id) l ls) p (b ∷ 61 ∷ bs) (inside (constant id (orEqual c)) l ls) bs
   or-equal-runs c b p bs h =
@@ -202,7 +202,7 @@ module _ (id : ℕ) (c : Comparison) (l : Level) (ls : List Level) where
   pub constant-runs : (k : Constant) (p : ℕ) (bs : List ℕ) → GoodConstant c k → Closes bs → Reach (inside (constant id c) l ls) p (constantText k ++ bs) (after-relation l ls (meant id c k)) bs
   unfolding GoodConstant constantText meant
   constant-runs (grammar.number ds) p bs g h =
-      then (number-runs ds p bs g) (λ q. record { place = q; runs = steps.number-ends id c l ls (valueFrom 0 ds) q bs h })
+      then (number-runs ds p bs g) (λ q. record { place = q; moves = refl; runs = steps.number-ends id c l ls (valueFrom 0 ds) q bs h })
   constant-runs (grammar.sized ds w) p bs g h =
       rw (append-assoc ds (58 ∷ w ∷ []) bs)
       (then (number-runs ds p (58 ∷ w ∷ bs) (g .0))

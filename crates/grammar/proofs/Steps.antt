@@ -39,20 +39,21 @@ stars-append (x ∷ a) b = by (stars-append a b) (eqb x 42)
 
 -- ---- runs
 
--- from a state and bytes to a state and bytes, wherever these stand
+-- from a state and bytes to a state and bytes, by as many places as bytes
 pub record Reach (st : State) (p : ℕ) (bs : List ℕ) (s : State) (rest : List ℕ) : Type 0 where
   pub place : ℕ
+  pub moves : place + length rest ≡ p + length bs
   pub runs : run st p bs ≡ run s place rest
 
 pub stay : (st : State) (p : ℕ) (bs : List ℕ) → Reach st p bs st bs
-stay st p bs = record { place = p; runs = refl }
+stay st p bs = record { place = p; moves = refl; runs = refl }
 
 pub then : {st s r : State} {p : ℕ} {xs bs cs : List ℕ} → Reach st p xs s bs → ((q : ℕ) → Reach s q bs r cs) → Reach st p xs r cs
-then x f = record { place = f (x .place) .place; runs = x .runs ∙ f (x .place) .runs }
+then x f = record { place = f (x .place) .place; moves = f (x .place) .moves ∙ x .moves; runs = x .runs ∙ f (x .place) .runs }
 
 pub one : (st s : State) (p b : ℕ) (bs : List ℕ) → step st b ≡ go s → Reach st p (b ∷ bs) s bs
 unfolding run moved
-one st s p b bs h = record { place = suc p; runs = rw h }
+one st s p b bs h = record { place = suc p; moves = omega arith; runs = rw h }
 
 -- ---- a byte in a relation
 

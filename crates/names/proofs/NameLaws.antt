@@ -12,8 +12,9 @@ use Rattle.packet.specs.Names.{bytesOf}
 use Rattle.text.specs.Match.{lower}
 use Rattle.lines.specs.Commands.{same}
 use Rattle.lines.proofs.FieldLaws.{same-equal}
+use Rattle.names.specs.Kinds.{every}
 use Rattle.names.specs.Names.{Named, items, small, beginsWith, idIn, idNamed, startsIn, startsName}
-use Rattle.names.proofs.Tests.{first-true, second-true, clash}
+use Rattle.names.proofs.Tests.{first-true, second-true, clash, no}
 
 unknown : Option ℕ → Bool
 unknown none = true
@@ -169,3 +170,68 @@ module _ (w : List ℕ) (n : idNamed w ≡ none) (c : Completion w) where
 
   pub walks-on : walks w (c .rest) ≡ true
   walks-on = walks-from [] w (c .rest) more-letters (name-walks (w ++ c .rest) (c .id) (c .is))
+
+-- ---- every name of the table
+
+pub record Listed (x : Named) : Type 0 where
+  pub walks : walks [] (small x) ≡ true
+  pub found : idNamed (small x) ≡ some (x .id)
+  pub five : 5 ≤ length (small x)
+  pub high : every (leb 48) (small x) ≡ true
+
+unfoldable pub AllListed : List Named → Type 0
+AllListed [] = Unit {0}
+AllListed (x ∷ xs) = Listed x × AllListed xs
+
+knows : Option ℕ → ℕ → Bool
+knows none id = false
+knows (some i) id = eqb i id
+
+known-is : (o : Option ℕ) (id : ℕ) → knows o id ≡ true → o ≡ some id
+unfolding knows
+known-is none id h = absurd (clash false h refl)
+known-is (some i) id h = ap some (eqb-true i id h)
+
+listedAll : List Named → Bool
+listedAll [] = true
+listedAll (x ∷ xs) = cond (walks [] (small x)) (cond (knows (idNamed (small x)) (x .id)) (cond (leb 5 (length (small x))) (cond (every (leb 48) (small x)) (listedAll xs) false) false) false) false
+
+are-listed : (xs : List Named) → listedAll xs ≡ true → AllListed xs
+unfolding listedAll AllListed
+are-listed [] h = tt
+are-listed (x ∷ xs) h =
+    let h1 = second-true (walks [] (small x)) _ h in
+    let h2 = second-true (knows (idNamed (small x)) (x .id)) _ h1 in
+    let h3 = second-true (leb 5 (length (small x))) _ h2 in
+    (record {
+      walks = first-true (walks [] (small x)) _ h;
+      found = known-is (idNamed (small x)) (x .id) (first-true (knows (idNamed (small x)) (x .id)) _ h1);
+      five = leb-true 5 (length (small x)) (first-true (leb 5 (length (small x))) _ h2);
+      high = first-true (every (leb 48) (small x)) _ h3
+    }, are-listed xs (second-true (every (leb 48) (small x)) _ h3))
+
+listed-test : listedAll items ≡ true
+unfolding listedAll every knows walks unknown items small bytesOf lower idIn startsIn beginsWith same
+listed-test = refl
+
+pub all-listed : AllListed items
+all-listed = are-listed items listed-test
+
+-- byte 0 is no letter
+begins-zero : (w cs : List ℕ) → every (leb 48) cs ≡ true → beginsWith (w ++ 0 ∷ []) cs ≡ true → ⊥
+unfolding every beginsWith
+begins-zero [] [] h i = clash false i refl
+begins-zero [] (c ∷ cs) h i =
+    let a : 48 ≤ c = leb-true 48 c (first-true (leb 48 c) _ h) in
+    let b : 0 ≡ c = eqb-true 0 c (first-true (eqb 0 c) _ i) in
+    omega arith
+begins-zero (x ∷ w) [] h i = clash false i refl
+begins-zero (x ∷ w) (c ∷ cs) h i = begins-zero w cs (second-true (leb 48 c) _ h) (second-true (eqb x c) _ i)
+
+starts-zero : (xs : List Named) (w : List ℕ) → AllListed xs → startsIn xs (w ++ 0 ∷ []) ≡ false
+unfolding AllListed startsIn
+starts-zero [] w h = refl
+starts-zero (x ∷ xs) w h = rw (no (beginsWith (w ++ 0 ∷ []) (small x)) (begins-zero w (small x) (h .0 .high)), starts-zero xs w (h .1))
+
+pub no-zero : (w : List ℕ) → startsName (w ++ 0 ∷ []) ≡ false
+no-zero w = starts-zero items w all-listed

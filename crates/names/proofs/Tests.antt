@@ -87,3 +87,8 @@ pub value-snoc : (v : ℕ) (ds : List ℕ) (d : ℕ) → valueFrom v (ds ++ d �
 unfolding valueFrom
 value-snoc v [] d = refl
 value-snoc v (x ∷ ds) d = value-snoc (10 * v + (x - 48)) ds d
+
+-- byte 0 is no hex digit
+pub hex-high : (b : ℕ) → isHexDigit b ≡ true → 0 < b
+hex-high zero h = let z : false ≡ true = unfold lower hexValue in h in absurd (clash true refl (sym z))
+hex-high (suc b) h = omega arith

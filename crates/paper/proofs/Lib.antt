@@ -1,0 +1,6 @@
+pub mod Places
+pub mod TokenLaws
+pub mod ItemLaws
+pub mod OutputLaws
+pub mod ConstantLaws
+pub mod Readers
