@@ -24,15 +24,16 @@ use Rattle.equation.proofs.StepLaws.{symbols-by}
 use Rattle.equation.proofs.Trees.{accepted}
 use Rattle.equation.proofs.Parsing.{taken, judged}
 use Rattle.grammar.specs.Formula.{Formula}
-use Rattle.back.specs.Text.{textOf, nesting}
-use Rattle.back.specs.Steps.{symbolsOf, textAt, nestingAt, Piece, Stands, AllStand, Ready, Room, Wrote, Measured, Accepted}
-use Rattle.back.specs.Answer.{formulaOf, answers, delivered, written, writtenBy, writtenOf}
+use Rattle.writing.specs.Text.{textOf, nesting}
+use Rattle.writing.specs.Places.{formulaOf, textAt, nestingAt}
+use Rattle.back.specs.Steps.{Piece, Stands, AllStand, Ready, Room, Wrote, Measured, Accepted}
+use Rattle.back.specs.Answer.{answers, delivered, written, writtenBy, writtenOf}
 use Rattle.back.specs.declared.Place.{Place}
 use Rattle.back.specs.declared.Nesting.{Nesting}
 use Rattle.back.specs.declared.Answer.{Answer}
 use Rattle.back.specs.declared.Answer.the-variants as answer
-use Rattle.back.proofs.Bytes.{parsed-symbols, parsed-whole, parsed-bytes}
-use Rattle.back.proofs.Lengths.{text-short, unmarked-short}
+use Rattle.writing.proofs.Bytes.{parsed-symbols, parsed-whole, parsed-bytes}
+use Rattle.writing.proofs.Lengths.{text-short, unmarked-short}
 use Rattle.back.proofs.Formulas.{all-ready, all-room}
 
 -- ---- the relations that an equation's steps name stand in it

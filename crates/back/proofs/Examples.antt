@@ -17,8 +17,9 @@ use Rattle.names.specs.Names.{items, widthIn, nameIn}
 use Rattle.names.specs.Kinds.{isPrinted}
 use Rattle.grammar.specs.Meaning.{leastWidth}
 use Rattle.grammar.specs.Grammar.{itemText, operatorText, characterText, charactersText, constantText, writtenText}
-use Rattle.back.specs.Text.{itemBy, characterFor, numberFor, constantFor, comparisonFor, textOf, productText, factorText, nesting, productNesting, factorNesting}
-use Rattle.back.specs.Answer.{formulaOf, delivered, written, writtenBy}
+use Rattle.writing.specs.Text.{itemBy, characterFor, numberFor, constantFor, comparisonFor, textOf, productText, factorText, nesting, productNesting, factorNesting}
+use Rattle.writing.specs.Places.{formulaOf}
+use Rattle.back.specs.Answer.{delivered, written, writtenBy}
 
 record Row : Type 0 where
   bytes : List ℕ
@@ -27,6 +28,15 @@ record Row : Type 0 where
 
 row : List ℕ → List ℕ → Row
 row bytes text = record { bytes = bytes; room = length text; says = answers (answer.Text (length text)) text }
+
+-- the same with room for so many bytes more, which stay as they are
+roomy : List ℕ → List ℕ → ℕ → Row
+roomy bytes text more =
+    record { bytes = bytes; room = length (text ++ replicate more 0); says = answers (answer.Text (length text)) (text ++ replicate more 0) }
+
+-- too little room: nothing is written
+short : List ℕ → ℕ → Row
+short bytes room = record { bytes = bytes; room = room; says = answers (answer.Refused 33) (replicate room 0) }
 
 none : List ℕ → Answer → Row
 none bytes a = record { bytes = bytes; room = 0; says = answers a [] }
@@ -46,7 +56,13 @@ right : ℕ → List ℕ
 right zero = more 0
 right (suc n) = more 0 ++ (right n ++ 1 ∷ [])
 
--- an AND of n relations with a text in front
+-- their text: all but the last one in brackets
+rightText : ℕ → List ℕ
+rightText zero = bytesOf "PRIORITY > 0"
+rightText (suc zero) = bytesOf "PRIORITY > 0 && PRIORITY > 0"
+rightText (suc (suc n)) = bytesOf "PRIORITY > 0 && (" ++ (rightText (suc n) ++ bytesOf ")")
+
+-- TITLE is a text
 quoted : List ℕ → List ℕ
 quoted s = 131 ∷ 34 ∷ 0 ∷ length s ∷ s
 
@@ -66,12 +82,16 @@ rows =
     ∷ none (replicate 2048 0) (answer.Refused 33)
     ∷ none [] (answer.Refused 8)
     ∷ none (more 1 ++ 0 ∷ []) answer.Mark
-    ∷ none (right 17) (answer.Refused 33)
+    ∷ roomy (more 1) (bytesOf "PRIORITY > 1") 3
+    ∷ short (more 1) 11
+    ∷ row (right 17) (rightText 17)
     ∷ none (right 18) answer.Deeper
+    ∷ none (right 60) answer.Deeper
+    ∷ none (right 18 ++ 0 ∷ []) answer.Mark
     ∷ none (quoted (replicate 252 97)) (answer.Refused 33)
     ∷ none (quoted (replicate 253 97)) answer.Bytes
     ∷ []
 
 computed : map said rows ≡ map want rows
-unfolding want said rows row none more right quoted bytesOf number digitsWithin decimalOf hexDigit width starsIn goodText goodNumber good connectiveOf relationAt tokenOf follow symbolsPast pushed joined result bind run parse beforeMark unmarkedPast items widthIn nameIn isPrinted leastWidth itemText operatorText characterText charactersText constantText writtenText itemBy characterFor numberFor constantFor comparisonFor textOf productText factorText nesting productNesting factorNesting formulaOf delivered written writtenBy writtenOf
+unfolding want said rows row roomy short none more right rightText quoted bytesOf number digitsWithin decimalOf hexDigit width starsIn goodText goodNumber good connectiveOf relationAt tokenOf follow symbolsPast pushed joined result bind run parse beforeMark unmarkedPast items widthIn nameIn isPrinted leastWidth itemText operatorText characterText charactersText constantText writtenText itemBy characterFor numberFor constantFor comparisonFor textOf productText factorText nesting productNesting factorNesting formulaOf delivered written writtenBy writtenOf
 computed = refl

@@ -1,122 +1,25 @@
--- The steps of a formula from their end: the last one, the operands before it, and the text and the nesting that the operands make. Assumes nothing.
-use mathlib.Core.Path.{_≡_, refl, sym, ap, subst, _∙_}
-use mathlib.Core.Bool.{Bool, true, false, cond}
-use mathlib.Core.List.{List, [], _∷_, _++_, map, append-assoc, append-nil}
+-- The steps of a formula from their end: the last one, the operands before it, and what is written and counted of them. Assumes nothing.
+use mathlib.Core.Path.{_≡_, refl, sym, ap, _∙_}
+use mathlib.Core.Bool.{cond}
+use mathlib.Core.List.{List, [], _∷_, _++_, append-assoc, append-nil}
 use Prim.Native.Nat.{ℕ, zero, suc, _+_, _-_, _*_, _≤_, _<_, max}
 use native.Mathlib.Omega.{arith}
 use lib.Dec.{ltb, eqb}
 use lib.ListN.{length, getD, take, length-append, length-map}
 use lib.Seq.{length-take-le, take-suc, take-take, take-at, take-length}
 use borrow.Author.Tests.{lt-ltb, le-ltb}
-use Rattle.packet.specs.Names.{bytesOf}
-use Rattle.equation.specs.Symbols.{Symbol, rel, and, or, bad}
-use Rattle.equation.specs.Holds.{Relation}
+use Rattle.equation.specs.Symbols.{Symbol}
 use Rattle.equation.specs.Parsed.{relationFrom, symbolAt, symbolsBy}
-use Rattle.grammar.specs.Formula.{Formula, relation, both, either}
-use Rattle.back.specs.Text.{relationText, textOf, productText, factorText, nesting, productNesting, factorNesting}
-use Rattle.back.specs.Steps.{symbolsOf, textAt, nestingAt, bindingOf, connectiveText, opening, closing, Piece, Stands, AllStand, Ready, Room, Wrote, Measured, Accepted}
+use Rattle.grammar.specs.Formula.{Formula, relation}
+use Rattle.writing.specs.Text.{relationText}
+use Rattle.writing.specs.Places.{symbolsOf, textAt, nestingAt, connectiveText, opening, closing}
+use Rattle.writing.proofs.Operands.{binds, join-text, join-nesting, connective-length, relation-text, relation-nesting, few-at, lastOf, initOf, split, snoc-same, is-relation, Joined, is-join, join-init}
+use Rattle.back.specs.Steps.{bindingOf, Piece, Stands, Ready, Room, Wrote, Measured, Accepted}
 use Rattle.back.specs.declared.Place.{Place}
 use Rattle.back.specs.declared.Nesting.{Nesting}
 use Rattle.back.proofs.Pieces.{before}
 
--- ---- a formula of two operands: AND where the test holds, else OR
-
-abbrev join : Bool → Formula → Formula → Formula
-join t a b = cond t (both a b) (either a b)
-
-abbrev binds : Bool → ℕ
-binds t = cond t 1 0
-
-join-text : (t : Bool) (level : ℕ) (a b : Formula)
-    → textAt level (join t a b) ≡ opening (binds t) level ++ (textAt (binds t) a ++ (connectiveText (binds t) ++ (textAt (binds t + 1) b ++ closing (binds t) level)))
-unfolding textAt textOf productText factorText opening closing connectiveText
-join-text true zero a b = simp append-nil
-join-text true (suc zero) a b = simp append-nil
-join-text true (suc (suc k)) a b = rw (lt-ltb 1 (suc (suc k)) (omega arith)) (simp append-assoc)
-join-text false zero a b = simp append-nil
-join-text false (suc zero) a b = simp append-assoc
-join-text false (suc (suc k)) a b = rw (lt-ltb 0 (suc (suc k)) (omega arith)) (simp append-assoc)
-
-join-nesting : (t : Bool) (level : ℕ) (a b : Formula)
-    → nestingAt level (join t a b) ≡ cond (ltb (binds t) level) (max (nestingAt (binds t) a) (nestingAt (binds t + 1) b) + 1) (max (nestingAt (binds t) a) (nestingAt (binds t + 1) b))
-unfolding nestingAt nesting productNesting factorNesting
-join-nesting true zero a b = refl
-join-nesting true (suc zero) a b = refl
-join-nesting true (suc (suc k)) a b = rw (lt-ltb 1 (suc (suc k)) (omega arith)) (omega arith)
-join-nesting false zero a b = refl
-join-nesting false (suc zero) a b = omega arith
-join-nesting false (suc (suc k)) a b = rw (lt-ltb 0 (suc (suc k)) (omega arith)) (omega arith)
-
-connective-length : (t : Bool) → length (connectiveText (binds t)) ≡ 4
-unfolding connectiveText bytesOf
-connective-length true = refl
-connective-length false = refl
-
-relation-text : (level : ℕ) (r : Relation) → textAt level (relation r) ≡ relationText r
-unfolding textAt textOf productText factorText
-relation-text zero r = refl
-relation-text (suc zero) r = refl
-relation-text (suc (suc k)) r = refl
-
-relation-nesting : (level : ℕ) (r : Relation) → nestingAt level (relation r) ≡ 0
-unfolding nestingAt nesting productNesting factorNesting
-relation-nesting zero r = refl
-relation-nesting (suc zero) r = refl
-relation-nesting (suc (suc k)) r = refl
-
--- a formula is nested less deep than it has steps
-record Few (f : Formula) : Type 0 where
-  whole : nesting f ≤ length (symbolsOf f)
-  product : productNesting f ≤ length (symbolsOf f)
-  factor : factorNesting f ≤ length (symbolsOf f)
-
-few : (f : Formula) → Few f
-unfolding nesting productNesting factorNesting symbolsOf
-few (relation r) = omega arith
-few (both a b) =
-    let x = few a in let y = few b in
-    omega (arith, length-append (symbolsOf a) (symbolsOf b ++ and ∷ []), length-append (symbolsOf b) (and ∷ []))
-few (either a b) =
-    let x = few a in let y = few b in
-    omega (arith, length-append (symbolsOf a) (symbolsOf b ++ or ∷ []), length-append (symbolsOf b) (or ∷ []))
-
-few-at : (level : ℕ) (f : Formula) → nestingAt level f ≤ length (symbolsOf f)
-unfolding nestingAt
-few-at zero f = few f .whole
-few-at (suc zero) f = few f .product
-few-at (suc (suc k)) f = few f .factor
-
 -- ---- the last step
-
-lastOf : Formula → Symbol
-lastOf (relation r) = rel r
-lastOf (both a b) = and
-lastOf (either a b) = or
-
-initOf : Formula → List Symbol
-initOf (relation r) = []
-initOf (both a b) = symbolsOf a ++ symbolsOf b
-initOf (either a b) = symbolsOf a ++ symbolsOf b
-
-split : (f : Formula) → symbolsOf f ≡ initOf f ++ lastOf f ∷ []
-unfolding symbolsOf initOf lastOf
-split (relation r) = refl
-split (both a b) = simp append-assoc
-split (either a b) = simp append-assoc
-
-no-snoc : (ys : List Symbol) (b : Symbol) → _≡_ {A = List Symbol} [] (ys ++ b ∷ []) → ⊥
-no-snoc [] b e = let z : _≡_ {A = ℕ} 0 1 = cc in omega arith
-no-snoc (y ∷ ys) b e = let z : _≡_ {A = ℕ} 0 1 = cc in omega arith
-
-snoc-same : (xs ys : List Symbol) (a b : Symbol) → xs ++ a ∷ [] ≡ ys ++ b ∷ [] → (xs ≡ ys) × (a ≡ b)
-snoc-same [] [] a b e = (refl, cc)
-snoc-same [] (y ∷ ys) a b e = let z : _≡_ {A = List Symbol} [] (ys ++ b ∷ []) = cc in absurd (no-snoc ys b z)
-snoc-same (x ∷ xs) [] a b e = let z : _≡_ {A = List Symbol} [] (xs ++ a ∷ []) = cc in absurd (no-snoc xs a z)
-snoc-same (x ∷ xs) (y ∷ ys) a b e =
-    let p : x ≡ y = cc in
-    let q : xs ++ a ∷ [] ≡ ys ++ b ∷ [] = cc in
-    let r = snoc-same xs ys a b q in
-    (rw (p, r .0), r .1)
 
 map-snoc : (bytes xs : List ℕ) (s : ℕ) → symbolsBy bytes (xs ++ s ∷ []) ≡ symbolsBy bytes xs ++ symbolAt bytes s ∷ []
 map-snoc bytes [] s = refl
@@ -139,34 +42,6 @@ last-step bytes steps e xs s h z =
     let t : take e steps ≡ take (e - 1) steps ++ getD steps (e - 1) 0 ∷ [] = ap (λ (i : ℕ). take i steps) k ∙ take-suc steps (e - 1) 0 (omega arith) in
     let p = snoc-same (symbolsBy bytes (take (e - 1) steps)) xs (symbolAt bytes (getD steps (e - 1) 0)) s (sym (map-snoc bytes (take (e - 1) steps) (getD steps (e - 1) 0)) ∙ sym (ap (symbolsBy bytes) t) ∙ z) in
     record { at = omega arith; is = p .1; rest = p .0 }
-
-is-relation : (f : Formula) (r : Relation) → lastOf f ≡ rel r → f ≡ relation r
-unfolding lastOf
-is-relation (relation q) r h = let z : q ≡ r = cc in rw z
-is-relation (both a b) r h = let z : _≡_ {A = ℕ} 0 1 = cc in absurd (omega arith)
-is-relation (either a b) r h = let z : _≡_ {A = ℕ} 0 1 = cc in absurd (omega arith)
-
-pub record Joined (t : Bool) (f : Formula) : Type 0 where
-  pub a : Formula
-  pub b : Formula
-  pub is : f ≡ join t a b
-
-is-join : (f : Formula) (t q : Bool) → lastOf f ≡ cond t and (cond q or bad) → Joined t f
-unfolding lastOf
-is-join (relation r) true q h = let z : _≡_ {A = ℕ} 0 1 = cc in absurd (omega arith)
-is-join (relation r) false true h = let z : _≡_ {A = ℕ} 0 1 = cc in absurd (omega arith)
-is-join (relation r) false false h = let z : _≡_ {A = ℕ} 0 1 = cc in absurd (omega arith)
-is-join (both a b) true q h = record { a = a; b = b; is = refl }
-is-join (both a b) false true h = let z : _≡_ {A = ℕ} 0 1 = cc in absurd (omega arith)
-is-join (both a b) false false h = let z : _≡_ {A = ℕ} 0 1 = cc in absurd (omega arith)
-is-join (either a b) true q h = let z : _≡_ {A = ℕ} 0 1 = cc in absurd (omega arith)
-is-join (either a b) false true h = record { a = a; b = b; is = refl }
-is-join (either a b) false false h = let z : _≡_ {A = ℕ} 0 1 = cc in absurd (omega arith)
-
-join-init : (t : Bool) (a b : Formula) → initOf (join t a b) ≡ symbolsOf a ++ symbolsOf b
-unfolding initOf
-join-init true a b = refl
-join-init false a b = refl
 
 module _ (bytes steps : List ℕ) (e : ℕ) (w : Ready bytes steps e) where
   the-last : Last bytes steps e (w .before ++ initOf (w .formula)) (lastOf (w .formula))

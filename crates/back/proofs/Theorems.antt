@@ -16,12 +16,13 @@ use Rattle.grammar.specs.Formula.{Formula, postfix}
 use Rattle.grammar.specs.Grammar.{Reads}
 use Rattle.grammar.specs.Machine.{accepted, outcomeOf}
 use Rattle.grammar.proofs.Complete.{complete}
-use Rattle.back.specs.Text.{textOf, nesting}
-use Rattle.back.specs.Answer.{formulaOf, Answers, answers, delivered, written, writtenBy, writtenOf}
+use Rattle.writing.specs.Text.{textOf, nesting}
+use Rattle.writing.specs.Places.{formulaOf}
+use Rattle.back.specs.Answer.{Answers, answers, delivered, written, writtenBy, writtenOf}
 use Rattle.back.specs.declared.Answer.{Answer}
 use Rattle.back.specs.declared.Answer.the-variants as answer
-use Rattle.back.proofs.Derived.{AllWhole, text-reads, pairsOf, fewest, flattest}
-use Rattle.back.proofs.Bytes.{parsed-whole, parsed-bytes, parsed-means}
+use Rattle.writing.proofs.Derived.{AllWhole, text-reads, pairsOf, fewest, flattest}
+use Rattle.writing.proofs.Bytes.{parsed-whole, parsed-bytes, parsed-means}
 use Rattle.back.proofs.Marks.{no-mark}
 
 -- bytes that are equations as they come in packets

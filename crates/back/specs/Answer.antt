@@ -7,18 +7,12 @@ use Prim.Native.Nat.{ℕ}
 use lib.Dec.{ltb, leb}
 use lib.ListN.{length, drop}
 use Rattle.equation.specs.Tree.{Tree, parse}
-use Rattle.equation.specs.Tree as tree
 use Rattle.equation.specs.Newer.{unmarked}
-use Rattle.grammar.specs.Formula.{Formula, relation, both, either}
-use Rattle.back.specs.Text.{textOf, nesting}
+use Rattle.grammar.specs.Formula.{Formula}
+use Rattle.writing.specs.Text.{textOf, nesting}
+use Rattle.writing.specs.Places.{formulaOf}
 use Rattle.back.specs.declared.Answer.{Answer}
 use Rattle.back.specs.declared.Answer.the-variants as answer
-
--- a tree of crates/equation, without the numbers of its relations
-unfoldable pub formulaOf : Tree → Formula
-formulaOf (tree.leaf k r) = relation r
-formulaOf (tree.both a b) = both (formulaOf a) (formulaOf b)
-formulaOf (tree.either a b) = either (formulaOf a) (formulaOf b)
 
 pub record Answers : Type 0 where
   pub answer : Answer

@@ -2,55 +2,22 @@
 -- text put before a place. Assumes nothing.
 use mathlib.Core.Path.{_≡_}
 use mathlib.Core.Bool.{true, cond}
-use mathlib.Core.List.{List, [], _∷_, _++_, map}
-use Prim.Native.Nat.{ℕ, zero, suc, _+_, _≤_, _<_}
-use lib.Dec.{ltb, eqb}
+use mathlib.Core.List.{List, _++_}
+use Prim.Native.Nat.{ℕ, _+_, _≤_, _<_}
+use lib.Dec.{eqb}
 use lib.ListN.{length, getD, take}
 use lib.Seq.{sets}
-use Rattle.packet.specs.Names.{bytesOf}
-use Rattle.equation.specs.Symbols.{Symbol, rel, and, or, good}
-use Rattle.equation.specs.Holds.{Relation}
+use Rattle.equation.specs.Symbols.{Symbol, good}
 use Rattle.equation.specs.Parsed.{relationFrom, symbolsBy}
-use Rattle.grammar.specs.Formula.{Formula, relation, both, either}
-use Rattle.grammar.specs.Grammar.{charactersText}
-use Rattle.back.specs.Text.{characterFor, textOf, productText, factorText, nesting, productNesting, factorNesting}
+use Rattle.grammar.specs.Formula.{Formula}
+use Rattle.writing.specs.Text.{textOf}
+use Rattle.writing.specs.Places.{symbolsOf, textAt}
 use Rattle.back.specs.declared.Place.{Place}
 use Rattle.back.specs.declared.Nesting.{Nesting}
 
--- a formula's relations and connectives in postfix order
-unfoldable pub symbolsOf : Formula → List Symbol
-symbolsOf (relation r) = rel r ∷ []
-symbolsOf (both a b) = symbolsOf a ++ (symbolsOf b ++ and ∷ [])
-symbolsOf (either a b) = symbolsOf a ++ (symbolsOf b ++ or ∷ [])
-
--- the text of a formula that stands as a whole (0), as a left operand of AND (1) or as a right one (2), and how deep brackets are nested in it
-unfoldable pub textAt : ℕ → Formula → List ℕ
-textAt zero f = textOf f
-textAt (suc zero) f = productText f
-textAt (suc (suc k)) f = factorText f
-
-unfoldable pub nestingAt : ℕ → Formula → ℕ
-nestingAt zero f = nesting f
-nestingAt (suc zero) f = productNesting f
-nestingAt (suc (suc k)) f = factorNesting f
-
--- a step that is AND binds as 1, one that is OR as 0: the left operand stands so, the right one binds closer by 1, and brackets are written where the
--- place asks for more
+-- how close the connective of a step binds: AND as 1, OR as 0
 unfoldable pub bindingOf : ℕ → ℕ
 bindingOf s = cond (eqb s 2048) 1 0
-
-unfoldable pub connectiveText : ℕ → List ℕ
-connectiveText p = cond (eqb p 1) (bytesOf " && ") (bytesOf " || ")
-
-unfoldable pub opening : ℕ → ℕ → List ℕ
-opening p level = cond (ltb p level) (40 ∷ []) []
-
-unfoldable pub closing : ℕ → ℕ → List ℕ
-closing p level = cond (ltb p level) (41 ∷ []) []
-
--- bytes of a string's text
-abbrev pub quoted : List ℕ → List ℕ
-quoted bytes = charactersText (map characterFor bytes)
 
 -- a text was put before place n, and begins at place r
 pub record Piece (text : List ℕ) (n : ℕ) (out : List ℕ) (r : ℕ) (now : List ℕ) : Type 0 where

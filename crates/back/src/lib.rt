@@ -24,8 +24,9 @@ ghost use Rattle.equation.specs.Newer.{unmarked};
 ghost use Rattle.equation.specs.Parsed.{relationFrom};
 ghost use Rattle.grammar.specs.Meaning.{leastWidth, widthOf};
 ghost use Rattle.grammar.specs.Grammar.{itemText, operatorText, characterText, constantText};
-ghost use Rattle.back.specs.Text.{itemFor, characterFor, numberFor, constantFor, comparisonFor, relationText, textOf};
-ghost use Rattle.back.specs.Steps.{textAt, nestingAt, bindingOf, connectiveText, opening, closing, quoted, Piece, Stands, Ready, Room, Wrote, Measured, Accepted};
+ghost use Rattle.writing.specs.Text.{itemFor, characterFor, numberFor, constantFor, comparisonFor, relationText, textOf};
+ghost use Rattle.writing.specs.Places.{textAt, nestingAt, connectiveText, opening, closing, quoted};
+ghost use Rattle.back.specs.Steps.{bindingOf, Piece, Stands, Ready, Room, Wrote, Measured, Accepted};
 ghost use Rattle.back.specs.Answer.{answers, writtenOf, written, delivered};
 
 // How an equation is answered: the number of bytes of its text; refused by 33 or 8; it ends in an end mark; its text would nest deeper than 16; it has

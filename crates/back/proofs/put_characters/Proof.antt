@@ -1,7 +1,7 @@
 -- `back::put_characters` meets its contract. Assumes nothing.
 use native.Mathlib.Omega.{arith}
 use lib.ListN.{drop}
-use Rattle.back.specs.Steps.{quoted}
+use Rattle.writing.specs.Places.{quoted}
 use Rattle.back.proofs.Pieces as pieces
 use Rattle.back.proofs.put_characters.Statement.{statement}
 use Rattle.back.proofs.put_characters.Tie as tie

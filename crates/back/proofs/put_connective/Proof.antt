@@ -1,6 +1,6 @@
 -- `back::put_connective` meets its contract. Assumes nothing.
 use borrow.Author.Needs.{needs}
-use Rattle.back.proofs.Pieces as pieces
+use Rattle.writing.proofs.Parts as parts
 use Rattle.back.proofs.put_connective.Statement.{statement}
 use Rattle.back.proofs.put_connective.Tie as tie
 
@@ -14,7 +14,7 @@ same-length : tie.Need-same-length
 same-length c = search needs
 
 returns : tie.Need-returns
-returns c = rw (← pieces.connective-and (c .before .before .before .before .before .before .before .args .p) (c .before .before .before .before .before .if1 .taken)) (c .before .before .put-all .ensures)
+returns c = rw (← parts.connective-and (c .before .before .before .before .before .before .before .args .p) (c .before .before .before .before .before .if1 .taken)) (c .before .before .put-all .ensures)
 
 slice-aggregate-put-all-2 : tie.Need-slice-aggregate-put-all-2
 slice-aggregate-put-all-2 c = search needs
@@ -26,7 +26,7 @@ same-length-2 : tie.Need-same-length-2
 same-length-2 c = search needs
 
 returns-2 : tie.Need-returns-2
-returns-2 c = rw (← pieces.connective-or (c .before .before .before .before .before .before .before .args .p) (c .before .before .before .before .before .if1 .left)) (c .before .before .put-all2 .ensures)
+returns-2 c = rw (← parts.connective-or (c .before .before .before .before .before .before .before .args .p) (c .before .before .before .before .before .if1 .left)) (c .before .before .put-all2 .ensures)
 
 pub put-connective-spec : {M : Type 1} → statement M
 put-connective-spec =

@@ -2,7 +2,7 @@
 use mathlib.Core.List.{[], _∷_, _++_}
 use Prim.Native.Nat.{_+_}
 use borrow.Author.Needs.{needs}
-use Rattle.back.specs.Steps.{quoted}
+use Rattle.writing.specs.Places.{quoted}
 use Rattle.back.proofs.Pieces as pieces
 use Rattle.back.proofs.put_string.Statement.{statement}
 use Rattle.back.proofs.put_string.Tie as tie

@@ -27,7 +27,7 @@ use Rattle.grammar.specs.Grammar.{Stands, goodCharacter, goodCharacters, charac
 use Rattle.grammar.specs.declared.Comparison.{Comparison}
 use Rattle.names.proofs.Tests as tests
 use Rattle.grammar.proofs.Bytes.{Fit}
-use Rattle.back.specs.Text.{itemBy, characterFor, numberFor, constantFor, comparisonFor, writtenFor}
+use Rattle.writing.specs.Text.{itemBy, characterFor, numberFor, constantFor, comparisonFor, writtenFor}
 
 -- a relation that bytes can say
 pub record Whole (r : Relation) : Type 0 where

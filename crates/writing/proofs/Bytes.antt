@@ -21,10 +21,9 @@ use Rattle.equation.proofs.TokenLaws.{no-relation, relation-fits}
 use Rattle.grammar.specs.Formula.{Formula, relation, both, either, relationBytes, postfix}
 use Rattle.grammar.specs.Grammar.{Reads}
 use Rattle.grammar.proofs.Bytes.{Fit, AllFit, text-fits}
-use Rattle.back.specs.Answer.{formulaOf}
-use Rattle.back.specs.Steps.{symbolsOf}
-use Rattle.back.proofs.Relations.{Whole}
-use Rattle.back.proofs.Derived.{AllWhole}
+use Rattle.writing.specs.Places.{symbolsOf, formulaOf}
+use Rattle.writing.proofs.Relations.{Whole}
+use Rattle.writing.proofs.Derived.{AllWhole}
 
 -- ---- the bytes of a formula are its symbols
 

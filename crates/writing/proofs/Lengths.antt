@@ -25,11 +25,11 @@ use Rattle.grammar.specs.Grammar as grammar
 use Rattle.grammar.specs.Grammar.{itemText, operatorText, characterText, charactersText, constantText}
 use Rattle.grammar.specs.declared.Comparison.{Comparison}
 use Rattle.grammar.specs.declared.Comparison.the-variants.{Equal, Greater, Less, NotEqual, GreaterOrEqual, LessOrEqual}
-use Rattle.back.specs.Text.{itemBy, itemFor, characterFor, numberFor, constantFor, comparisonFor, relationText, textOf, productText, factorText}
-use Rattle.back.specs.Steps.{quoted}
-use Rattle.back.proofs.Relations.{Whole, whole-number}
-use Rattle.back.proofs.Derived.{AllWhole}
-use Rattle.back.proofs.Pieces.{relation-length}
+use Rattle.writing.specs.Text.{itemBy, itemFor, characterFor, numberFor, constantFor, comparisonFor, relationText, textOf, productText, factorText}
+use Rattle.writing.specs.Places.{quoted}
+use Rattle.writing.proofs.Relations.{Whole, whole-number}
+use Rattle.writing.proofs.Derived.{AllWhole}
+use Rattle.writing.proofs.Parts.{relation-length}
 
 -- ---- items
 

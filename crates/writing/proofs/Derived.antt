@@ -12,8 +12,8 @@ use Rattle.grammar.specs.Formula.{Formula}
 use Rattle.names.specs.Kinds.{isBlank, every}
 use Rattle.grammar.specs.Grammar.{Blanks, Written, writtenText, relationOf, GoodWritten, Sum, product, plus, Product, factor, times, Factor, relation, bracket}
 use Rattle.grammar.specs.Grammar.{textS, textP, textF, formulaS, formulaP, formulaF, GoodS, GoodP, GoodF, nestS, nestP, nestF, pairsS, pairsP, pairsF, Reads}
-use Rattle.back.specs.Text.{writtenFor, relationText, textOf, productText, factorText, nesting, productNesting, factorNesting}
-use Rattle.back.proofs.Relations.{Whole, relation-good, relation-back}
+use Rattle.writing.specs.Text.{writtenFor, relationText, textOf, productText, factorText, nesting, productNesting, factorNesting}
+use Rattle.writing.proofs.Relations.{Whole, relation-good, relation-back}
 
 -- the blank towards a connective
 abbrev blank : List ℕ
