@@ -1,1 +1,10 @@
+pub mod Relations
+pub mod Derived
+pub mod Bytes
+pub mod Pieces
+pub mod Formulas
+pub mod Marks
+pub mod Lengths
+pub mod Answers
+pub mod Theorems
 pub mod Examples
