@@ -76,15 +76,23 @@ module _ (r : Relation) (f : Fit r) (bs : List ℕ) where
   relation-token : tokenOf (relationBytes r ++ bs) ≡ Rel (r .code) (r .id) (length (r .constant))
   unfolding relationBytes tokenOf relationAt
   relation-token =
-      rw (le-ltb (r .code) 128 (f .coded), le-leb (length (r .constant)) (length (r .constant ++ bs)) (omega (arith, length-append (r .constant) bs)),
-      take-at (r .constant) bs (length (r .constant)) refl, f .good, two-back)
+      rw (
+        le-ltb (r .code) 128 (f .coded),
+        le-leb (length (r .constant)) (length (r .constant ++ bs)) (omega (arith, length-append (r .constant) bs)),
+        take-at (r .constant) bs (length (r .constant)) refl,
+        f .good,
+        two-back,
+      )
 
   relation-symbols : symbols (relationBytes r ++ bs) ≡ symbol.rel r ∷ symbols bs
   unfolding relationBytes follow
   relation-symbols =
       first (r .code) (r .id % 256 ∷ r .id / 256 % 256 ∷ length (r .constant) ∷ (r .constant ++ bs)) (Rel (r .code) (r .id) (length (r .constant))) relation-token
-      ∙ rw (past-three (r .id % 256) (r .id / 256 % 256) (length (r .constant)) (length (r .constant)) (r .constant ++ bs), skip (r .constant) bs,
-      take-at (r .constant) bs (length (r .constant)) refl)
+      ∙ rw (
+        past-three (r .id % 256) (r .id / 256 % 256) (length (r .constant)) (length (r .constant)) (r .constant ++ bs),
+        skip (r .constant) bs,
+        take-at (r .constant) bs (length (r .constant)) refl,
+      )
 
 and-symbols : (bs : List ℕ) → symbols (1 ∷ bs) ≡ symbol.and ∷ symbols bs
 unfolding symbolsPast follow tokenOf connectiveOf
@@ -194,8 +202,14 @@ item-small (grammar.number a b c d) id h =
     let g1 = tests.second-true (isHexDigit a) _ g in
     let g2 = tests.second-true (isHexDigit b) _ g1 in
     let g3 = tests.second-true (isHexDigit c) _ g2 in
-    omega (arith, h .1, ltb-true (hexOf a) 16 (tests.first-true (isHexDigit a) _ g), ltb-true (hexOf b) 16 (tests.first-true (isHexDigit b) _ g1),
-    ltb-true (hexOf c) 16 (tests.first-true (isHexDigit c) _ g2), ltb-true (hexOf d) 16 (tests.first-true (isHexDigit d) _ g3))
+    omega (
+      arith,
+      h .1,
+      ltb-true (hexOf a) 16 (tests.first-true (isHexDigit a) _ g),
+      ltb-true (hexOf b) 16 (tests.first-true (isHexDigit b) _ g1),
+      ltb-true (hexOf c) 16 (tests.first-true (isHexDigit c) _ g2),
+      ltb-true (hexOf d) 16 (tests.first-true (isHexDigit d) _ g3),
+    )
 
 -- 1, 2 and 4
 pub width-cases : (n : ℕ) → width n ≡ true → (P : ℕ → Type 0) → P 1 → P 2 → P 4 → P n
@@ -265,6 +279,7 @@ digit-width b v h = by (eqb b 49) refl h
     by2 : (t : Bool) → eqb b 50 ≡ t → cond t (ltb v 65536) (eqb b 52) ≡ true → width (b - 48) ≡ true
     by2 true f y = rw (eqb-true b 50 f) (unfold width in refl)
     by2 false f y = rw (eqb-true b 52 y) (unfold width in refl)
+
     by : (t : Bool) → eqb b 49 ≡ t → cond t (ltb v 256) (cond (eqb b 50) (ltb v 65536) (eqb b 52)) ≡ true → width (b - 48) ≡ true
     by true e z = rw (eqb-true b 49 e) (unfold width in refl)
     by false e z = by2 (eqb b 50) refl z
@@ -285,6 +300,7 @@ written-fit r g = meant-fit (r .id) (r .comparison) (r .constant) (item-small (r
 
 mutual
   unfolding GoodS formulaS GoodP formulaP GoodF formulaF AllFit
+
   sum-fit : (x : Sum) → GoodS x → AllFit (formulaS x)
   sum-fit (product p) g = product-fit p g
   sum-fit (plus s p) g = (sum-fit s (g .0), product-fit p (g .1))

@@ -143,7 +143,7 @@ held-hash n v (a ∷ c ∷ d ∷ []) b h i =
       blanks = [];
       stands = unfold Stands every in (rw (h .1, h .2, h .3, i), omega arith);
       are = unfold every in refl;
-      text = unfold itemText in refl
+      text = unfold itemText in refl;
     })
 held-hash n v (a ∷ c ∷ d ∷ e ∷ f) b h i = absurd h
 
@@ -159,15 +159,25 @@ item-blank id s b h i =
 front-of : (id : ℕ) (c : Comparison) (u s : List ℕ) → ItemHeld id u → s ≡ u ++ operatorText c → Front id c s
 front-of id c u s h e =
     record {
-      item = h .item; before = h .blanks; behind = []; stands = h .stands; blank-before = h .are; blank-behind = unfold every in refl;
-      text = rw (e, h .text) (simp (append-assoc, append-nil))
+      item = h .item;
+      before = h .blanks;
+      behind = [];
+      stands = h .stands;
+      blank-before = h .are;
+      blank-behind = unfold every in refl;
+      text = rw (e, h .text) (simp (append-assoc, append-nil));
     }
 
 front-blank : (id : ℕ) (c : Comparison) (s : List ℕ) (b : ℕ) → Front id c s → isBlank b ≡ true → Front id c (s ++ b ∷ [])
 front-blank id c s b h i =
     record {
-      item = h .item; before = h .before; behind = h .behind ++ b ∷ []; stands = h .stands; blank-before = h .blank-before;
-      blank-behind = blank-more (h .behind) b (h .blank-behind) i; text = rw (h .text) (simp append-assoc)
+      item = h .item;
+      before = h .before;
+      behind = h .behind ++ b ∷ [];
+      stands = h .stands;
+      blank-before = h .blank-before;
+      blank-behind = blank-more (h .behind) b (h .blank-behind) i;
+      text = rw (h .text) (simp append-assoc);
     }
 
 -- a front and a constant are a relation
@@ -177,7 +187,7 @@ relation-of id c u s k h g e =
       written = record { item = h .item; id = id; before = h .before; comparison = c; behind = h .behind; constant = k };
       good = record { stands = h .stands; before = h .blank-before; behind = h .blank-behind; constant = g };
       text = unfold writtenText in rw (e, h .text) (simp append-assoc);
-      is = refl
+      is = refl;
     }
 
 -- ---- constants
@@ -190,9 +200,13 @@ unfolding PartHeld PhaseHeld
 opened id c s b h f g =
     rw (eqb-true b 34 f)
     (record {
-      u = s; front = h; equality = g; xs = [];
+      u = s;
+      front = h;
+      equality = g;
+      xs = [];
       good = record { are = unfold goodCharacters in refl; short = unfold charactersBytes in omega arith; stars = unfold charactersBytes starsIn in omega arith };
-      is = unfold charactersBytes in refl; text = unfold charactersText in refl
+      is = unfold charactersBytes in refl;
+      text = unfold charactersText in refl;
     })
 
 first-digit : (id : ℕ) (c : Comparison) (s : List ℕ) (b : ℕ) → Front id c s → digit b ≡ true → PartHeld (on (digits id c (b - 48))) s b
@@ -216,10 +230,14 @@ held-number id c v s b h =
     more e f =
         let z : valueFrom 0 (h .ds ++ b ∷ []) ≡ 10 * v + (b - 48) = rw (tests.value-snoc 0 (h .ds) b, h .value) in
         record {
-          u = h .u; front = h .front; ds = h .ds ++ b ∷ [];
+          u = h .u;
+          front = h .front;
+          ds = h .ds ++ b ∷ [];
           good = record { some = omega (arith, length-append (h .ds) (b ∷ [])); are = tests.every-append digit (h .ds) (b ∷ []) (h .good .are) (tests.every-one digit b e); fits = rw z f };
-          value = z; text = rw (h .text) (simp append-assoc)
+          value = z;
+          text = rw (h .text) (simp append-assoc);
         }
+
     whole-number : RelationHeld (numberRelation id c (widthOf id v) v) s
     whole-number = rw (← h .value) (unfold meant constantText GoodConstant in relation-of id c (h .u) s (grammar.number (h .ds)) (h .front) (h .good) (h .text))
 
@@ -252,9 +270,13 @@ string-more : (id : ℕ) (c : Comparison) (bytes w s t : List ℕ) (x : Characte
 string-more id c bytes w s t x b h g e f i j =
     let z : charactersBytes (h .xs ++ x ∷ []) ≡ bytes ++ b ∷ [] = rw (bytes-snoc (h .xs) x, h .is, e) in
     record {
-      u = h .u; front = h .front; equality = h .equality; xs = h .xs ++ x ∷ [];
+      u = h .u;
+      front = h .front;
+      equality = h .equality;
+      xs = h .xs ++ x ∷ [];
       good = record { are = good-snoc (h .xs) x (h .good .are) g; short = rw z (omega (arith, length-append bytes (b ∷ []))); stars = rw z j };
-      is = z; text = rw (h .text, text-snoc (h .xs) x, ← f) (simp (append-assoc, append-nil))
+      is = z;
+      text = rw (h .text, text-snoc (h .xs) x, ← f) (simp (append-assoc, append-nil));
     }
 
 string-behind : (id : ℕ) (c : Comparison) (bytes w s t : List ℕ) → StringHeld id c bytes w s → StringHeld id c bytes (w ++ t) (s ++ t)

@@ -99,6 +99,7 @@ module _ (l : Level) (ls : List Level) where
     where
       no-letters : idNamed [] ≡ some id → ⊥
       no-letters z = names.not-empty id z
+
       some-letter : (w : List ℕ) → idNamed w ≡ some id → 0 < length w
       some-letter [] z = absurd (no-letters z)
       some-letter (c ∷ w) z = omega arith

@@ -85,7 +85,7 @@ join-sum n (some t) p a b h y =
       good = (h .1 .good, y .good);
       nest = omega (arith, h .1 .nest, y .nest);
       text = rw (h .2, h .1 .text, y .text) (simp append-assoc);
-      means = rw (h .1 .means, y .means)
+      means = rw (h .1 .means, y .means);
     }
 
 join-product : (n : ℕ) (o : Option Formula) (p : Formula) (a b : List ℕ) → FrontP n o a → FactorHeld n p b → ProductHeld n (andAfter o p) (a ++ b)
@@ -97,7 +97,7 @@ join-product n (some t) p a b h y =
       good = (h .1 .good, y .good);
       nest = omega (arith, h .1 .nest, y .nest);
       text = rw (h .2, h .1 .text, y .text) (simp append-assoc);
-      means = rw (h .1 .means, y .means)
+      means = rw (h .1 .means, y .means);
     }
 
 record LevelHeld (n : ℕ) (l : Level) (s : List ℕ) : Type 0 where
@@ -151,7 +151,7 @@ finish l ls w s t h f =
       sum = h .held .sum;
       product = join-product (16 - length ls) (l .product) t (h .held .b) w (h .held .product) f;
       fits = h .fits;
-      text = rw (h .text, h .held .text) (simp (append-assoc, append-nil))
+      text = rw (h .text, h .held .text) (simp (append-assoc, append-nil));
     }
 
 -- a relation, behind blanks
@@ -162,7 +162,7 @@ factor-of n r k u b h =
       good = unfold GoodF in (b, h .good, unfold every in refl);
       nest = unfold nestF in omega arith;
       text = unfold textF in rw (h .text) (simp append-nil);
-      means = unfold formulaF in rw (h .is)
+      means = unfold formulaF in rw (h .is);
     }
 
 past-blank : (p : Formula) (o : Option Formula) (ls : List Level) (s : List ℕ) (b : ℕ) → isBlank b ≡ true → Past p o ls [] s → Past p o ls [] (s ++ b ∷ [])
@@ -176,7 +176,7 @@ past-blank p o ls s b z h =
       sum = h .sum;
       product = product-blank (16 - length ls) p (h .b) b z (y .x) (y .good) (y .nest) (y .text) (y .means);
       fits = h .fits;
-      text = rw (h .text) (simp (append-assoc, append-nil))
+      text = rw (h .text) (simp (append-assoc, append-nil));
     }
 
 past-joined : (p : Formula) (o : Option Formula) (ls : List Level) (s : List ℕ) (h : Past p o ls [] s) → SumHeld (16 - length ls) (orAfter o p) (h .a ++ h .b)
@@ -222,7 +222,7 @@ held-close p o (l ∷ ls) s h =
       good = unfold GoodF in (g .3, y .good, unfold every in refl);
       nest = unfold nestF in omega (arith, y .nest, g .6);
       text = unfold textF in rw (y .text);
-      means = unfold formulaF in y .means
+      means = unfold formulaF in y .means;
     })
 
 held-after : (p : Formula) (o : Option Formula) (ls : List Level) (b : ℕ) (s : List ℕ) → Past p o ls [] s → MoveHeld (after p o ls b) (s ++ b ∷ [])
@@ -254,15 +254,19 @@ held-want l ls b s h =
     (λ g. held-taken (partOf (name []) b) l ls b (h .0) [] s (h .1) (held-letters [] [] b refl) (rw append-nil (h .2)))))
   where
     opened : length ls < 16 → (k : List ℕ) × Blanks k × At fresh (l ∷ ls) k (s ++ 40 ∷ [])
-    opened z =
-        ([], unfold every in refl, record {
-          u = s ++ 40 ∷ [];
-          v = [];
-          around = unfold Around in (h .2 .u, h .2 .v, h .0, h .1, h .2 .around, h .2 .held, z, rw (h .2 .text) (simp append-assoc));
-          held = record { a = []; b = []; sum = unfold FrontS in refl; product = unfold FrontP in refl; text = refl };
-          fits = omega arith;
-          text = simp append-nil
-        })
+    opened z = (
+      [],
+      unfold every in refl,
+      record {
+        u = s ++ 40 ∷ [];
+        v = [];
+        around = unfold Around in (h .2 .u, h .2 .v, h .0, h .1, h .2 .around, h .2 .held, z, rw (h .2 .text) (simp append-assoc));
+        held = record { a = []; b = []; sum = unfold FrontS in refl; product = unfold FrontP in refl; text = refl };
+        fits = omega arith;
+        text = simp append-nil;
+      },
+    )
+
     hashed : (k : List ℕ) × (u : List ℕ) × Blanks k × PhaseHeld (hash 0 0) u × At l ls (k ++ u) (s ++ 35 ∷ [])
     hashed = (h .0, 35 ∷ [], h .1, unfold PhaseHeld HashHeld in ([], (refl, refl), refl), at-more l ls (h .0) s (35 ∷ []) (h .0 ++ 35 ∷ []) (h .2) refl)
 
@@ -272,17 +276,31 @@ held-step (want l ls) b s h = held-want l ls b s h
 held-step (inside ph l ls) b s h = held-taken (partOf ph b) l ls b (h .0) (h .1) s (h .2) (held-part ph b (h .1) (h .3)) (h .4)
 held-step (have p o ls) b s h = held-after p o ls b s h
 held-step (ampersand p o ls) b s h =
-    by-test (eqb b 38) _ _ (s ++ b ∷ []) (λ e. rw (eqb-true b 38 e) ([], unfold every in refl, record {
-      u = h .u; v = h .a ++ (h .b ++ 38 ∷ 38 ∷ []); around = h .around; fits = h .fits;
-      held = record { a = h .a; b = h .b ++ 38 ∷ 38 ∷ []; sum = h .sum; product = unfold FrontP in (h .b, h .product, refl); text = refl };
-      text = rw (h .text) (simp (append-assoc, append-nil))
-    })) (λ e. tt)
+    by-test (eqb b 38) _ _ (s ++ b ∷ []) (λ e. rw (eqb-true b 38 e) (
+      [],
+      unfold every in refl,
+      record {
+        u = h .u;
+        v = h .a ++ (h .b ++ 38 ∷ 38 ∷ []);
+        around = h .around;
+        fits = h .fits;
+        held = record { a = h .a; b = h .b ++ 38 ∷ 38 ∷ []; sum = h .sum; product = unfold FrontP in (h .b, h .product, refl); text = refl };
+        text = rw (h .text) (simp (append-assoc, append-nil));
+      },
+    )) (λ e. tt)
 held-step (bar p o ls) b s h =
-    by-test (eqb b 124) _ _ (s ++ b ∷ []) (λ e. rw (eqb-true b 124 e) ([], unfold every in refl, record {
-      u = h .u; v = (h .a ++ h .b) ++ 124 ∷ 124 ∷ []; around = h .around; fits = h .fits;
-      held = record { a = (h .a ++ h .b) ++ 124 ∷ 124 ∷ []; b = []; sum = unfold FrontS in (h .a ++ h .b, join-sum (16 - length ls) o p (h .a) (h .b) (h .sum) (h .product), refl); product = unfold FrontP in refl; text = simp append-nil };
-      text = rw (h .text) (simp (append-assoc, append-nil))
-    })) (λ e. tt)
+    by-test (eqb b 124) _ _ (s ++ b ∷ []) (λ e. rw (eqb-true b 124 e) (
+      [],
+      unfold every in refl,
+      record {
+        u = h .u;
+        v = (h .a ++ h .b) ++ 124 ∷ 124 ∷ [];
+        around = h .around;
+        fits = h .fits;
+        held = record { a = (h .a ++ h .b) ++ 124 ∷ 124 ∷ []; b = []; sum = unfold FrontS in (h .a ++ h .b, join-sum (16 - length ls) o p (h .a) (h .b) (h .sum) (h .product), refl); product = unfold FrontP in refl; text = simp append-nil };
+        text = rw (h .text) (simp (append-assoc, append-nil));
+      },
+    )) (λ e. tt)
 
 -- ---- the end
 
@@ -332,12 +350,18 @@ sound-from (b ∷ bs) st p t s h e = by (step st b) (held-step st b s h) e (λ r
 
 pub held-start : Held (want fresh []) []
 unfolding Held
-held-start =
-    ([], unfold every in refl, record {
-      u = []; v = []; around = unfold Around in refl;
-      held = record { a = []; b = []; sum = unfold FrontS in refl; product = unfold FrontP in refl; text = refl };
-      fits = omega arith; text = refl
-    })
+held-start = (
+  [],
+  unfold every in refl,
+  record {
+    u = [];
+    v = [];
+    around = unfold Around in refl;
+    held = record { a = []; b = []; sum = unfold FrontS in refl; product = unfold FrontP in refl; text = refl };
+    fits = omega arith;
+    text = refl;
+  },
+)
 
 -- ---- the theorems
 

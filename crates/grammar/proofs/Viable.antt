@@ -88,7 +88,7 @@ module _ (l : Level) (ls : List Level) where
         means = e .means;
         runs = λ p.
             (let x = letters-run l ls (c .rest) (inside (name w) l ls) w (c .rest) (c .id) p (e .rest) (inside-acts l ls w) (names.more-letters w n c) (names.walks-on w n c) (c .is) (c .lowered) in
-            x .runs ∙ e .runs (x .place))
+            x .runs ∙ e .runs (x .place));
       }
 
   -- hex digits "0" up to the fourth
@@ -194,7 +194,7 @@ wrong-later st s p b bs q why h r =
       rest = r .rest;
       means = r .means;
       begins = rw (z, h) (r .begins);
-      never = λ i more. rw (z, h) (r .never (omega arith) more)
+      never = λ i more. rw (z, h) (r .never (omega arith) more);
     }
 
 wrong-end : (st : State) (s : List ℕ) (p q : ℕ) (why : Reason) → Held st s → p ≡ q → Wrong st p [] q why
@@ -252,5 +252,5 @@ first-wrong text q why e =
       within = omega (arith, r .within);
       begins = record { rest = r .rest; means = r .means; reads = sound (take q text ++ r .rest) (r .means) begins };
       never = λ h b. clash q why (b .means) (sym (never h (b .rest)) ∙ complete (take (q + 1) text ++ b .rest) (b .means) (b .reads));
-      none = λ f x. clash q why f (sym e ∙ complete text f x)
+      none = λ f x. clash q why f (sym e ∙ complete text f x);
     }

@@ -65,7 +65,7 @@ walk w c d r h =
       high = leb-true 48 c (first-true (leb 48 c) _ h);
       no-id = no-name (idNamed (w ++ c ∷ [])) (first-true (unknown (idNamed (w ++ c ∷ []))) _ h1);
       starts = first-true (startsName (w ++ c ∷ [])) _ h2;
-      further = second-true (startsName (w ++ c ∷ [])) _ h2
+      further = second-true (startsName (w ++ c ∷ [])) _ h2;
     }
 
 pub last-high : (w : List ℕ) (c : ℕ) → walks w (c ∷ []) ≡ true → 48 ≤ c
@@ -202,13 +202,15 @@ are-listed [] h = tt
 are-listed (x ∷ xs) h =
     let h1 = second-true (walks [] (small x)) _ h in
     let h2 = second-true (knows (idNamed (small x)) (x .id)) _ h1 in
-    let h3 = second-true (leb 5 (length (small x))) _ h2 in
-    (record {
-      walks = first-true (walks [] (small x)) _ h;
-      found = known-is (idNamed (small x)) (x .id) (first-true (knows (idNamed (small x)) (x .id)) _ h1);
-      five = leb-true 5 (length (small x)) (first-true (leb 5 (length (small x))) _ h2);
-      high = first-true (every (leb 48) (small x)) _ h3
-    }, are-listed xs (second-true (every (leb 48) (small x)) _ h3))
+    let h3 = second-true (leb 5 (length (small x))) _ h2 in (
+      record {
+        walks = first-true (walks [] (small x)) _ h;
+        found = known-is (idNamed (small x)) (x .id) (first-true (knows (idNamed (small x)) (x .id)) _ h1);
+        five = leb-true 5 (length (small x)) (first-true (leb 5 (length (small x))) _ h2);
+        high = first-true (every (leb 48) (small x)) _ h3;
+      },
+      are-listed xs (second-true (every (leb 48) (small x)) _ h3),
+    )
 
 listed-test : listedAll items ≡ true
 unfolding listedAll every knows walks unknown items small bytesOf lower idIn startsIn beginsWith same

@@ -65,7 +65,7 @@ module _ (text : List ℕ) (at : ℕ) (within : at ≤ length text) (blank : isB
       record {
         forward = omega (arith, k .0);
         within = k .1;
-        runs = λ l ls. places.goes text at 35 (want l ls) (inside (hash 0 0) l ls) h (omega arith) (steps.want-hash l ls) ∙ k .2 l ls
+        runs = λ l ls. places.goes text at 35 (want l ls) (inside (hash 0 0) l ls) h (omega arith) (steps.want-hash l ls) ∙ k .2 l ls;
       }
   hash-item (item-read.Wrong p) h k = λ l ls. places.goes text at 35 (want l ls) (inside (hash 0 0) l ls) h (omega arith) (steps.want-hash l ls) ∙ k l ls
 
@@ -127,7 +127,7 @@ module _ (text : List ℕ) (at id : ℕ) (c : Comparison) (out : List ℕ) (n b 
           within = h .within;
           count = omega (arith, t);
           bytes = head-bytes (128 + 16 * operatorNumber c) id w (take w (four v)) out mid now n m (sym t) hm e1 e2;
-          runs = λ l ls. to-digits l ls ∙ a .runs id c l ls ∙ h .runs c l ls
+          runs = λ l ls. to-digits l ls ∙ a .runs id c l ls ∙ h .runs c l ls;
         }
 
 -- ---- strings
@@ -145,8 +145,14 @@ pub record Spelling (text : List ℕ) (at n : ℕ) (out₀ : List ℕ) (p m star
 pub spelling-none : (text : List ℕ) (at n : ℕ) (out : List ℕ) → at ≤ length text → Spelling text at n out at n 0 out
 spelling-none text at n out h =
     record {
-      content = []; short = omega arith; few = omega arith; within = h; count = omega arith; bytes = refl; starred = unfold starsIn in refl;
-      runs = λ id c l ls. refl
+      content = [];
+      short = omega arith;
+      few = omega arith;
+      within = h;
+      count = omega arith;
+      bytes = refl;
+      starred = unfold starsIn in refl;
+      runs = λ id c l ls. refl;
     }
 
 stars-few : (bs : List ℕ) → starsIn bs ≤ length bs
@@ -171,8 +177,13 @@ module _ (text : List ℕ) (at n : ℕ) (out₀ : List ℕ) (p m stars : ℕ) (o
   pub string-ends : getD text p 0 ≡ 34 → StringIs text at out₀ n (p + 1) m out
   string-ends h =
       record {
-        content = s .content; short = s .short; few = omega (arith, s .few); within = omega (arith, places.byte-in text p 34 h (omega arith)); count = s .count; bytes = s .bytes;
-        runs = λ id c l ls. s .runs id c l ls ∙ places.part-whole text p (string id c (s .content)) (textRelation id c (s .content)) 34 h (omega arith) (steps.string-end id c (s .content)) l ls
+        content = s .content;
+        short = s .short;
+        few = omega (arith, s .few);
+        within = omega (arith, places.byte-in text p 34 h (omega arith));
+        count = s .count;
+        bytes = s .bytes;
+        runs = λ id c l ls. s .runs id c l ls ∙ places.part-whole text p (string id c (s .content)) (textRelation id c (s .content)) 34 h (omega arith) (steps.string-end id c (s .content)) l ls;
       }
 
   pub string-wrong : (q : ℕ) (why : Reason) (now : List ℕ) → tokens.CharacterRead text p (s .content) (character.Wrong q why) → StringRead text at out₀ n (Wrong q why) now
@@ -190,7 +201,7 @@ module _ (text : List ℕ) (at n : ℕ) (out₀ : List ℕ) (p m stars : ℕ) (o
         count = omega (arith, len, s .count);
         bytes = output.put-more out₀ out now n m (s .content) b (s .bytes) (s .count) hn;
         starred = ht ∙ rw (s .starred) (sym (steps.stars-append (s .content) (b ∷ [])));
-        runs = λ id c l ls. s .runs id c l ls ∙ h .runs id c l ls
+        runs = λ id c l ls. s .runs id c l ls ∙ h .runs id c l ls;
       }
 
 pub was-string : (text : List ℕ) (at : ℕ) (out : List ℕ) (n : ℕ) (r x : Reading) (now : List ℕ) → StringRead text at out n r now → r ≡ x → StringRead text at out n x now
@@ -221,7 +232,7 @@ module _ (text : List ℕ) (at id : ℕ) (c : Comparison) (out : List ℕ) (n m 
         within = h .within;
         count = omega (arith, h .count);
         bytes = length-last (131 + 16 * operatorNumber c) id (k - m) (h .content) out mid late now n m hm e1 (h .bytes) e2 size;
-        runs = λ l ls. h .runs id c l ls
+        runs = λ l ls. h .runs id c l ls;
       }
 
 -- ---- constants
@@ -230,8 +241,12 @@ module _ (text : List ℕ) (at id : ℕ) (c : Comparison) (out : List ℕ) (n : 
   pub string-from : b ≡ 34 → isEquality c ≡ true → (r : Reading) (now : List ℕ) → StringConstantRead text (at + 1) id c out n r now → ConstantRead text at id c out n r now
   string-from h i (At e m) now k =
       record {
-        relation = k .relation; few = omega (arith, k .few); within = k .within; count = k .count; bytes = k .bytes;
-        runs = λ l ls. places.part-goes text at (constant id c) (string id c []) 34 (sym hb ∙ h) (omega arith) (steps.wants-string id c i) l ls ∙ k .runs l ls
+        relation = k .relation;
+        few = omega (arith, k .few);
+        within = k .within;
+        count = k .count;
+        bytes = k .bytes;
+        runs = λ l ls. places.part-goes text at (constant id c) (string id c []) 34 (sym hb ∙ h) (omega arith) (steps.wants-string id c i) l ls ∙ k .runs l ls;
       }
   string-from h i (Wrong p why) now k = λ l ls.
       places.part-goes text at (constant id c) (string id c []) 34 (sym hb ∙ h) (omega arith) (steps.wants-string id c i) l ls ∙ k l ls
@@ -273,7 +288,11 @@ module _ (text : List ℕ) (at : ℕ) (out : List ℕ) (n id e : ℕ) (i : ItemI
     pub relation-read : (r : Reading) (now : List ℕ) → ConstantRead text d id c out n r now → RelationRead text at out n r now
     relation-read (At x m) now h =
         record {
-          relation = h .relation; few = omega (arith, h .few, far); within = h .within; count = h .count; bytes = h .bytes;
-          runs = λ l ls. to-constant l ls ∙ h .runs l ls
+          relation = h .relation;
+          few = omega (arith, h .few, far);
+          within = h .within;
+          count = h .count;
+          bytes = h .bytes;
+          runs = λ l ls. to-constant l ls ∙ h .runs l ls;
         }
     relation-read (Wrong p why) now h = λ l ls. to-constant l ls ∙ h l ls

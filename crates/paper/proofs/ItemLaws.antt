@@ -114,7 +114,7 @@ found-known (x ∷ xs) m bs id n h e =
           named = rw (← i) (h .0 .found);
           size = sym k;
           five = omega (arith, h .0 .five);
-          within = omega (arith, shared-within (small x) bs)
+          within = omega (arith, shared-within (small x) bs);
         }
     by ih false f z = ih z
 
@@ -146,6 +146,7 @@ found-unknown (x ∷ xs) m bs most h b e =
     other : (beginsWith (map lower (take (suc most) bs)) (small x) ≡ true → ⊥) → startsIn xs (map lower (take (suc most) bs)) ≡ false
         → beginsWith (map lower (take (suc most) bs)) (small x) || startsIn xs (map lower (take (suc most) bs)) ≡ false
     other y z = rw (tests.no (beginsWith (map lower (take (suc most) bs)) (small x)) y, z)
+
     by : (Best bs (max m (shared (small x) bs)) → foundIn xs (max m (shared (small x) bs)) bs ≡ Unknown most → UnknownAt xs (max m (shared (small x) bs)) bs most)
         → (t : Bool) → eqb (shared (small x) bs) (length (small x)) ≡ t
         → cond t (Known (x .id) (length (small x))) (foundIn xs (max m (shared (small x) bs)) bs) ≡ Unknown most → UnknownAt (x ∷ xs) m bs most
@@ -155,7 +156,7 @@ found-unknown (x ∷ xs) m bs most h b e =
         record {
           least = omega (arith, u .least);
           best = u .best;
-          no-more = λ i. other (λ y. omega (arith, u .least, begins-shared (suc most) (small x) bs (omega arith) y)) (u .no-more i)
+          no-more = λ i. other (λ y. omega (arith, u .least, begins-shared (suc most) (small x) bs (omega arith) y)) (u .no-more i);
         }
 
 -- what begins no name is none
@@ -230,7 +231,7 @@ module _ (text : List ℕ) (at : ℕ) (within : at ≤ length text) (blank : isB
         forward = omega (arith, k .five);
         within = omega (arith, k .within, length-drop at text);
         runs = λ l ls. later (want l ls) (inside (item id) l ls) n (k .within)
-            (letters-run l ls (k .letters) (want l ls) [] (take n (drop at text)) id at (drop n (drop at text)) (want-acts l ls) (omega (arith, k .five, k .size)) (k .walks) (k .named) (k .spelled))
+            (letters-run l ls (k .letters) (want l ls) [] (take n (drop at text)) id at (drop n (drop at text)) (want-acts l ls) (omega (arith, k .five, k .size)) (k .walks) (k .named) (k .spelled));
       }
 
   -- no name goes on with the next byte

@@ -4,3 +4,5 @@ pub mod ItemLaws
 pub mod OutputLaws
 pub mod ConstantLaws
 pub mod Readers
+pub mod Answering
+pub mod Promised

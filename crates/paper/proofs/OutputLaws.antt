@@ -41,6 +41,7 @@ four-wide w h i j = by (eqb w 1) refl h
     by2 : (t : Bool) → eqb w 2 ≡ t → cond t true (eqb w 4) ≡ true → w ≡ 4
     by2 true e z = absurd (j (eqb-true w 2 e))
     by2 false e z = eqb-true w 4 z
+
     by : (t : Bool) → eqb w 1 ≡ t → cond t true (cond (eqb w 2) true (eqb w 4)) ≡ true → w ≡ 4
     by true e z = absurd (i (eqb-true w 1 e))
     by false e z = by2 (eqb w 2) refl z

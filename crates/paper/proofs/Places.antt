@@ -127,7 +127,7 @@ module _ (text : List ℕ) (at : ℕ) where
         record {
           forward = omega (arith, r .forward);
           within = omega (arith, passed-in h);
-          runs = λ st z. r .runs st z ∙ goes text e b st st (sym hb) (blank-high b h) (z b h)
+          runs = λ st z. r .runs st z ∙ goes text e b st st (sym hb) (blank-high b h) (z b h);
         }
 
     pub skipped : isBlank b ≡ false → Skipped text at e

@@ -48,7 +48,7 @@ module _ (text : List ℕ) (at left q : ℕ) (s : Skipped text at q) (b : ℕ) (
         room = y;
         forward = omega (arith, s .forward);
         within = omega arith;
-        runs = λ l ls e. to-factor l ls ∙ laws.goes text q 40 (want l ls) (want fresh (l ∷ ls)) (sym hb ∙ h) (omega arith) (steps.want-open l ls (omega arith))
+        runs = λ l ls e. to-factor l ls ∙ laws.goes text q 40 (want l ls) (want fresh (l ∷ ls)) (sym hb ∙ h) (omega arith) (steps.want-open l ls (omega arith));
       }
 
   pub start-relation : (b ≡ 40 → ⊥) → Relates text at q
@@ -94,6 +94,7 @@ module _ (text : List ℕ) (at b : ℕ) (r : Joiner) (h : r ≡ joinAt text at b
       by2 : getD text at 0 ≡ b → (t : Bool) → eqb (getD text (at + 1) 0) b ≡ t → JoinRead text at b (cond t joiner.Whole joiner.Half)
       by2 e true f = (e, eqb-true (getD text (at + 1) 0) b f)
       by2 e false f = (e, eqb-false (getD text (at + 1) 0) b f)
+
       by : (t : Bool) → eqb (getD text at 0) b ≡ t → JoinRead text at b (cond t (cond (eqb (getD text (at + 1) 0) b) joiner.Whole joiner.Half) joiner.Other)
       by true e = by2 (eqb-true (getD text at 0) b e) (eqb (getD text (at + 1) 0) b) refl
       by false e = eqb-false (getD text at 0) b e
@@ -110,7 +111,7 @@ module _ (text : List ℕ) (at left : ℕ) (out : List ℕ) (n : ℕ) where
         within = h .within;
         count = h .count;
         bytes = h .bytes;
-        runs = λ l ls z. s .runs l ls ∙ h .runs l ls
+        runs = λ l ls z. s .runs l ls ∙ h .runs l ls;
       }
   factor-relation q s (Wrong p why) now h = λ l ls z. s .runs l ls ∙ h l ls
 
@@ -130,7 +131,7 @@ module _ (text : List ℕ) (at left : ℕ) (out : List ℕ) (n : ℕ) where
             within = omega (arith, laws.byte-in text q 41 h (omega arith));
             count = s .count;
             bytes = s .bytes;
-            runs = λ l ls z. to-close l ls z ∙ laws.goes text q 41 (have (s .product) (s .sum) (l ∷ ls)) (have (andAfter (l .product) (orAfter (s .sum) (s .product))) (l .sum) ls) h (omega arith) (steps.have-close (s .product) (s .sum) ls l)
+            runs = λ l ls z. to-close l ls z ∙ laws.goes text q 41 (have (s .product) (s .sum) (l ∷ ls)) (have (andAfter (l .product) (orAfter (s .sum) (s .product))) (l .sum) ls) h (omega arith) (steps.have-close (s .product) (s .sum) ls l);
           }
 
       pub factor-open : (getD text q 0 ≡ 41 → ⊥) → FactorRead text at left out n (Wrong q (cond (ltb q (length text)) reason.Connective reason.Bracket)) now
@@ -147,6 +148,7 @@ module _ (text : List ℕ) (at left : ℕ) (out : List ℕ) (n : ℕ) where
               → FactorRead text at left out n (cond t (Wrong q reason.Connective) (Wrong q reason.Bracket)) now
           open-by h true f = rw f at (factor-open h)
           open-by h false f = rw f at (factor-open h)
+
           by : (t : Bool) → eqb (getD text q 0) 41 ≡ t
               → FactorRead text at left out n (cond t (At (q + 1) m) (cond (ltb q (length text)) (Wrong q reason.Connective) (Wrong q reason.Bracket))) now
           by true f = factor-closed (eqb-true (getD text q 0) 41 f)
@@ -179,7 +181,7 @@ grown-none text left p m out h i =
       within = i;
       count = omega arith;
       bytes = refl;
-      runs = λ t o ls z. refl
+      runs = λ t o ls z. refl;
     }
 
 module _ (text : List ℕ) (left p₀ m₀ : ℕ) (out₀ : List ℕ) (p m : ℕ) (out : List ℕ) (g : Grown text left p₀ m₀ out₀ p m out) (q : ℕ) (s : Skipped text p q) where
@@ -196,7 +198,7 @@ module _ (text : List ℕ) (left p₀ m₀ : ℕ) (out₀ : List ℕ) (p m : ℕ
         no-and = h;
         count = rw (g .grows (f .means), length-append (postfix (f .means)) (g .more)) (omega (arith, f .count, g .count));
         bytes = g .bytes ∙ rw (g .grows (f .means), f .bytes, f .count, sets-joined out-in n (postfix (f .means)) (g .more));
-        runs = λ o ls z. f .runs (level o none) ls z ∙ to-joiner (f .means) o ls z
+        runs = λ o ls z. f .runs (level o none) ls z ∙ to-joiner (f .means) o ls z;
       }
 
   module _ (a : getD text q 0 ≡ 38) where
@@ -235,7 +237,7 @@ module _ (text : List ℕ) (left p₀ m₀ : ℕ) (out₀ : List ℕ) (p m : ℕ
             within = f .within;
             count = omega (arith, d, f .count, g .count);
             bytes = hnow ∙ rw (f .bytes, f .count, g .bytes, g .count, sets-joined out₀ m₀ (g .more) (postfix (f .means) ++ 1 ∷ []), sets-joined (sets out₀ m₀ (g .more)) (m₀ + length (g .more)) (postfix (f .means)) (1 ∷ []));
-            runs = λ t o ls z. to-want t o ls z ∙ f .runs (level o (some (g .grow t))) ls z
+            runs = λ t o ls z. to-want t o ls z ∙ f .runs (level o (some (g .grow t))) ls z;
           }
 
 -- ---- a sum: its further products
@@ -268,7 +270,7 @@ summed-none text at left out-in n p m out h f =
       within = f .within;
       count = omega arith;
       bytes = refl;
-      runs = λ t ls z. refl
+      runs = λ t ls z. refl;
     }
 
 module _ (text : List ℕ) (left p₀ m₀ : ℕ) (out₀ : List ℕ) (p m : ℕ) (out : List ℕ) (g : Summed text left p₀ m₀ out₀ p m out) where
@@ -284,7 +286,7 @@ module _ (text : List ℕ) (left p₀ m₀ : ℕ) (out₀ : List ℕ) (p m : ℕ
         no-or = h;
         count = rw (g .grows (f .means), length-append (postfix (f .means)) (g .more)) (omega (arith, f .count, g .count));
         bytes = g .bytes ∙ rw (g .grows (f .means), f .bytes, f .count, sets-joined out-in n (postfix (f .means)) (g .more));
-        runs = λ ls z. f .runs none ls z ∙ g .runs (f .means) ls z
+        runs = λ ls z. f .runs none ls z ∙ g .runs (f .means) ls z;
       }
 
   module _ (a : getD text p 0 ≡ 124) where
@@ -326,5 +328,5 @@ module _ (text : List ℕ) (left p₀ m₀ : ℕ) (out₀ : List ℕ) (p m : ℕ
             within = f .within;
             count = omega (arith, d, f .count, g .count);
             bytes = hnow ∙ rw (f .bytes, f .count, g .bytes, g .count, sets-joined out₀ m₀ (g .more) (postfix (f .means) ++ 2 ∷ []), sets-joined (sets out₀ m₀ (g .more)) (m₀ + length (g .more)) (postfix (f .means)) (2 ∷ []));
-            runs = λ t ls z. sum-want t ls z ∙ f .runs (some (orAfter (g .front t) (g .last t))) ls z
+            runs = λ t ls z. sum-want t ls z ∙ f .runs (some (orAfter (g .front t) (g .last t))) ls z;
           }

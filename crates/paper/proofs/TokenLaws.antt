@@ -50,8 +50,15 @@ pub hashing-none : (text : List ℕ) (at : ℕ) → at ≤ length text → Hashi
 hashing-none text at h =
     let z : at + 0 ≡ at = omega arith in
     record {
-      most = omega arith; small-0 = λ y. omega arith; small-1 = λ y. omega arith; small-2 = λ y. omega arith; small-3 = λ y. omega arith; small = omega arith;
-      within = omega arith; going = λ y l ls. rw z; done = λ y. absurd (omega arith)
+      most = omega arith;
+      small-0 = λ y. omega arith;
+      small-1 = λ y. omega arith;
+      small-2 = λ y. omega arith;
+      small-3 = λ y. omega arith;
+      small = omega arith;
+      within = omega arith;
+      going = λ y l ls. rw z;
+      done = λ y. absurd (omega arith);
     }
 
 module _ (text : List ℕ) (at n v : ℕ) (h : Hashing text at n v) (b d : ℕ) (hb : b ≡ getD text (at + n) 0) (hd : d ≡ hexOf b) (less : n < 4) where
@@ -80,7 +87,7 @@ module _ (text : List ℕ) (at n v : ℕ) (h : Hashing text at n v) (b d : ℕ) 
         going = λ x l ls. h .going less l ls
             ∙ (rw z at (places.part-goes text (at + n) (hash n v) (hash (n + 1) (16 * v + d)) b (sym hb) (high i) (hash-part i ∙ rw (ne-eqb n 3 (λ w. omega arith), hd, y)) l ls));
         done = λ x l ls. h .going less l ls
-            ∙ (rw z at (places.part-goes text (at + n) (hash n v) (item (16 * v + d)) b (sym hb) (high i) (hash-part i ∙ rw (eq-eqb n 3 (omega arith), hd)) l ls))
+            ∙ (rw z at (places.part-goes text (at + n) (hash n v) (item (16 * v + d)) b (sym hb) (high i) (hash-part i ∙ rw (eq-eqb n 3 (omega arith), hd)) l ls));
       }
 
   pub hashing-wrong : 16 ≤ d → HashRead text at (item-read.Wrong (at + n))
@@ -116,14 +123,14 @@ module _ (text : List ℕ) (at b : ℕ) (hb : getD text at 0 ≡ b) (high : 0 < 
         forward = omega arith;
         within = omega (arith, places.byte-in text (at + 1) 61 y (omega arith));
         runs = λ id l ls. places.part-goes text at (item id) (order id c) b hb high (h id) l ls
-            ∙ places.part-goes text (at + 1) (order id c) (constant id (orEqual c)) 61 y (omega arith) (unfold partOf in refl) l ls
+            ∙ places.part-goes text (at + 1) (order id c) (constant id (orEqual c)) 61 y (omega arith) (unfold partOf in refl) l ls;
       }
   order-read c h false z =
       record {
         forward = omega arith;
         within = inside-text;
         runs = λ id l ls. places.part-goes text at (item id) (order id c) b hb high (h id) l ls
-            ∙ places.order-ends text (at + 1) id c (eqb-false (getD text (at + 1) 0) 61 z) l ls
+            ∙ places.order-ends text (at + 1) id c (eqb-false (getD text (at + 1) 0) 61 z) l ls;
       }
 
   second-read : (c : Comparison) → ((id : ℕ) → partOf (item id) b ≡ on (half id c)) → (t : Bool) → eqb (getD text (at + 1) 0) 61 ≡ t
@@ -134,7 +141,7 @@ module _ (text : List ℕ) (at b : ℕ) (hb : getD text at 0 ≡ b) (high : 0 < 
         forward = omega arith;
         within = omega (arith, places.byte-in text (at + 1) 61 y (omega arith));
         runs = λ id l ls. places.part-goes text at (item id) (half id c) b hb high (h id) l ls
-            ∙ places.part-goes text (at + 1) (half id c) (constant id c) 61 y (omega arith) (unfold partOf in refl) l ls
+            ∙ places.part-goes text (at + 1) (half id c) (constant id c) 61 y (omega arith) (unfold partOf in refl) l ls;
       }
   second-read c h false z = λ id l ls.
       places.part-goes text at (item id) (half id c) b hb high (h id) l ls
@@ -149,12 +156,14 @@ sign-read text at blank = by1 (eqb (getD text at 0) 60) refl
     by4 x y z true e =
         second-read text at 33 (eqb-true (getD text at 0) 33 e) (omega arith) NotEqual (λ id. unfold partOf isBlank in refl) (eqb (getD text (at + 1) 0) 61) refl
     by4 x y z false e = λ id l ls. places.part-wrong text at (item id) reason.Operator (unfold partOf in rw (blank, x, y, z, e)) l ls
+
     by3 : eqb (getD text at 0) 60 ≡ false → eqb (getD text at 0) 62 ≡ false → (t : Bool) → eqb (getD text at 0) 61 ≡ t
         → SignRead text at (cond t (cond (eqb (getD text (at + 1) 0) 61) (sign.Is Equal (at + 1 + 1)) (sign.Wrong (at + 1)))
         (cond (eqb (getD text at 0) 33) (cond (eqb (getD text (at + 1) 0) 61) (sign.Is NotEqual (at + 1 + 1)) (sign.Wrong (at + 1))) (sign.Wrong at)))
     by3 x y true e =
         second-read text at 61 (eqb-true (getD text at 0) 61 e) (omega arith) Equal (λ id. unfold partOf isBlank in refl) (eqb (getD text (at + 1) 0) 61) refl
     by3 x y false e = by4 x y e (eqb (getD text at 0) 33) refl
+
     by2 : eqb (getD text at 0) 60 ≡ false → (t : Bool) → eqb (getD text at 0) 62 ≡ t
         → SignRead text at (cond t (cond (eqb (getD text (at + 1) 0) 61) (sign.Is GreaterOrEqual (at + 1 + 1)) (sign.Is Greater (at + 1)))
         (cond (eqb (getD text at 0) 61) (cond (eqb (getD text (at + 1) 0) 61) (sign.Is Equal (at + 1 + 1)) (sign.Wrong (at + 1)))
@@ -162,6 +171,7 @@ sign-read text at blank = by1 (eqb (getD text at 0) 60) refl
     by2 x true e =
         order-read text at 62 (eqb-true (getD text at 0) 62 e) (omega arith) Greater (λ id. unfold partOf isBlank in refl) (eqb (getD text (at + 1) 0) 61) refl
     by2 x false e = by3 x e (eqb (getD text at 0) 61) refl
+
     by1 : (t : Bool) → eqb (getD text at 0) 60 ≡ t
         → SignRead text at (cond t (cond (eqb (getD text (at + 1) 0) 61) (sign.Is LessOrEqual (at + 1 + 1)) (sign.Is Less (at + 1)))
         (cond (eqb (getD text at 0) 62) (cond (eqb (getD text (at + 1) 0) 61) (sign.Is GreaterOrEqual (at + 1 + 1)) (sign.Is Greater (at + 1)))
@@ -195,7 +205,7 @@ module _ (text : List ℕ) (at first : ℕ) where
             within = omega (arith, counting-in);
             small = omega arith;
             runs = λ id c l ls. r .runs id c l ls
-                ∙ places.part-goes text e (digits id c v) (digits id c (10 * v + (b - 48))) b (sym hb) (omega (arith, tests.digit-least b d)) (steps.digit-more id c v b d h) l ls
+                ∙ places.part-goes text e (digits id c v) (digits id c (10 * v + (b - 48))) b (sym hb) (omega (arith, tests.digit-least b d)) (steps.digit-more id c v b d h) l ls;
           }
 
       pub counting-large : 4294967295 < 10 * v + (b - 48) → AmountRead text at first (amount.Large e)
@@ -213,6 +223,7 @@ width-least b v h = by (eqb b 49) refl h
     by2 : (t : Bool) → eqb b 50 ≡ t → cond t (ltb v 65536) (eqb b 52) ≡ true → 48 ≤ b
     by2 true f y = omega (arith, eqb-true b 50 f)
     by2 false f y = omega (arith, eqb-true b 52 y)
+
     by : (t : Bool) → eqb b 49 ≡ t → cond t (ltb v 256) (cond (eqb b 50) (ltb v 65536) (eqb b 52)) ≡ true → 48 ≤ b
     by true e z = omega (arith, eqb-true b 49 e)
     by false e z = by2 (eqb b 50) refl z
@@ -241,18 +252,21 @@ size-read text at id v within h = by (eqb (getD text at 0) 58) refl
           within = omega (arith, places.byte-in text (at + 1) (getD text (at + 1) 0) refl u);
           good = digit-width (getD text (at + 1) 0) v z;
           runs = λ c l ls. places.part-goes text at (digits id c v) (colon id c v) 58 e (omega arith) (steps.digits-colon id c v) l ls
-              ∙ (rw y at (places.part-whole text (at + 1) (colon id c v) (numberRelation id c (getD text (at + 1) 0 - 48) v) (getD text (at + 1) 0) refl u (steps.colon-width id c v (getD text (at + 1) 0) z) l ls))
+              ∙ (rw y at (places.part-whole text (at + 1) (colon id c v) (numberRelation id c (getD text (at + 1) 0 - 48) v) (getD text (at + 1) 0) refl u (steps.colon-width id c v (getD text (at + 1) 0) z) l ls));
         }
     colon-read e false z = λ c l ls.
         places.part-goes text at (digits id c v) (colon id c v) 58 e (omega arith) (steps.digits-colon id c v) l ls
         ∙ places.part-wrong text (at + 1) (colon id c v) reason.Width (unfold partOf in rw z) l ls
+
     by : (t : Bool) → eqb (getD text at 0) 58 ≡ t
         → SizeRead text at id v (cond t (cond (isWidth (getD text (at + 1) 0) v) (size.Is (getD text (at + 1) 0 - 48) (at + 2)) (size.Wrong (at + 1))) (size.Is (widthOf id v) at))
     by true e = colon-read (eqb-true (getD text at 0) 58 e) (isWidth (getD text (at + 1) 0) v) refl
     by false e =
         record {
-          forward = omega arith; within = within; good = width-good id v;
-          runs = λ c l ls. places.number-ends text at id c v h (eqb-false (getD text at 0) 58 e) l ls
+          forward = omega arith;
+          within = within;
+          good = width-good id v;
+          runs = λ c l ls. places.number-ends text at id c v h (eqb-false (getD text at 0) 58 e) l ls;
         }
 
 -- ---- characters of a string
@@ -279,7 +293,7 @@ module _ (text : List ℕ) (at : ℕ) (bytes : List ℕ) (p : ℕ) (phase : ℕ 
         within = omega (arith, places.byte-in text p (getD text p 0) refl high);
         room = h;
         runs = λ id c l ls. runs id c l ls
-            ∙ places.part-goes text p (phase id c) (string id c (bytes ++ d ∷ [])) (getD text p 0) refl high (parts id c ∙ g id c) l ls
+            ∙ places.part-goes text p (phase id c) (string id c (bytes ++ d ∷ [])) (getD text p 0) refl high (parts id c ∙ g id c) l ls;
       }
 
   added-no : (why : Reason) → ((id : ℕ) (c : Comparison) → added id c bytes d ≡ stop why) → (id : ℕ) (c : Comparison) → StopsIn text (string id c bytes) at p why
@@ -293,6 +307,7 @@ module _ (text : List ℕ) (at : ℕ) (bytes : List ℕ) (p : ℕ) (phase : ℕ 
           → CharacterRead text at bytes (cond t (character.Is d (p + 1)) (character.Wrong p reason.Long))
       room e true z = added-yes (ltb-true (length bytes) 255 z) (λ id c. rw (e, z))
       room e false z = added-no reason.Long (λ id c. rw (e, z))
+
       by : (t : Bool) → cond (eqb d 42) (leb 4 (starsIn bytes)) false ≡ t
           → CharacterRead text at bytes (cond t (character.Wrong p reason.Stars) (cond (ltb (length bytes) 255) (character.Is d (p + 1)) (character.Wrong p reason.Long)))
       by true e = added-no reason.Stars (λ id c. rw e)
@@ -310,7 +325,7 @@ module _ (text : List ℕ) (at : ℕ) (bytes : List ℕ) where
           forward = omega arith;
           within = omega (arith, places.byte-in text (at + 1) b h i);
           room = room;
-          runs = λ id c l ls. to-escape id c l ls ∙ places.part-goes text (at + 1) (escape id c bytes) (string id c (bytes ++ b ∷ [])) b h i (g id c) l ls
+          runs = λ id c l ls. to-escape id c l ls ∙ places.part-goes text (at + 1) (escape id c bytes) (string id c (bytes ++ b ∷ [])) b h i (g id c) l ls;
         }
 
     escape-wrong : (b : ℕ) → getD text (at + 1) 0 ≡ b → ((id : ℕ) (c : Comparison) → partOf (escape id c bytes) b ≡ stop reason.String)
@@ -344,6 +359,7 @@ module _ (text : List ℕ) (at : ℕ) (bytes : List ℕ) where
           second h false z = λ id c l ls.
               first-hex h id c l ls
               ∙ places.part-wrong text (at + 1 + 1 + 1) (code id c bytes (hexOf (getD text (at + 1 + 1) 0))) reason.String (unfold partOf in rw z) l ls
+
           by : (t : Bool) → isHexDigit (getD text (at + 1 + 1) 0) ≡ t
               → CharacterRead text at bytes (cond t
               (cond (isHexDigit (getD text (at + 1 + 1 + 1) 0))
@@ -361,11 +377,13 @@ module _ (text : List ℕ) (at : ℕ) (bytes : List ℕ) where
             → CharacterRead text at bytes (cond t (codeAt text (at + 1 + 1) (length bytes) (starsIn bytes)) (character.Wrong (at + 1) reason.String))
         by3 x y true z = code-read (eqb-true (getD text (at + 1) 0) 120 z)
         by3 x y false z = escape-wrong (getD text (at + 1) 0) refl (λ id c. unfold partOf in rw (x, y, z))
+
         by2 : eqb (getD text (at + 1) 0) 34 ≡ false → (t : Bool) → eqb (getD text (at + 1) 0) 92 ≡ t
             → CharacterRead text at bytes (cond t (character.Is 92 (at + 1 + 1))
             (cond (eqb (getD text (at + 1) 0) 120) (codeAt text (at + 1 + 1) (length bytes) (starsIn bytes)) (character.Wrong (at + 1) reason.String)))
         by2 x true z = quoted 92 (eqb-true (getD text (at + 1) 0) 92 z) (omega arith) (λ id c. unfold partOf in refl)
         by2 x false z = by3 x z (eqb (getD text (at + 1) 0) 120) refl
+
         by1 : (t : Bool) → eqb (getD text (at + 1) 0) 34 ≡ t
             → CharacterRead text at bytes (cond t (character.Is 34 (at + 1 + 1)) (cond (eqb (getD text (at + 1) 0) 92) (character.Is 92 (at + 1 + 1))
             (cond (eqb (getD text (at + 1) 0) 120) (codeAt text (at + 1 + 1) (length bytes) (starsIn bytes)) (character.Wrong (at + 1) reason.String))))
@@ -382,15 +400,18 @@ module _ (text : List ℕ) (at : ℕ) (bytes : List ℕ) where
           added-read text at bytes at (λ id c. string id c bytes) (getD text at 0) (omega arith) (λ id c l ls. refl) (λ id c. unfold partOf in rw (x, y, z))
           (omega (arith, tests.printed-least (getD text at 0) z))
       by3 x y false z = λ id c. places.part-wrong text at (string id c bytes) reason.String (unfold partOf in rw (x, y, z))
+
       escape-or-long : getD text at 0 ≡ 92 → (t : Bool) → ltb (length bytes) 255 ≡ t
           → CharacterRead text at bytes (cond t (escapeAt text (at + 1) (length bytes) (starsIn bytes)) (character.Wrong at reason.Long))
       escape-or-long e true z = escape-read e (ltb-true (length bytes) 255 z)
       escape-or-long e false z = λ id c. places.part-wrong text at (string id c bytes) reason.Long (unfold partOf in rw (e, z))
+
       by2 : eqb (getD text at 0) 34 ≡ false → (t : Bool) → eqb (getD text at 0) 92 ≡ t
           → CharacterRead text at bytes (cond t (cond (ltb (length bytes) 255) (escapeAt text (at + 1) (length bytes) (starsIn bytes)) (character.Wrong at reason.Long))
           (cond (isPrinted (getD text at 0)) (addedAt at (getD text at 0) (length bytes) (starsIn bytes)) (character.Wrong at reason.String)))
       by2 x true z = escape-or-long (eqb-true (getD text at 0) 92 z) (ltb (length bytes) 255) refl
       by2 x false z = by3 x z (isPrinted (getD text at 0)) refl
+
       by1 : (t : Bool) → eqb (getD text at 0) 34 ≡ t
           → CharacterRead text at bytes (cond t character.End
           (cond (eqb (getD text at 0) 92) (cond (ltb (length bytes) 255) (escapeAt text (at + 1) (length bytes) (starsIn bytes)) (character.Wrong at reason.Long))

@@ -127,7 +127,12 @@ pub(crate) fn sign_at(text: &[u8], at: usize) -> Sign
         return order_at(text, at + 1, Comparison::Less, Comparison::LessOrEqual);
     }
     if b == 62 {
-        return order_at(text, at + 1, Comparison::Greater, Comparison::GreaterOrEqual);
+        return order_at(
+            text,
+            at + 1,
+            Comparison::Greater,
+            Comparison::GreaterOrEqual,
+        );
     }
     if b == 61 {
         return second_at(text, at + 1, Comparison::Equal);

@@ -25,14 +25,24 @@ sub-result c = search needs
 returns-4 : tie.Need-returns-4
 unfolding hexValue
 returns-4 c =
-    rw (← c .before .before .before .before .lowered .ensures, le-ltb _ _ (c .before .before .before .if1 .left), le-ltb _ _ (c .before .before .if2 .left),
-    le-ltb _ _ (c .before .if3 .left), lt-ltb _ _ (c .if4 .taken))
+    rw (
+      ← c .before .before .before .before .lowered .ensures,
+      le-ltb _ _ (c .before .before .before .if1 .left),
+      le-ltb _ _ (c .before .before .if2 .left),
+      le-ltb _ _ (c .before .if3 .left),
+      lt-ltb _ _ (c .if4 .taken),
+    )
 
 returns-5 : tie.Need-returns-5
 unfolding hexValue
 returns-5 c =
-    rw (← c .before .before .before .before .lowered .ensures, le-ltb _ _ (c .before .before .before .if1 .left), le-ltb _ _ (c .before .before .if2 .left),
-    le-ltb _ _ (c .before .if3 .left), le-ltb _ _ (c .if4 .left))
+    rw (
+      ← c .before .before .before .before .lowered .ensures,
+      le-ltb _ _ (c .before .before .before .if1 .left),
+      le-ltb _ _ (c .before .before .if2 .left),
+      le-ltb _ _ (c .before .if3 .left),
+      le-ltb _ _ (c .if4 .left),
+    )
 
 pub hex-value-spec : {M : Type 1} → statement M
 hex-value-spec =

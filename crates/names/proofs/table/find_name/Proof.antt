@@ -23,13 +23,13 @@ row-at-requires : tie.Need-row-at-requires Inv-loop μ-loop
 row-at-requires c κs = search needs
 
 array-share-prefix-letters : tie.Need-array-share-prefix-letters Inv-loop μ-loop
-array-share-prefix-letters c = 
+array-share-prefix-letters c =
     let l = c .before .before .before .loop in
     let r = c .before .row-at in
     omega (arith, laws.row-room (l .k) (r .result) (r .ensures))
 
 slice-aggregate-shared-letters : tie.Need-slice-aggregate-shared-letters Inv-loop μ-loop
-slice-aggregate-shared-letters c = 
+slice-aggregate-shared-letters c =
     let l = c .before .before .before .before .loop in
     let r = c .before .before .row-at in
     sym (length-take-le (r .result .size) (r .result .letters) (laws.row-room (l .k) (r .result) (r .ensures)))
@@ -38,7 +38,7 @@ shared-letters-requires : tie.Need-shared-letters-requires Inv-loop μ-loop
 shared-letters-requires c κs = search needs
 
 returns : tie.Need-returns Inv-loop μ-loop
-returns c = 
+returns c =
     let a = c .before .before .before .before .before .before .before .before .args in
     let l = c .before .before .before .before .before .before .loop in
     let r = c .before .before .before .before .row-at in
@@ -55,7 +55,7 @@ loop-less : tie.Need-loop-less Inv-loop μ-loop
 loop-less c = omega arith
 
 loop-again : tie.Need-loop-again Inv-loop μ-loop
-loop-again c = 
+loop-again c =
     let a = c .before .before .before .before .before .before .before .before .before .args in
     let l = c .before .before .before .before .before .before .before .loop in
     let r = c .before .before .before .before .before .row-at in
@@ -64,7 +64,7 @@ loop-again c =
     (omega arith, laws.name-other (a .text .now) (l .k) (l .most) (s .result) (r .result) (r .ensures) (c .before .before .before .before .before .before .loop-test .taken) (l .inv .1) (s .ensures) (c .before .if1 .left) (g .result) (g .ensures))
 
 returns-2 : tie.Need-returns-2 Inv-loop μ-loop
-returns-2 c = 
+returns-2 c =
     let a = c .before .before .before .args in
     let l = c .before .loop in
     laws.name-unknown (a .text .now) (l .k) (l .most) (c .loop-test .left) (l .inv .1)

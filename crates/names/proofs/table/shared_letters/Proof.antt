@@ -20,7 +20,7 @@ loop-holds : tie.Need-loop-holds Inv-loop μ-loop
 loop-holds c = (omega arith, omega arith, omega arith)
 
 returns : tie.Need-returns Inv-loop μ-loop
-returns c = 
+returns c =
     let a = c .before .before .before .before .before .args in
     let l = c .before .before .loop in
     laws.sharing-ends (a .letters .now) (a .text .now) (l .k) (c .before .loop-test .taken) (c .if1 .taken) (l .inv .2)
@@ -44,16 +44,18 @@ loop-less : tie.Need-loop-less Inv-loop μ-loop
 loop-less c = omega arith
 
 loop-again : tie.Need-loop-again Inv-loop μ-loop
-loop-again c = 
+loop-again c =
     let a = c .before .before .before .before .before .before .before .before .before .before .args in
     let l = c .before .before .before .before .before .before .before .loop in
     let x = c .before .before .before .lowered in
-    let y = c .before .lowered2 in
-    (omega arith, omega arith,
-    laws.sharing-more (a .letters .now) (a .text .now) (l .k) (c .before .before .before .before .before .before .loop-test .taken) (c .before .before .before .before .before .if1 .left) (sym (x .ensures) ∙ c .if2 .taken ∙ y .ensures) (l .inv .2))
+    let y = c .before .lowered2 in (
+      omega arith,
+      omega arith,
+      laws.sharing-more (a .letters .now) (a .text .now) (l .k) (c .before .before .before .before .before .before .loop-test .taken) (c .before .before .before .before .before .if1 .left) (sym (x .ensures) ∙ c .if2 .taken ∙ y .ensures) (l .inv .2),
+    )
 
 returns-2 : tie.Need-returns-2 Inv-loop μ-loop
-returns-2 c = 
+returns-2 c =
     let a = c .before .before .before .before .before .before .before .before .before .before .args in
     let l = c .before .before .before .before .before .before .before .loop in
     let x = c .before .before .before .lowered in
@@ -62,7 +64,7 @@ returns-2 c =
     (λ z. c .if2 .left (x .ensures ∙ z ∙ sym (y .ensures))) (l .inv .2)
 
 returns-3 : tie.Need-returns-3 Inv-loop μ-loop
-returns-3 c = 
+returns-3 c =
     let a = c .before .before .before .before .args in
     let l = c .before .loop in
     laws.sharing-whole (a .letters .now) (a .text .now) (l .k) (c .loop-test .left) (l .inv .2)

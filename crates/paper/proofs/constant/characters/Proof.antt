@@ -23,7 +23,7 @@ abbrev μ-loop : tie.MeasureT-loop
 μ-loop text at out₀ n p₀ m₀ stars₀ out p m stars = length text - p
 
 loop-holds : tie.Need-loop-holds Inv-loop μ-loop
-loop-holds c = 
+loop-holds c =
     let a = c .before .before .args in
     laws.spelling-none (a .text .now) (a .at) (a .n) (a .out .now) (c .before .before .pre .0)
 
@@ -43,7 +43,7 @@ same-length : tie.Need-same-length Inv-loop μ-loop
 same-length c = rw (c .before .before .before .loop .inv .bytes) (length-sets (c .before .before .before .before .before .before .args .out .now) (c .before .before .before .before .before .before .args .n) (c .before .before .before .loop .inv .content))
 
 returns : tie.Need-returns Inv-loop μ-loop
-returns c = 
+returns c =
     let a = c .before .before .before .before .before .before .args in
     let l = c .before .before .before .loop in
     let x = c .before .before .character-at in
@@ -56,7 +56,7 @@ same-length-2 : tie.Need-same-length-2 Inv-loop μ-loop
 same-length-2 c = rw (c .before .before .before .before .loop .inv .bytes) (length-sets (c .before .before .before .before .before .before .before .args .out .now) (c .before .before .before .before .before .before .before .args .n) (c .before .before .before .before .loop .inv .content))
 
 returns-2 : tie.Need-returns-2 Inv-loop μ-loop
-returns-2 c = 
+returns-2 c =
     let a = c .before .before .before .before .before .before .before .args in
     let l = c .before .before .before .before .loop in
     let x = c .before .before .before .character-at in
@@ -69,20 +69,20 @@ put-requires : tie.Need-put-requires Inv-loop μ-loop
 put-requires c κs = omega (arith, c .before .before .before .before .before .loop .inv .count, c .before .before .before .before .before .loop .inv .few, c .before .before .before .before .before .loop .inv .within, c .before .before .before .before .before .before .before .before .pre .1, c .before .before .before .before .before .before .before .before .good .0 .1)
 
 counted-requires : tie.Need-counted-requires Inv-loop μ-loop
-counted-requires c κs = 
+counted-requires c κs =
     let a = c .before .before .before .before .before .before .before .before .before .before .before .args in
     let l = c .before .before .before .before .before .before .before .before .loop in
     omega (arith, laws.few-stars (a .text .now) (a .at) (a .n) (a .out .now) (l .p) (l .m) (l .stars) (l .out) (l .inv))
 
 loop-less : tie.Need-loop-less Inv-loop μ-loop
-loop-less c = 
+loop-less c =
     let a = c .before .before .before .before .before .before .before .before .before .before .before .before .args in
     let l = c .before .before .before .before .before .before .before .before .before .loop in
     let x = c .before .before .before .before .before .before .before .before .character-at in
     omega (arith, (laws.was-character (a .text .now) (a .at) (a .n) (a .out .now) (l .p) (l .m) (l .stars) (l .out) (l .inv) (x .result) _ (x .ensures) (c .before .before .before .before .before .before .x2 .given .1)) .forward, (laws.was-character (a .text .now) (a .at) (a .n) (a .out .now) (l .p) (l .m) (l .stars) (l .out) (l .inv) (x .result) _ (x .ensures) (c .before .before .before .before .before .before .x2 .given .1)) .within)
 
 loop-again : tie.Need-loop-again Inv-loop μ-loop
-loop-again c = 
+loop-again c =
     let a = c .before .before .before .before .before .before .before .before .before .before .before .before .args in
     let l = c .before .before .before .before .before .before .before .before .before .loop in
     let x = c .before .before .before .before .before .before .before .before .character-at in

@@ -23,7 +23,7 @@ is-digit-requires : tie.Need-is-digit-requires
 is-digit-requires c κs = search needs
 
 number-at-requires : tie.Need-number-at-requires
-number-at-requires c κs = 
+number-at-requires c κs =
     let b = c .before .before .before .byte-of in
     (c .before .before .before .before .before .before .pre .0, omega (arith, c .before .before .before .before .before .before .pre .1), rw (← b .ensures) (sym (c .before .before .is-digit .ensures) ∙ c .before .if1 .taken))
 
@@ -40,7 +40,7 @@ add-string-at : tie.Need-add-string-at
 add-string-at c = search needs
 
 string-at-requires : tie.Need-string-at-requires
-string-at-requires c κs = 
+string-at-requires c κs =
     let a = c .before .before .before .before .before .before .before .before .before .args in
     let b = c .before .before .before .before .before .before .byte-of in
     (laws.string-in (a .text .now) (a .at) (a .id) (a .c) (a .out .now) (a .n) (c .before .before .before .before .before .before .before .before .before .pre .2) (b .result) (b .ensures) (c .before .before .before .if2 .taken), omega (arith, c .before .before .before .before .before .before .before .before .before .pre .1))
@@ -49,23 +49,23 @@ same-length-2 : tie.Need-same-length-2
 same-length-2 c = search needs
 
 returns-2 : tie.Need-returns-2
-returns-2 c = 
+returns-2 c =
     let a = c .before .before .before .before .before .before .before .before .before .before .before .before .args in
     let b = c .before .before .before .before .before .before .before .before .before .byte-of in
     let s = c .before .before .string-at in
     laws.string-from (a .text .now) (a .at) (a .id) (a .c) (a .out .now) (a .n) (c .before .before .before .before .before .before .before .before .before .before .before .before .pre .2) (b .result) (b .ensures) (c .before .before .before .before .before .before .if2 .taken) (sym (c .before .before .before .before .before .is-equality .ensures) ∙ c .before .before .before .before .if3 .taken) (s .result) _ (s .ensures)
 
 returns-3 : tie.Need-returns-3
-returns-3 c = 
+returns-3 c =
     let a = c .before .before .before .before .before .before .before .before .args in
     let b = c .before .before .before .before .before .byte-of in
-    laws.no-order (a .text .now) (a .at) (a .id) (a .c) (a .out .now) (a .n) (c .before .before .before .before .before .before .before .before .pre .2) (b .result) (b .ensures) (c .before .before .if2 .taken) (sym (c .before .is-equality .ensures) ∙ c .if3 .left) _
+    laws.no-order (a .text .now) (a .at) (a .id) (a .c) (a .out .now) (a .n) (c .before .before .before .before .before .before .before .before .pre .2) (b .result) (b .ensures) (c .before .before .if2 .taken) (sym (c .before .is-equality .ensures) ∙ c .if3 .left) (a .out .now)
 
 returns-4 : tie.Need-returns-4
-returns-4 c = 
+returns-4 c =
     let a = c .before .before .before .before .before .before .args in
     let b = c .before .before .before .byte-of in
-    laws.no-constant (a .text .now) (a .at) (a .id) (a .c) (a .out .now) (a .n) (c .before .before .before .before .before .before .pre .2) (b .result) (b .ensures) (sym (c .before .before .is-digit .ensures) ∙ c .before .if1 .left) (c .if2 .left) _
+    laws.no-constant (a .text .now) (a .at) (a .id) (a .c) (a .out .now) (a .n) (c .before .before .before .before .before .before .pre .2) (b .result) (b .ensures) (sym (c .before .before .is-digit .ensures) ∙ c .before .if1 .left) (c .if2 .left) (a .out .now)
 
 pub constant-at-spec : {M : Type 1} → statement M
 constant-at-spec =

@@ -17,13 +17,13 @@ add-result c = search needs
 
 returns : tie.Need-returns
 unfolding starsIn
-returns c = 
+returns c =
     let a = c .before .args in
     rw (eq-eqb (a .b) 42 (c .if1 .taken))
 
 returns-2 : tie.Need-returns-2
 unfolding starsIn
-returns-2 c = 
+returns-2 c =
     let a = c .before .args in
     rw (ne-eqb (a .b) 42 (c .if1 .left)) (omega arith)
 

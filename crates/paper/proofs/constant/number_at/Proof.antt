@@ -24,7 +24,7 @@ add-amount-from : tie.Need-add-amount-from
 add-amount-from c = search needs
 
 sub-amount-from : tie.Need-sub-amount-from
-sub-amount-from c = 
+sub-amount-from c =
     let b = c .byte-of in
     tests.digit-least (b .result) (rw (← b .ensures) at (c .before .before .before .pre .2))
 
@@ -32,7 +32,7 @@ cast-amount-from : tie.Need-cast-amount-from
 cast-amount-from c = search needs
 
 amount-from-requires : tie.Need-amount-from-requires
-amount-from-requires c κs = 
+amount-from-requires c κs =
     let a = c .before .before .before .args in
     let b = c .byte-of in
     laws.first-in (a .text .now) (a .at) (a .id) (a .c) (a .out .now) (a .n) (b .result) (b .ensures) (rw (← b .ensures) at (c .before .before .before .pre .2))
@@ -44,7 +44,7 @@ enum-known-a-2 : tie.Need-enum-known-a-2
 enum-known-a-2 c = search needs
 
 size-at-requires : tie.Need-size-at-requires
-size-at-requires c κs = 
+size-at-requires c κs =
     let a = c .before .before .before .before .before .before .before .args in
     let b = c .before .before .before .before .byte-of in
     (laws.was-amount (a .text .now) (a .at + 1) (b .result - 48) (c .before .before .before .amount-from .result) (c .before .a2 .given .0 .0) (c .before .a2 .given .0 .1 .0) (c .before .before .before .amount-from .ensures) (c .before .a2 .given .1)) .within
@@ -59,12 +59,12 @@ operator-number-requires : tie.Need-operator-number-requires
 operator-number-requires c κs = search needs
 
 mul-put-head : tie.Need-mul-put-head
-mul-put-head c = 
+mul-put-head c =
     let o = c .operator-number in
     omega (arith, operator-small (c .before .before .before .before .before .before .before .before .before .before .before .before .before .args .c), o .ensures)
 
 add-put-head : tie.Need-add-put-head
-add-put-head c = 
+add-put-head c =
     let o = c .operator-number in
     omega (arith, operator-small (c .before .before .before .before .before .before .before .before .before .before .before .before .before .args .c), o .ensures)
 
@@ -72,19 +72,19 @@ put-head-requires : tie.Need-put-head-requires
 put-head-requires c κs = omega (arith, c .before .before .before .before .before .before .before .before .before .before .before .before .before .pre .0, c .before .before .before .before .before .before .before .before .before .before .before .before .before .pre .1, c .before .before .before .before .before .before .before .before .before .before .before .before .before .good .0 .1)
 
 put-number-requires : tie.Need-put-number-requires
-put-number-requires c κs = 
+put-number-requires c κs =
     let a = c .before .before .before .before .before .before .before .before .before .before .before .before .before .before .before .before .before .args in
     let b = c .before .before .before .before .before .before .before .before .before .before .before .before .before .before .byte-of in
     (omega (arith, c .before .before .before .put-head .ensures .0, c .before .before .before .before .before .before .before .before .before .before .before .before .before .before .before .before .before .pre .0, c .before .before .before .before .before .before .before .before .before .before .before .before .before .before .before .before .before .pre .1, c .before .before .before .before .before .before .before .before .before .before .before .before .before .before .before .before .before .good .0 .1), (laws.was-size (a .text .now) (c .before .before .before .before .before .before .before .before .before .before .before .a2 .given .0 .1 .0) (a .id) (c .before .before .before .before .before .before .before .before .before .before .before .a2 .given .0 .0) (c .before .before .before .before .before .before .before .before .before .size-at .result) _ ((laws.was-amount (a .text .now) (a .at + 1) (b .result - 48) (c .before .before .before .before .before .before .before .before .before .before .before .before .before .amount-from .result) (c .before .before .before .before .before .before .before .before .before .before .before .a2 .given .0 .0) (c .before .before .before .before .before .before .before .before .before .before .before .a2 .given .0 .1 .0) (c .before .before .before .before .before .before .before .before .before .before .before .before .before .amount-from .ensures) (c .before .before .before .before .before .before .before .before .before .before .before .a2 .given .1)) .within) ((laws.was-amount (a .text .now) (a .at + 1) (b .result - 48) (c .before .before .before .before .before .before .before .before .before .before .before .before .before .amount-from .result) (c .before .before .before .before .before .before .before .before .before .before .before .a2 .given .0 .0) (c .before .before .before .before .before .before .before .before .before .before .before .a2 .given .0 .1 .0) (c .before .before .before .before .before .before .before .before .before .before .before .before .before .amount-from .ensures) (c .before .before .before .before .before .before .before .before .before .before .before .a2 .given .1)) .stops) (c .before .before .before .before .before .before .before .before .before .size-at .ensures) (c .before .before .before .before .before .before .before .s2 .given .1)) .good)
 
 returns : tie.Need-returns
-returns c = 
+returns c =
     let a = c .before .before .before .before .before .before .before .args in
     let b = c .before .before .before .before .byte-of in
     laws.number-large (a .text .now) (a .at) (a .id) (a .c) (a .out .now) (a .n) (b .result) (b .ensures) (rw (← b .ensures) at (c .before .before .before .before .before .before .before .pre .2)) (c .before .a .given .0 .0) (a .out .now) (laws.was-large (a .text .now) (a .at + 1) (b .result - 48) (c .before .before .before .amount-from .result) (c .before .a .given .0 .0) (c .before .before .before .amount-from .ensures) (c .before .a .given .1))
 
 returns-2 : tie.Need-returns-2
-returns-2 c = 
+returns-2 c =
     let a = c .before .before .before .before .before .before .before .before .before .before .before .args in
     let b = c .before .before .before .before .before .before .before .before .byte-of in
     laws.number-width (a .text .now) (a .at) (a .id) (a .c) (a .out .now) (a .n) (b .result) (b .ensures) (rw (← b .ensures) at (c .before .before .before .before .before .before .before .before .before .before .before .pre .2)) (c .before .before .before .before .before .a2 .given .0 .0) (c .before .before .before .before .before .a2 .given .0 .1 .0) (laws.was-amount (a .text .now) (a .at + 1) (b .result - 48) (c .before .before .before .before .before .before .before .amount-from .result) (c .before .before .before .before .before .a2 .given .0 .0) (c .before .before .before .before .before .a2 .given .0 .1 .0) (c .before .before .before .before .before .before .before .amount-from .ensures) (c .before .before .before .before .before .a2 .given .1)) (c .before .s .given .0 .0) (a .out .now) (laws.was-size (a .text .now) (c .before .before .before .before .before .a2 .given .0 .1 .0) (a .id) (c .before .before .before .before .before .a2 .given .0 .0) (c .before .before .before .size-at .result) _ ((laws.was-amount (a .text .now) (a .at + 1) (b .result - 48) (c .before .before .before .before .before .before .before .amount-from .result) (c .before .before .before .before .before .a2 .given .0 .0) (c .before .before .before .before .before .a2 .given .0 .1 .0) (c .before .before .before .before .before .before .before .amount-from .ensures) (c .before .before .before .before .before .a2 .given .1)) .within) ((laws.was-amount (a .text .now) (a .at + 1) (b .result - 48) (c .before .before .before .before .before .before .before .amount-from .result) (c .before .before .before .before .before .a2 .given .0 .0) (c .before .before .before .before .before .a2 .given .0 .1 .0) (c .before .before .before .before .before .before .before .amount-from .ensures) (c .before .before .before .before .before .a2 .given .1)) .stops) (c .before .before .before .size-at .ensures) (c .before .s .given .1))
@@ -93,7 +93,7 @@ same-length : tie.Need-same-length
 same-length c = search needs
 
 returns-3 : tie.Need-returns-3
-returns-3 c = 
+returns-3 c =
     let a = c .before .before .before .before .before .before .before .before .before .before .before .before .before .before .before .before .before .before .before .before .args in
     let b = c .before .before .before .before .before .before .before .before .before .before .before .before .before .before .before .before .before .byte-of in
     let h = c .before .before .before .before .before .before .put-head in

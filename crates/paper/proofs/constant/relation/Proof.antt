@@ -26,7 +26,7 @@ enum-known-i-2 : tie.Need-enum-known-i-2
 enum-known-i-2 c = search needs
 
 blanks-requires : tie.Need-blanks-requires
-blanks-requires c κs = 
+blanks-requires c κs =
     let a = c .before .before .before .before .before .before .args in
     (laws.was-item (a .text .now) (a .at) (c .before .before .before .item-at .result) _ (c .before .before .before .item-at .ensures) (c .before .i2 .given .1)) .within
 
@@ -40,22 +40,22 @@ enum-known-s-2 : tie.Need-enum-known-s-2
 enum-known-s-2 c = search needs
 
 blanks-requires-2 : tie.Need-blanks-requires-2
-blanks-requires-2 c κs = 
+blanks-requires-2 c κs =
     let a = c .before .before .before .before .before .before .before .before .before .before .before .args in
     (laws.was-sign (a .text .now) (c .before .before .before .before .blanks .result) (c .before .before .before .sign-at .result) _ (c .before .before .before .before .blanks .ensures .stops) (c .before .before .before .sign-at .ensures) (c .before .s2 .given .1)) .within
 
 constant-at-requires : tie.Need-constant-at-requires
-constant-at-requires c κs = 
+constant-at-requires c κs =
     let a = c .before .before .before .before .before .before .before .before .before .before .before .before .before .args in
     (c .before .blanks2 .ensures .within, omega (arith, c .before .before .before .before .before .before .before .before .before .before .before .before .before .pre .1, laws.far (a .text .now) (a .at) (a .out .now) (a .n) (c .before .before .before .before .before .before .before .before .i2 .given .0 .0) (c .before .before .before .before .before .before .before .before .i2 .given .0 .1 .0) (laws.was-item (a .text .now) (a .at) (c .before .before .before .before .before .before .before .before .before .before .item-at .result) _ (c .before .before .before .before .before .before .before .before .before .before .item-at .ensures) (c .before .before .before .before .before .before .before .before .i2 .given .1)) (c .before .before .before .before .before .before .blanks .result) (c .before .before .before .before .before .before .blanks .ensures) (c .before .before .before .s2 .given .0 .0) (c .before .before .before .s2 .given .0 .1 .0) (laws.was-sign (a .text .now) (c .before .before .before .before .before .before .blanks .result) (c .before .before .before .before .before .sign-at .result) _ (c .before .before .before .before .before .before .blanks .ensures .stops) (c .before .before .before .before .before .sign-at .ensures) (c .before .before .before .s2 .given .1)) (c .before .blanks2 .result) (c .before .blanks2 .ensures)), c .before .blanks2 .ensures .stops)
 
 returns : tie.Need-returns
-returns c = 
+returns c =
     let a = c .before .before .before .before .before .before .args in
     laws.was-item (a .text .now) (a .at) (c .before .before .before .item-at .result) _ (c .before .before .before .item-at .ensures) (c .before .i .given .1)
 
 returns-2 : tie.Need-returns-2
-returns-2 c = 
+returns-2 c =
     let a = c .before .before .before .before .before .before .before .before .before .before .before .args in
     laws.no-sign (a .text .now) (a .at) (a .out .now) (a .n) (c .before .before .before .before .before .before .i2 .given .0 .0) (c .before .before .before .before .before .before .i2 .given .0 .1 .0) (laws.was-item (a .text .now) (a .at) (c .before .before .before .before .before .before .before .before .item-at .result) _ (c .before .before .before .before .before .before .before .before .item-at .ensures) (c .before .before .before .before .before .before .i2 .given .1)) (c .before .before .before .before .blanks .result) (c .before .before .before .before .blanks .ensures) (c .before .s .given .0 .0) (a .out .now) (laws.was-sign (a .text .now) (c .before .before .before .before .blanks .result) (c .before .before .before .sign-at .result) _ (c .before .before .before .before .blanks .ensures .stops) (c .before .before .before .sign-at .ensures) (c .before .s .given .1))
 
@@ -63,7 +63,7 @@ same-length : tie.Need-same-length
 same-length c = search needs
 
 returns-3 : tie.Need-returns-3
-returns-3 c = 
+returns-3 c =
     let a = c .before .before .before .before .before .before .before .before .before .before .before .before .before .before .before .before .args in
     let k = c .before .before .constant-at in
     laws.relation-read (a .text .now) (a .at) (a .out .now) (a .n) (c .before .before .before .before .before .before .before .before .before .before .before .i2 .given .0 .0) (c .before .before .before .before .before .before .before .before .before .before .before .i2 .given .0 .1 .0) (laws.was-item (a .text .now) (a .at) (c .before .before .before .before .before .before .before .before .before .before .before .before .before .item-at .result) _ (c .before .before .before .before .before .before .before .before .before .before .before .before .before .item-at .ensures) (c .before .before .before .before .before .before .before .before .before .before .before .i2 .given .1)) (c .before .before .before .before .before .before .before .before .before .blanks .result) (c .before .before .before .before .before .before .before .before .before .blanks .ensures) (c .before .before .before .before .before .before .s2 .given .0 .0) (c .before .before .before .before .before .before .s2 .given .0 .1 .0) (laws.was-sign (a .text .now) (c .before .before .before .before .before .before .before .before .before .blanks .result) (c .before .before .before .before .before .before .before .before .sign-at .result) _ (c .before .before .before .before .before .before .before .before .before .blanks .ensures .stops) (c .before .before .before .before .before .before .before .before .sign-at .ensures) (c .before .before .before .before .before .before .s2 .given .1)) (c .before .before .before .before .blanks2 .result) (c .before .before .before .before .blanks2 .ensures) (k .result) _ (k .ensures)

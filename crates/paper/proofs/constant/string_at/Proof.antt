@@ -21,12 +21,12 @@ operator-number-requires : tie.Need-operator-number-requires
 operator-number-requires c κs = search needs
 
 mul-put-head : tie.Need-mul-put-head
-mul-put-head c = 
+mul-put-head c =
     let o = c .operator-number in
     omega (arith, operator-small (c .before .before .before .before .args .c), o .ensures)
 
 add-put-head : tie.Need-add-put-head
-add-put-head c = 
+add-put-head c =
     let o = c .operator-number in
     omega (arith, operator-small (c .before .before .before .before .args .c), o .ensures)
 
@@ -46,14 +46,14 @@ add-put-at : tie.Need-add-put-at
 add-put-at c = search needs
 
 sub-put-at : tie.Need-sub-put-at
-sub-put-at c = 
+sub-put-at c =
     let a = c .before .before .before .before .before .before .before .before .before .before .before .before .before .before .before .args in
     let h = c .before .before .before .before .before .before .before .before .before .before .put-head in
     let k = c .before .before .before .before .before .before .characters in
     let s = laws.was-string (a .text .now) (a .at) (h .last .0) (h .result) (k .result) _ (k .last .1 .1 .0) (k .ensures) (c .before .before .s2 .given .1) in omega (arith, s .count)
 
 cast-put-at : tie.Need-cast-put-at
-cast-put-at c = 
+cast-put-at c =
     let a = c .before .before .before .before .before .before .before .before .before .before .before .before .before .before .before .args in
     let h = c .before .before .before .before .before .before .before .before .before .before .put-head in
     let k = c .before .before .before .before .before .before .characters in
@@ -66,17 +66,17 @@ same-length : tie.Need-same-length
 same-length c = search needs
 
 returns : tie.Need-returns
-returns c = 
+returns c =
     let a = c .before .before .before .before .before .before .before .before .before .before .before .before .before .before .args in
     let h = c .before .before .before .before .before .before .before .before .before .put-head in
     let k = c .before .before .before .before .before .characters in
-    laws.string-constant-wrong (a .text .now) (a .at) (a .id) (a .c) (a .out .now) (a .n) (h .result) (h .last .0) (c .before .s .given .0 .0) (c .before .s .given .0 .1 .0) (k .last .1 .1 .0) _ (laws.was-string (a .text .now) (a .at) (h .last .0) (h .result) (k .result) _ (k .last .1 .1 .0) (k .ensures) (c .before .s .given .1))
+    laws.string-constant-wrong (a .text .now) (a .at) (a .id) (a .c) (a .out .now) (a .n) (h .result) (h .last .0) (c .before .s .given .0 .0) (c .before .s .given .0 .1 .0) (k .last .1 .1 .0) (k .last .1 .1 .0) (laws.was-string (a .text .now) (a .at) (h .last .0) (h .result) (k .result) _ (k .last .1 .1 .0) (k .ensures) (c .before .s .given .1))
 
 same-length-2 : tie.Need-same-length-2
 same-length-2 c = search needs
 
 returns-2 : tie.Need-returns-2
-returns-2 c = 
+returns-2 c =
     let a = c .before .before .before .before .before .before .before .before .before .before .before .before .before .before .before .before .before .before .args in
     let h = c .before .before .before .before .before .before .before .before .before .before .before .before .before .put-head in
     let k = c .before .before .before .before .before .before .before .before .before .characters in

@@ -34,17 +34,19 @@ loop-less : tie.Need-loop-less Inv-loop μ-loop
 loop-less c = omega arith
 
 loop-again : tie.Need-loop-again Inv-loop μ-loop
-loop-again c = 
+loop-again c =
     let a = c .before .before .before .args in
-    let l = c .before .before .loop in
-    (omega arith, simp length-set (l .inv .1),
-    ap (λ (x : List ℕ). set x (l .i) (getD (a .bytes .now) (l .i) 0)) (l .inv .2) ∙ output.copy-step (a .out .now) (a .bytes .now) (l .i) (omega arith) (omega arith))
+    let l = c .before .before .loop in (
+      omega arith,
+      simp length-set (l .inv .1),
+      ap (λ (x : List ℕ). set x (l .i) (getD (a .bytes .now) (l .i) 0)) (l .inv .2) ∙ output.copy-step (a .out .now) (a .bytes .now) (l .i) (omega arith) (omega arith),
+    )
 
 same-length : tie.Need-same-length Inv-loop μ-loop
 same-length c = c .before .loop .inv .1
 
 returns : tie.Need-returns Inv-loop μ-loop
-returns c = 
+returns c =
     let l = c .before .loop in
     let z : l .i ≡ c .before .before .args .m = omega arith in rw (← z) (l .inv .2)
 

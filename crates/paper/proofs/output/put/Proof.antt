@@ -30,7 +30,7 @@ add-result-2 : tie.Need-add-result-2
 add-result-2 c = search needs
 
 returns-2 : tie.Need-returns-2
-returns-2 c = 
+returns-2 c =
     let a = c .before .args in
     (refl, sym (set-out (a .out .now) (a .n) (a .b) (c .if1 .left)))
 

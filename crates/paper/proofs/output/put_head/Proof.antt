@@ -35,15 +35,16 @@ same-length : tie.Need-same-length
 same-length c = search needs
 
 returns : tie.Need-returns
-returns c = 
+returns c =
     let a = c .before .before .before .before .before .before .before .before .before .before .before .before .before .before .before .before .before .args in
     let p = c .before .before .before .before .before .before .before .before .before .before .before .before .before .before .put in
     let q = c .before .before .before .before .before .before .before .before .before .before .put2 in
     let r = c .before .before .before .before .before .before .put3 in
-    let s = c .before .before .put4 in
-    (omega (arith, p .ensures .0, q .ensures .0, r .ensures .0, s .ensures .0),
-    output.four-puts (a .out .now) (a .n) (a .code) (a .id % 256) (a .id / 256 % 256) (a .size) (p .last .0) (q .last .0) (r .last .0) (s .last .0)
-    (p .result) (q .result) (r .result) (s .result) (p .ensures .0) (p .ensures .1) (q .ensures .0) (r .ensures .0) (q .ensures .1) (r .ensures .1) (s .ensures .1))
+    let s = c .before .before .put4 in (
+      omega (arith, p .ensures .0, q .ensures .0, r .ensures .0, s .ensures .0),
+      output.four-puts (a .out .now) (a .n) (a .code) (a .id % 256) (a .id / 256 % 256) (a .size) (p .last .0) (q .last .0) (r .last .0) (s .last .0)
+          (p .result) (q .result) (r .result) (s .result) (p .ensures .0) (p .ensures .1) (q .ensures .0) (r .ensures .0) (q .ensures .1) (r .ensures .1) (s .ensures .1),
+    )
 
 pub put-head-spec : {M : Type 1} → statement M
 put-head-spec =

@@ -23,7 +23,7 @@ same-length : tie.Need-same-length
 same-length c = search needs
 
 returns : tie.Need-returns
-returns c = 
+returns c =
     let a = c .before .before .before .before .before .before .args in
     let p = c .before .before .before .put in
     rw (c .if1 .taken) (p .ensures .0, p .ensures .1)
@@ -38,12 +38,14 @@ same-length-2 : tie.Need-same-length-2
 same-length-2 c = search needs
 
 returns-2 : tie.Need-returns-2
-returns-2 c = 
+returns-2 c =
     let a = c .before .before .before .before .before .before .before .before .before .before .before .args in
     let p = c .before .before .before .before .before .before .before .before .put in
     let q = c .before .before .before .put2 in
-    rw (c .if2 .taken) (omega (arith, p .ensures .0, q .ensures .0),
-    output.two-puts (a .out .now) (a .n) (a .v % 256) (a .v / 256 % 256) 0 0 (p .last .0) (q .last .0) [] [] (p .result) (q .result) 0 0 (p .ensures .0) (p .ensures .1) (q .ensures .0) (q .ensures .1))
+    rw (c .if2 .taken) (
+      omega (arith, p .ensures .0, q .ensures .0),
+      output.two-puts (a .out .now) (a .n) (a .v % 256) (a .v / 256 % 256) 0 0 (p .last .0) (q .last .0) [] [] (p .result) (q .result) 0 0 (p .ensures .0) (p .ensures .1) (q .ensures .0) (q .ensures .1),
+    )
 
 cast-put-3 : tie.Need-cast-put-3
 cast-put-3 c = search needs
@@ -61,15 +63,17 @@ same-length-3 : tie.Need-same-length-3
 same-length-3 c = search needs
 
 returns-3 : tie.Need-returns-3
-returns-3 c = 
+returns-3 c =
     let a = c .before .before .before .before .before .before .before .before .before .before .before .before .before .before .before .before .before .before .before .args in
     let p = c .before .before .before .before .before .before .before .before .before .before .before .before .before .before .before .before .put in
     let q = c .before .before .before .before .before .before .before .before .before .before .before .put2 in
     let r = c .before .before .before .before .before .before .put3 in
     let s = c .before .before .put4 in
-    rw (output.four-wide (a .size) (c .before .before .before .before .before .before .before .before .before .before .before .before .before .before .before .before .before .before .before .pre .1) (c .before .before .before .before .before .before .before .before .before .before .before .before .before .if1 .left) (c .before .before .before .before .before .before .before .before .if2 .left)) (omega (arith, p .ensures .0, q .ensures .0, r .ensures .0, s .ensures .0),
-    output.four-puts (a .out .now) (a .n) (a .v % 256) (a .v / 256 % 256) (a .v / 65536 % 256) (a .v / 16777216 % 256) (p .last .0) (q .last .0) (r .last .0) (s .last .0)
-    (p .result) (q .result) (r .result) (s .result) (p .ensures .0) (p .ensures .1) (q .ensures .0) (r .ensures .0) (q .ensures .1) (r .ensures .1) (s .ensures .1))
+    rw (output.four-wide (a .size) (c .before .before .before .before .before .before .before .before .before .before .before .before .before .before .before .before .before .before .before .pre .1) (c .before .before .before .before .before .before .before .before .before .before .before .before .before .if1 .left) (c .before .before .before .before .before .before .before .before .if2 .left)) (
+      omega (arith, p .ensures .0, q .ensures .0, r .ensures .0, s .ensures .0),
+      output.four-puts (a .out .now) (a .n) (a .v % 256) (a .v / 256 % 256) (a .v / 65536 % 256) (a .v / 16777216 % 256) (p .last .0) (q .last .0) (r .last .0) (s .last .0)
+          (p .result) (q .result) (r .result) (s .result) (p .ensures .0) (p .ensures .1) (q .ensures .0) (r .ensures .0) (q .ensures .1) (r .ensures .1) (s .ensures .1),
+    )
 
 pub put-number-spec : {M : Type 1} → statement M
 put-number-spec =

@@ -75,7 +75,7 @@ factor-enum-known-s-2 : (t : ℕ) → factor-lts.Need-enum-known-s-2 (factor-cal
 factor-enum-known-s-2 t c = c .match .keys2
 
 factor-relation-requires : (t : ℕ) → factor-lts.Need-relation-requires (factor-calls t) (factor-at t) factor.Post
-factor-relation-requires t c κs = 
+factor-relation-requires t c κs =
     let a = c .before .before .before .before .before .before .before .args in
     let r = (readers.was-start (a .text .now) (a .at) (a .left) (c .before .before .before .before .begins .result) (c .before .before .before .before .begins .ensures) _ (c .before .before .s2 .given .1)) in (r .within, omega (arith, r .forward, c .before .before .before .before .before .before .before .pre .1 .1), r .no-blank, r .no-open)
 
@@ -83,12 +83,12 @@ factor-enum-known-s-3 : (t : ℕ) → factor-lts.Need-enum-known-s-3 (factor-cal
 factor-enum-known-s-3 t c = c .match .keys3
 
 factor-sub-sum : (t : ℕ) → factor-lts.Need-sub-sum (factor-calls t) (factor-at t) factor.Post
-factor-sub-sum t c = 
+factor-sub-sum t c =
     let a = c .before .before .before .before .before .before .args in
     (readers.was-start (a .text .now) (a .at) (a .left) (c .before .before .before .begins .result) (c .before .before .before .begins .ensures) _ (c .before .s3 .given .1)) .room
 
 factor-sum-requires : (t : ℕ) → factor-lts.Need-sum-requires (factor-calls t) (factor-at t) factor.Post
-factor-sum-requires t c κs = 
+factor-sum-requires t c κs =
     let a = c .before .before .before .before .before .before .before .args in
     let o = (readers.was-start (a .text .now) (a .at) (a .left) (c .before .before .before .before .begins .result) (c .before .before .before .before .begins .ensures) _ (c .before .before .s3 .given .1)) in (omega (arith, o .room, c .before .before .before .before .before .before .before .pre .0), (o .within, omega (arith, o .forward, c .before .before .before .before .before .before .before .pre .1 .1)))
 
@@ -99,12 +99,12 @@ factor-enum-known-i-2 : (t : ℕ) → factor-lts.Need-enum-known-i-2 (factor-cal
 factor-enum-known-i-2 t c = c .match2 .keys2
 
 factor-close-requires : (t : ℕ) → factor-lts.Need-close-requires (factor-calls t) (factor-at t) factor.Post
-factor-close-requires t c κs = 
+factor-close-requires t c κs =
     let a = c .before .before .before .before .before .before .before .before .before .before .before .before .before .args in
     (readers.sum-at (a .text .now) (c .before .before .before .before .before .before .before .before .s3 .given .0 .0) (a .left - 1) (a .out .now) (a .n) (c .before .before .before .before .before .sum .result) (c .before .before .before .before .before .sum .last .1 .1 .1 .0) (c .before .i2 .given .0 .0) (c .before .i2 .given .0 .1 .0) (c .before .before .before .before .before .sum .ensures) (c .before .i2 .given .1)) .within
 
 factor-returns : (t : ℕ) → factor-lts.Need-returns (factor-calls t) (factor-at t) factor.Post
-factor-returns t c = 
+factor-returns t c =
     let a = c .before .before .before .before .before .before .args in
     (readers.was-start (a .text .now) (a .at) (a .left) (c .before .before .before .begins .result) (c .before .before .before .begins .ensures) _ (c .before .s .given .1))
 
@@ -112,7 +112,7 @@ factor-same-length : (t : ℕ) → factor-lts.Need-same-length (factor-calls t) 
 factor-same-length t c = c .before .before .relation .kept .1 .1 .0
 
 factor-returns-2 : (t : ℕ) → factor-lts.Need-returns-2 (factor-calls t) (factor-at t) factor.Post
-factor-returns-2 t c = 
+factor-returns-2 t c =
     let a = c .before .before .before .before .before .before .before .before .before .before .args in
     readers.factor-relation (a .text .now) (a .at) (a .left) (a .out .now) (a .n) (c .before .before .before .before .before .s2 .given .0 .0) (readers.was-start (a .text .now) (a .at) (a .left) (c .before .before .before .before .before .before .before .begins .result) (c .before .before .before .before .before .before .before .begins .ensures) _ (c .before .before .before .before .before .s2 .given .1)) (c .before .before .relation .result) _ (c .before .before .relation .ensures)
 
@@ -120,7 +120,7 @@ factor-same-length-2 : (t : ℕ) → factor-lts.Need-same-length-2 (factor-calls
 factor-same-length-2 t c = c .before .before .before .before .before .sum .kept .1 .1 .1 .0
 
 factor-returns-3 : (t : ℕ) → factor-lts.Need-returns-3 (factor-calls t) (factor-at t) factor.Post
-factor-returns-3 t c = 
+factor-returns-3 t c =
     let a = c .before .before .before .before .before .before .before .before .before .before .before .before .before .args in
     readers.factor-inner-wrong (a .text .now) (a .at) (a .left) (a .out .now) (a .n) (c .before .before .before .before .before .before .before .before .s3 .given .0 .0) (readers.was-start (a .text .now) (a .at) (a .left) (c .before .before .before .before .before .before .before .before .before .before .begins .result) (c .before .before .before .before .before .before .before .before .before .before .begins .ensures) _ (c .before .before .before .before .before .before .before .before .s3 .given .1)) (c .before .i .given .0 .0) (c .before .i .given .0 .1 .0) (c .before .before .before .before .before .sum .last .1 .1 .1 .0) (readers.sum-bad (a .text .now) (c .before .before .before .before .before .before .before .before .s3 .given .0 .0) (a .left - 1) (a .out .now) (a .n) (c .before .before .before .before .before .sum .result) (c .before .before .before .before .before .sum .last .1 .1 .1 .0) (c .before .i .given .0 .0) (c .before .i .given .0 .1 .0) (c .before .before .before .before .before .sum .ensures) (c .before .i .given .1))
 
@@ -128,7 +128,7 @@ factor-same-length-3 : (t : ℕ) → factor-lts.Need-same-length-3 (factor-calls
 factor-same-length-3 t c = c .before .before .before .before .before .before .sum .kept .1 .1 .1 .0
 
 factor-returns-4 : (t : ℕ) → factor-lts.Need-returns-4 (factor-calls t) (factor-at t) factor.Post
-factor-returns-4 t c = 
+factor-returns-4 t c =
     let a = c .before .before .before .before .before .before .before .before .before .before .before .before .before .before .args in
     readers.factor-close (a .text .now) (a .at) (a .left) (a .out .now) (a .n) (c .before .before .before .before .before .before .before .before .before .s3 .given .0 .0) (readers.was-start (a .text .now) (a .at) (a .left) (c .before .before .before .before .before .before .before .before .before .before .before .begins .result) (c .before .before .before .before .before .before .before .before .before .before .before .begins .ensures) _ (c .before .before .before .before .before .before .before .before .before .s3 .given .1)) (c .before .before .i2 .given .0 .0) (c .before .before .i2 .given .0 .1 .0) (c .before .before .before .before .before .before .sum .last .1 .1 .1 .0) (readers.sum-at (a .text .now) (c .before .before .before .before .before .before .before .before .before .s3 .given .0 .0) (a .left - 1) (a .out .now) (a .n) (c .before .before .before .before .before .before .sum .result) (c .before .before .before .before .before .before .sum .last .1 .1 .1 .0) (c .before .before .i2 .given .0 .0) (c .before .before .i2 .given .0 .1 .0) (c .before .before .before .before .before .before .sum .ensures) (c .before .before .i2 .given .1)) (c .close .result) (c .close .ensures)
 
@@ -148,7 +148,7 @@ product-enum-known-f-2 : (t : ℕ) → product-lts.Need-enum-known-f-2 (product-
 product-enum-known-f-2 t c = c .match .keys2
 
 product-loop-holds : (t : ℕ) → product-lts.Need-loop-holds (product-calls t) (product-at t) product.Post product-Inv-loop product-μ-loop
-product-loop-holds t c = 
+product-loop-holds t c =
     let a = c .before .before .before .before .before .before .before .before .before .args in
     let f = (readers.factor-at (a .text .now) (a .at) (a .left) (a .out .now) (a .n) (c .before .before .before .before .before .factor .result) (c .before .before .before .before .before .factor .last .1 .1 .1 .0) (c .before .f2 .given .0 .0) (c .before .f2 .given .0 .1 .0) (c .before .before .before .before .before .factor .ensures) (c .before .f2 .given .1)) in readers.grown-none (a .text .now) (a .left) (c .before .f2 .given .0 .0) (c .before .f2 .given .0 .1 .0) (c .before .before .before .before .before .factor .last .1 .1 .1 .0) (omega (arith, f .few, f .count, c .before .before .before .before .before .before .before .before .before .pre .1 .1)) (f .within)
 
@@ -165,7 +165,7 @@ product-same-length : (t : ℕ) → product-lts.Need-same-length (product-calls 
 product-same-length t c = ap length (c .before .before .before .before .loop .inv .bytes) ∙ length-sets (c .before .before .before .before .before .before .before .before .before .before .factor .last .1 .1 .1 .0) (c .before .before .before .before .before .before .f2 .given .0 .1 .0) (c .before .before .before .before .loop .inv .more) ∙ c .before .before .before .before .before .before .before .before .before .before .factor .kept .1 .1 .1 .0
 
 product-returns : (t : ℕ) → product-lts.Need-returns (product-calls t) (product-at t) product.Post product-Inv-loop product-μ-loop
-product-returns t c = 
+product-returns t c =
     let a = c .before .before .before .before .before .before .before .before .before .before .before .before .before .before .args in
     let l = c .before .before .before .before .loop in
     readers.product-ends (a .text .now) (a .left) (c .before .before .before .before .before .before .f2 .given .0 .0) (c .before .before .before .before .before .before .f2 .given .0 .1 .0) (c .before .before .before .before .before .before .before .before .before .before .factor .last .1 .1 .1 .0) (l .p) (l .m) (l .out) (l .inv) (c .before .before .before .blanks .result) (c .before .before .before .blanks .ensures) (a .at) (a .out .now) (a .n) (readers.factor-at (a .text .now) (a .at) (a .left) (a .out .now) (a .n) (c .before .before .before .before .before .before .before .before .before .before .factor .result) (c .before .before .before .before .before .before .before .before .before .before .factor .last .1 .1 .1 .0) (c .before .before .before .before .before .before .f2 .given .0 .0) (c .before .before .before .before .before .before .f2 .given .0 .1 .0) (c .before .before .before .before .before .before .before .before .before .before .factor .ensures) (c .before .before .before .before .before .before .f2 .given .1)) (readers.was-joiner (a .text .now) (c .before .before .before .blanks .result) 38 (c .before .before .join-at .result) (c .before .before .join-at .ensures) _ (c .enum-told .given .1))
@@ -174,7 +174,7 @@ product-enum-told-2 : (t : ℕ) → product-lts.Need-enum-told-2 (product-calls 
 product-enum-told-2 t c = c .match2 .keys2
 
 product-add-t23 : (t : ℕ) → product-lts.Need-add-t23 (product-calls t) (product-at t) product.Post product-Inv-loop product-μ-loop
-product-add-t23 t c = 
+product-add-t23 t c =
     let a = c .before .before .before .before .before .before .before .before .before .before .before .before .before .before .args in
     let l = c .before .before .before .before .loop in
     omega (arith, laws.byte-in (a .text .now) (c .before .before .before .blanks .result) 38 ((readers.was-joiner (a .text .now) (c .before .before .before .blanks .result) 38 (c .before .before .join-at .result) (c .before .before .join-at .ensures) _ (c .enum-told2 .given .1)) .0) (omega arith), c .before .before .before .before .before .before .before .before .before .before .before .before .before .before .good .0 .0)
@@ -183,7 +183,7 @@ product-same-length-2 : (t : ℕ) → product-lts.Need-same-length-2 (product-ca
 product-same-length-2 t c = ap length (c .before .before .before .before .loop .inv .bytes) ∙ length-sets (c .before .before .before .before .before .before .before .before .before .before .factor .last .1 .1 .1 .0) (c .before .before .before .before .before .before .f2 .given .0 .1 .0) (c .before .before .before .before .loop .inv .more) ∙ c .before .before .before .before .before .before .before .before .before .before .factor .kept .1 .1 .1 .0
 
 product-returns-2 : (t : ℕ) → product-lts.Need-returns-2 (product-calls t) (product-at t) product.Post product-Inv-loop product-μ-loop
-product-returns-2 t c = 
+product-returns-2 t c =
     let a = c .before .before .before .before .before .before .before .before .before .before .before .before .before .before .args in
     let l = c .before .before .before .before .loop in
     readers.product-half (a .text .now) (a .left) (c .before .before .before .before .before .before .f2 .given .0 .0) (c .before .before .before .before .before .before .f2 .given .0 .1 .0) (c .before .before .before .before .before .before .before .before .before .before .factor .last .1 .1 .1 .0) (l .p) (l .m) (l .out) (l .inv) (c .before .before .before .blanks .result) (c .before .before .before .blanks .ensures) ((readers.was-joiner (a .text .now) (c .before .before .before .blanks .result) 38 (c .before .before .join-at .result) (c .before .before .join-at .ensures) _ (c .enum-told2 .given .1)) .0) (a .at) (a .out .now) (a .n) (l .out) (readers.factor-at (a .text .now) (a .at) (a .left) (a .out .now) (a .n) (c .before .before .before .before .before .before .before .before .before .before .factor .result) (c .before .before .before .before .before .before .before .before .before .before .factor .last .1 .1 .1 .0) (c .before .before .before .before .before .before .f2 .given .0 .0) (c .before .before .before .before .before .before .f2 .given .0 .1 .0) (c .before .before .before .before .before .before .before .before .before .before .factor .ensures) (c .before .before .before .before .before .before .f2 .given .1)) ((readers.was-joiner (a .text .now) (c .before .before .before .blanks .result) 38 (c .before .before .join-at .result) (c .before .before .join-at .ensures) _ (c .enum-told2 .given .1)) .1)
@@ -192,13 +192,13 @@ product-enum-told-3 : (t : ℕ) → product-lts.Need-enum-told-3 (product-calls 
 product-enum-told-3 t c = c .match2 .keys3
 
 product-add-factor : (t : ℕ) → product-lts.Need-add-factor (product-calls t) (product-at t) product.Post product-Inv-loop product-μ-loop
-product-add-factor t c = 
+product-add-factor t c =
     let a = c .before .before .before .before .before .before .before .before .before .before .before .before .before .before .args in
     let l = c .before .before .before .before .loop in
     omega (arith, readers.and-in (a .text .now) (a .left) (c .before .before .before .before .before .before .f2 .given .0 .0) (c .before .before .before .before .before .before .f2 .given .0 .1 .0) (c .before .before .before .before .before .before .before .before .before .before .factor .last .1 .1 .1 .0) (l .p) (l .m) (l .out) (l .inv) (c .before .before .before .blanks .result) (c .before .before .before .blanks .ensures) ((readers.was-joiner (a .text .now) (c .before .before .before .blanks .result) 38 (c .before .before .join-at .result) (c .before .before .join-at .ensures) _ (c .enum-told3 .given .1)) .0) ((readers.was-joiner (a .text .now) (c .before .before .before .blanks .result) 38 (c .before .before .join-at .result) (c .before .before .join-at .ensures) _ (c .enum-told3 .given .1)) .1), c .before .before .before .before .before .before .before .before .before .before .before .before .before .before .good .0 .0)
 
 product-factor-requires-2 : (t : ℕ) → product-lts.Need-factor-requires-2 (product-calls t) (product-at t) product.Post product-Inv-loop product-μ-loop
-product-factor-requires-2 t c κs = 
+product-factor-requires-2 t c κs =
     let a = c .before .before .before .before .before .before .before .before .before .before .before .before .before .before .before .args in
     let l = c .before .before .before .before .before .loop in
     (omega (arith, c .before .before .before .before .before .before .before .before .before .before .before .before .before .before .before .pre .0), (readers.and-in (a .text .now) (a .left) (c .before .before .before .before .before .before .before .f2 .given .0 .0) (c .before .before .before .before .before .before .before .f2 .given .0 .1 .0) (c .before .before .before .before .before .before .before .before .before .before .before .factor .last .1 .1 .1 .0) (l .p) (l .m) (l .out) (l .inv) (c .before .before .before .before .blanks .result) (c .before .before .before .before .blanks .ensures) ((readers.was-joiner (a .text .now) (c .before .before .before .before .blanks .result) 38 (c .before .before .before .join-at .result) (c .before .before .before .join-at .ensures) _ (c .before .enum-told3 .given .1)) .0) ((readers.was-joiner (a .text .now) (c .before .before .before .before .blanks .result) 38 (c .before .before .before .join-at .result) (c .before .before .before .join-at .ensures) _ (c .before .enum-told3 .given .1)) .1), omega (arith, l .inv .behind, c .before .before .before .before .blanks .ensures .forward)))
@@ -210,7 +210,7 @@ product-same-length-3 : (t : ℕ) → product-lts.Need-same-length-3 (product-ca
 product-same-length-3 t c = c .before .before .before .before .before .factor2 .kept .1 .1 .1 .0 ∙ ap length (c .before .before .before .before .before .before .before .before .before .before .before .loop .inv .bytes) ∙ length-sets (c .before .before .before .before .before .before .before .before .before .before .before .before .before .before .before .before .before .factor .last .1 .1 .1 .0) (c .before .before .before .before .before .before .before .before .before .before .before .before .before .f2 .given .0 .1 .0) (c .before .before .before .before .before .before .before .before .before .before .before .loop .inv .more) ∙ c .before .before .before .before .before .before .before .before .before .before .before .before .before .before .before .before .before .factor .kept .1 .1 .1 .0
 
 product-returns-3 : (t : ℕ) → product-lts.Need-returns-3 (product-calls t) (product-at t) product.Post product-Inv-loop product-μ-loop
-product-returns-3 t c = 
+product-returns-3 t c =
     let a = c .before .before .before .before .before .before .before .before .before .before .before .before .before .before .before .before .before .before .before .before .before .args in
     let l = c .before .before .before .before .before .before .before .before .before .before .before .loop in
     readers.product-wrong (a .text .now) (a .left) (c .before .before .before .before .before .before .before .before .before .before .before .before .before .f2 .given .0 .0) (c .before .before .before .before .before .before .before .before .before .before .before .before .before .f2 .given .0 .1 .0) (c .before .before .before .before .before .before .before .before .before .before .before .before .before .before .before .before .before .factor .last .1 .1 .1 .0) (l .p) (l .m) (l .out) (l .inv) (c .before .before .before .before .before .before .before .before .before .before .blanks .result) (c .before .before .before .before .before .before .before .before .before .before .blanks .ensures) ((readers.was-joiner (a .text .now) (c .before .before .before .before .before .before .before .before .before .before .blanks .result) 38 (c .before .before .before .before .before .before .before .before .before .join-at .result) (c .before .before .before .before .before .before .before .before .before .join-at .ensures) _ (c .before .before .before .before .before .before .before .enum-told3 .given .1)) .0) ((readers.was-joiner (a .text .now) (c .before .before .before .before .before .before .before .before .before .before .blanks .result) 38 (c .before .before .before .before .before .before .before .before .before .join-at .result) (c .before .before .before .before .before .before .before .before .before .join-at .ensures) _ (c .before .before .before .before .before .before .before .enum-told3 .given .1)) .1) (a .at) (a .out .now) (a .n) (c .before .before .before .before .before .factor2 .last .1 .1 .1 .0) (c .before .g .given .0 .0) (c .before .g .given .0 .1 .0) (readers.factor-at (a .text .now) (a .at) (a .left) (a .out .now) (a .n) (c .before .before .before .before .before .before .before .before .before .before .before .before .before .before .before .before .before .factor .result) (c .before .before .before .before .before .before .before .before .before .before .before .before .before .before .before .before .before .factor .last .1 .1 .1 .0) (c .before .before .before .before .before .before .before .before .before .before .before .before .before .f2 .given .0 .0) (c .before .before .before .before .before .before .before .before .before .before .before .before .before .f2 .given .0 .1 .0) (c .before .before .before .before .before .before .before .before .before .before .before .before .before .before .before .before .before .factor .ensures) (c .before .before .before .before .before .before .before .before .before .before .before .before .before .f2 .given .1)) (readers.factor-bad (a .text .now) (c .before .before .before .before .before .before .before .before .before .before .blanks .result + 2) (a .left) (l .out) (l .m) (c .before .before .before .before .before .factor2 .result) (c .before .before .before .before .before .factor2 .last .1 .1 .1 .0) (c .before .g .given .0 .0) (c .before .g .given .0 .1 .0) (c .before .before .before .before .before .factor2 .ensures) (c .before .g .given .1))
@@ -219,19 +219,19 @@ product-enum-known-g-2 : (t : ℕ) → product-lts.Need-enum-known-g-2 (product-
 product-enum-known-g-2 t c = c .match3 .keys2
 
 product-put-requires : (t : ℕ) → product-lts.Need-put-requires (product-calls t) (product-at t) product.Post product-Inv-loop product-μ-loop
-product-put-requires t c κs = 
+product-put-requires t c κs =
     let a = c .before .before .before .before .before .before .before .before .before .before .before .before .before .before .before .before .before .before .before .before .before .before .args in
     let l = c .before .before .before .before .before .before .before .before .before .before .before .before .loop in
     let f = (readers.factor-at (a .text .now) (c .before .before .before .before .before .before .before .before .before .before .before .blanks .result + 2) (a .left) (l .out) (l .m) (c .before .before .before .before .before .before .factor2 .result) (c .before .before .before .before .before .before .factor2 .last .1 .1 .1 .0) (c .before .before .g2 .given .0 .0) (c .before .before .g2 .given .0 .1 .0) (c .before .before .before .before .before .before .factor2 .ensures) (c .before .before .g2 .given .1)) in omega (arith, f .few, f .within, f .count, l .inv .behind, c .before .before .before .before .before .before .before .before .before .before .before .before .before .before .before .before .before .before .before .before .before .before .good .0 .1, c .before .before .before .before .before .before .before .before .before .before .before .blanks .ensures .forward)
 
 product-loop-less : (t : ℕ) → product-lts.Need-loop-less (product-calls t) (product-at t) product.Post product-Inv-loop product-μ-loop
-product-loop-less t c = 
+product-loop-less t c =
     let a = c .before .before .before .before .before .before .before .before .before .before .before .before .before .before .before .before .before .before .before .before .before .before .before .before .before .args in
     let l = c .before .before .before .before .before .before .before .before .before .before .before .before .before .before .before .loop in
     let f = (readers.factor-at (a .text .now) (c .before .before .before .before .before .before .before .before .before .before .before .before .before .before .blanks .result + 2) (a .left) (l .out) (l .m) (c .before .before .before .before .before .before .before .before .before .factor2 .result) (c .before .before .before .before .before .before .before .before .before .factor2 .last .1 .1 .1 .0) (c .before .before .before .before .before .g2 .given .0 .0) (c .before .before .before .before .before .g2 .given .0 .1 .0) (c .before .before .before .before .before .before .before .before .before .factor2 .ensures) (c .before .before .before .before .before .g2 .given .1)) in omega (arith, f .few, f .within, c .before .before .before .before .before .before .before .before .before .before .before .before .before .before .blanks .ensures .forward)
 
 product-loop-again : (t : ℕ) → product-lts.Need-loop-again (product-calls t) (product-at t) product.Post product-Inv-loop product-μ-loop
-product-loop-again t c = 
+product-loop-again t c =
     let a = c .before .before .before .before .before .before .before .before .before .before .before .before .before .before .before .before .before .before .before .before .before .before .before .before .before .args in
     let l = c .before .before .before .before .before .before .before .before .before .before .before .before .before .before .before .loop in
     readers.grown-more (a .text .now) (a .left) (c .before .before .before .before .before .before .before .before .before .before .before .before .before .before .before .before .before .f2 .given .0 .0) (c .before .before .before .before .before .before .before .before .before .before .before .before .before .before .before .before .before .f2 .given .0 .1 .0) (c .before .before .before .before .before .before .before .before .before .before .before .before .before .before .before .before .before .before .before .before .before .factor .last .1 .1 .1 .0) (l .p) (l .m) (l .out) (l .inv) (c .before .before .before .before .before .before .before .before .before .before .before .before .before .before .blanks .result) (c .before .before .before .before .before .before .before .before .before .before .before .before .before .before .blanks .ensures) ((readers.was-joiner (a .text .now) (c .before .before .before .before .before .before .before .before .before .before .before .before .before .before .blanks .result) 38 (c .before .before .before .before .before .before .before .before .before .before .before .before .before .join-at .result) (c .before .before .before .before .before .before .before .before .before .before .before .before .before .join-at .ensures) _ (c .before .before .before .before .before .before .before .before .before .before .before .enum-told3 .given .1)) .0) ((readers.was-joiner (a .text .now) (c .before .before .before .before .before .before .before .before .before .before .before .before .before .before .blanks .result) 38 (c .before .before .before .before .before .before .before .before .before .before .before .before .before .join-at .result) (c .before .before .before .before .before .before .before .before .before .before .before .before .before .join-at .ensures) _ (c .before .before .before .before .before .before .before .before .before .before .before .enum-told3 .given .1)) .1) (c .before .before .before .before .before .g2 .given .0 .0) (c .before .before .before .before .before .g2 .given .0 .1 .0) (c .before .before .put .result) (c .before .before .before .before .before .before .before .before .before .factor2 .last .1 .1 .1 .0) (c .before .before .put .last .0) (readers.factor-at (a .text .now) (c .before .before .before .before .before .before .before .before .before .before .before .before .before .before .blanks .result + 2) (a .left) (l .out) (l .m) (c .before .before .before .before .before .before .before .before .before .factor2 .result) (c .before .before .before .before .before .before .before .before .before .factor2 .last .1 .1 .1 .0) (c .before .before .before .before .before .g2 .given .0 .0) (c .before .before .before .before .before .g2 .given .0 .1 .0) (c .before .before .before .before .before .before .before .before .before .factor2 .ensures) (c .before .before .before .before .before .g2 .given .1)) (c .before .before .put .ensures .0) (c .before .before .put .ensures .1)
@@ -240,7 +240,7 @@ product-same-length-4 : (t : ℕ) → product-lts.Need-same-length-4 (product-ca
 product-same-length-4 t c = c .before .before .before .before .before .factor .kept .1 .1 .1 .0
 
 product-returns-4 : (t : ℕ) → product-lts.Need-returns-4 (product-calls t) (product-at t) product.Post product-Inv-loop product-μ-loop
-product-returns-4 t c = 
+product-returns-4 t c =
     let a = c .before .before .before .before .before .before .before .before .before .args in
     λ o ls h. (readers.factor-bad (a .text .now) (a .at) (a .left) (a .out .now) (a .n) (c .before .before .before .before .before .factor .result) (c .before .before .before .before .before .factor .last .1 .1 .1 .0) (c .before .f .given .0 .0) (c .before .f .given .0 .1 .0) (c .before .before .before .before .before .factor .ensures) (c .before .f .given .1)) (level o none) ls h
 
@@ -260,7 +260,7 @@ sum-enum-known-f-2 : (t : ℕ) → sum-lts.Need-enum-known-f-2 (sum-calls t) (su
 sum-enum-known-f-2 t c = c .match .keys2
 
 sum-loop-holds : (t : ℕ) → sum-lts.Need-loop-holds (sum-calls t) (sum-at t) sum.Post sum-Inv-loop sum-μ-loop
-sum-loop-holds t c = 
+sum-loop-holds t c =
     let a = c .before .before .before .before .before .before .before .before .before .args in
     readers.summed-none (a .text .now) (a .at) (a .left) (a .out .now) (a .n) (c .before .f2 .given .0 .0) (c .before .f2 .given .0 .1 .0) (c .before .before .before .before .before .product .last .1 .1 .1 .0) (c .before .before .before .before .before .before .before .before .before .pre .1 .1) (readers.product-at (a .text .now) (a .at) (a .left) (a .out .now) (a .n) (c .before .before .before .before .before .product .result) (c .before .before .before .before .before .product .last .1 .1 .1 .0) (c .before .f2 .given .0 .0) (c .before .f2 .given .0 .1 .0) (c .before .before .before .before .before .product .ensures) (c .before .f2 .given .1))
 
@@ -274,7 +274,7 @@ sum-same-length : (t : ℕ) → sum-lts.Need-same-length (sum-calls t) (sum-at t
 sum-same-length t c = ap length (c .before .before .before .loop .inv .bytes) ∙ length-sets (c .before .before .before .before .before .before .before .before .before .product .last .1 .1 .1 .0) (c .before .before .before .before .before .f2 .given .0 .1 .0) (c .before .before .before .loop .inv .more) ∙ c .before .before .before .before .before .before .before .before .before .product .kept .1 .1 .1 .0
 
 sum-returns : (t : ℕ) → sum-lts.Need-returns (sum-calls t) (sum-at t) sum.Post sum-Inv-loop sum-μ-loop
-sum-returns t c = 
+sum-returns t c =
     let a = c .before .before .before .before .before .before .before .before .before .before .before .before .before .args in
     let l = c .before .before .before .loop in
     readers.sum-ends (a .text .now) (a .left) (c .before .before .before .before .before .f2 .given .0 .0) (c .before .before .before .before .before .f2 .given .0 .1 .0) (c .before .before .before .before .before .before .before .before .before .product .last .1 .1 .1 .0) (l .p) (l .m) (l .out) (l .inv) (a .at) (a .out .now) (a .n) (readers.product-at (a .text .now) (a .at) (a .left) (a .out .now) (a .n) (c .before .before .before .before .before .before .before .before .before .product .result) (c .before .before .before .before .before .before .before .before .before .product .last .1 .1 .1 .0) (c .before .before .before .before .before .f2 .given .0 .0) (c .before .before .before .before .before .f2 .given .0 .1 .0) (c .before .before .before .before .before .before .before .before .before .product .ensures) (c .before .before .before .before .before .f2 .given .1)) (readers.was-joiner (a .text .now) (l .p) 124 (c .before .before .join-at .result) (c .before .before .join-at .ensures) _ (c .enum-told .given .1))
@@ -283,7 +283,7 @@ sum-enum-told-2 : (t : ℕ) → sum-lts.Need-enum-told-2 (sum-calls t) (sum-at t
 sum-enum-told-2 t c = c .match2 .keys2
 
 sum-add-t22 : (t : ℕ) → sum-lts.Need-add-t22 (sum-calls t) (sum-at t) sum.Post sum-Inv-loop sum-μ-loop
-sum-add-t22 t c = 
+sum-add-t22 t c =
     let a = c .before .before .before .before .before .before .before .before .before .before .before .before .before .args in
     let l = c .before .before .before .loop in
     omega (arith, laws.byte-in (a .text .now) (l .p) 124 ((readers.was-joiner (a .text .now) (l .p) 124 (c .before .before .join-at .result) (c .before .before .join-at .ensures) _ (c .enum-told2 .given .1)) .0) (omega arith), c .before .before .before .before .before .before .before .before .before .before .before .before .before .good .0 .0)
@@ -292,7 +292,7 @@ sum-same-length-2 : (t : ℕ) → sum-lts.Need-same-length-2 (sum-calls t) (sum-
 sum-same-length-2 t c = ap length (c .before .before .before .loop .inv .bytes) ∙ length-sets (c .before .before .before .before .before .before .before .before .before .product .last .1 .1 .1 .0) (c .before .before .before .before .before .f2 .given .0 .1 .0) (c .before .before .before .loop .inv .more) ∙ c .before .before .before .before .before .before .before .before .before .product .kept .1 .1 .1 .0
 
 sum-returns-2 : (t : ℕ) → sum-lts.Need-returns-2 (sum-calls t) (sum-at t) sum.Post sum-Inv-loop sum-μ-loop
-sum-returns-2 t c = 
+sum-returns-2 t c =
     let a = c .before .before .before .before .before .before .before .before .before .before .before .before .before .args in
     let l = c .before .before .before .loop in
     readers.sum-half (a .text .now) (a .left) (c .before .before .before .before .before .f2 .given .0 .0) (c .before .before .before .before .before .f2 .given .0 .1 .0) (c .before .before .before .before .before .before .before .before .before .product .last .1 .1 .1 .0) (l .p) (l .m) (l .out) (l .inv) ((readers.was-joiner (a .text .now) (l .p) 124 (c .before .before .join-at .result) (c .before .before .join-at .ensures) _ (c .enum-told2 .given .1)) .0) (a .at) (a .out .now) (a .n) (l .out) (readers.product-at (a .text .now) (a .at) (a .left) (a .out .now) (a .n) (c .before .before .before .before .before .before .before .before .before .product .result) (c .before .before .before .before .before .before .before .before .before .product .last .1 .1 .1 .0) (c .before .before .before .before .before .f2 .given .0 .0) (c .before .before .before .before .before .f2 .given .0 .1 .0) (c .before .before .before .before .before .before .before .before .before .product .ensures) (c .before .before .before .before .before .f2 .given .1)) ((readers.was-joiner (a .text .now) (l .p) 124 (c .before .before .join-at .result) (c .before .before .join-at .ensures) _ (c .enum-told2 .given .1)) .1)
@@ -301,13 +301,13 @@ sum-enum-told-3 : (t : ℕ) → sum-lts.Need-enum-told-3 (sum-calls t) (sum-at t
 sum-enum-told-3 t c = c .match2 .keys3
 
 sum-add-product : (t : ℕ) → sum-lts.Need-add-product (sum-calls t) (sum-at t) sum.Post sum-Inv-loop sum-μ-loop
-sum-add-product t c = 
+sum-add-product t c =
     let a = c .before .before .before .before .before .before .before .before .before .before .before .before .before .args in
     let l = c .before .before .before .loop in
     omega (arith, readers.or-in (a .text .now) (a .left) (c .before .before .before .before .before .f2 .given .0 .0) (c .before .before .before .before .before .f2 .given .0 .1 .0) (c .before .before .before .before .before .before .before .before .before .product .last .1 .1 .1 .0) (l .p) (l .m) (l .out) (l .inv) ((readers.was-joiner (a .text .now) (l .p) 124 (c .before .before .join-at .result) (c .before .before .join-at .ensures) _ (c .enum-told3 .given .1)) .0) ((readers.was-joiner (a .text .now) (l .p) 124 (c .before .before .join-at .result) (c .before .before .join-at .ensures) _ (c .enum-told3 .given .1)) .1), c .before .before .before .before .before .before .before .before .before .before .before .before .before .good .0 .0)
 
 sum-product-requires-2 : (t : ℕ) → sum-lts.Need-product-requires-2 (sum-calls t) (sum-at t) sum.Post sum-Inv-loop sum-μ-loop
-sum-product-requires-2 t c κs = 
+sum-product-requires-2 t c κs =
     let a = c .before .before .before .before .before .before .before .before .before .before .before .before .before .before .args in
     let l = c .before .before .before .before .loop in
     (omega (arith, c .before .before .before .before .before .before .before .before .before .before .before .before .before .before .pre .0), (readers.or-in (a .text .now) (a .left) (c .before .before .before .before .before .before .f2 .given .0 .0) (c .before .before .before .before .before .before .f2 .given .0 .1 .0) (c .before .before .before .before .before .before .before .before .before .before .product .last .1 .1 .1 .0) (l .p) (l .m) (l .out) (l .inv) ((readers.was-joiner (a .text .now) (l .p) 124 (c .before .before .before .join-at .result) (c .before .before .before .join-at .ensures) _ (c .before .enum-told3 .given .1)) .0) ((readers.was-joiner (a .text .now) (l .p) 124 (c .before .before .before .join-at .result) (c .before .before .before .join-at .ensures) _ (c .before .enum-told3 .given .1)) .1), omega (arith, l .inv .behind)))
@@ -319,7 +319,7 @@ sum-same-length-3 : (t : ℕ) → sum-lts.Need-same-length-3 (sum-calls t) (sum-
 sum-same-length-3 t c = c .before .before .before .before .before .product2 .kept .1 .1 .1 .0 ∙ ap length (c .before .before .before .before .before .before .before .before .before .before .loop .inv .bytes) ∙ length-sets (c .before .before .before .before .before .before .before .before .before .before .before .before .before .before .before .before .product .last .1 .1 .1 .0) (c .before .before .before .before .before .before .before .before .before .before .before .before .f2 .given .0 .1 .0) (c .before .before .before .before .before .before .before .before .before .before .loop .inv .more) ∙ c .before .before .before .before .before .before .before .before .before .before .before .before .before .before .before .before .product .kept .1 .1 .1 .0
 
 sum-returns-3 : (t : ℕ) → sum-lts.Need-returns-3 (sum-calls t) (sum-at t) sum.Post sum-Inv-loop sum-μ-loop
-sum-returns-3 t c = 
+sum-returns-3 t c =
     let a = c .before .before .before .before .before .before .before .before .before .before .before .before .before .before .before .before .before .before .before .before .args in
     let l = c .before .before .before .before .before .before .before .before .before .before .loop in
     readers.sum-wrong (a .text .now) (a .left) (c .before .before .before .before .before .before .before .before .before .before .before .before .f2 .given .0 .0) (c .before .before .before .before .before .before .before .before .before .before .before .before .f2 .given .0 .1 .0) (c .before .before .before .before .before .before .before .before .before .before .before .before .before .before .before .before .product .last .1 .1 .1 .0) (l .p) (l .m) (l .out) (l .inv) ((readers.was-joiner (a .text .now) (l .p) 124 (c .before .before .before .before .before .before .before .before .before .join-at .result) (c .before .before .before .before .before .before .before .before .before .join-at .ensures) _ (c .before .before .before .before .before .before .before .enum-told3 .given .1)) .0) ((readers.was-joiner (a .text .now) (l .p) 124 (c .before .before .before .before .before .before .before .before .before .join-at .result) (c .before .before .before .before .before .before .before .before .before .join-at .ensures) _ (c .before .before .before .before .before .before .before .enum-told3 .given .1)) .1) (a .at) (a .out .now) (a .n) (c .before .before .before .before .before .product2 .last .1 .1 .1 .0) (c .before .g .given .0 .0) (c .before .g .given .0 .1 .0) (readers.product-at (a .text .now) (a .at) (a .left) (a .out .now) (a .n) (c .before .before .before .before .before .before .before .before .before .before .before .before .before .before .before .before .product .result) (c .before .before .before .before .before .before .before .before .before .before .before .before .before .before .before .before .product .last .1 .1 .1 .0) (c .before .before .before .before .before .before .before .before .before .before .before .before .f2 .given .0 .0) (c .before .before .before .before .before .before .before .before .before .before .before .before .f2 .given .0 .1 .0) (c .before .before .before .before .before .before .before .before .before .before .before .before .before .before .before .before .product .ensures) (c .before .before .before .before .before .before .before .before .before .before .before .before .f2 .given .1)) (readers.product-bad (a .text .now) (l .p + 2) (a .left) (l .out) (l .m) (c .before .before .before .before .before .product2 .result) (c .before .before .before .before .before .product2 .last .1 .1 .1 .0) (c .before .g .given .0 .0) (c .before .g .given .0 .1 .0) (c .before .before .before .before .before .product2 .ensures) (c .before .g .given .1))
@@ -328,19 +328,19 @@ sum-enum-known-g-2 : (t : ℕ) → sum-lts.Need-enum-known-g-2 (sum-calls t) (su
 sum-enum-known-g-2 t c = c .match3 .keys2
 
 sum-put-requires : (t : ℕ) → sum-lts.Need-put-requires (sum-calls t) (sum-at t) sum.Post sum-Inv-loop sum-μ-loop
-sum-put-requires t c κs = 
+sum-put-requires t c κs =
     let a = c .before .before .before .before .before .before .before .before .before .before .before .before .before .before .before .before .before .before .before .before .before .args in
     let l = c .before .before .before .before .before .before .before .before .before .before .before .loop in
     let f = (readers.product-at (a .text .now) (l .p + 2) (a .left) (l .out) (l .m) (c .before .before .before .before .before .before .product2 .result) (c .before .before .before .before .before .before .product2 .last .1 .1 .1 .0) (c .before .before .g2 .given .0 .0) (c .before .before .g2 .given .0 .1 .0) (c .before .before .before .before .before .before .product2 .ensures) (c .before .before .g2 .given .1)) in omega (arith, f .few, f .within, f .count, l .inv .behind, c .before .before .before .before .before .before .before .before .before .before .before .before .before .before .before .before .before .before .before .before .before .good .0 .1)
 
 sum-loop-less : (t : ℕ) → sum-lts.Need-loop-less (sum-calls t) (sum-at t) sum.Post sum-Inv-loop sum-μ-loop
-sum-loop-less t c = 
+sum-loop-less t c =
     let a = c .before .before .before .before .before .before .before .before .before .before .before .before .before .before .before .before .before .before .before .before .before .before .before .before .args in
     let l = c .before .before .before .before .before .before .before .before .before .before .before .before .before .before .loop in
     let f = (readers.product-at (a .text .now) (l .p + 2) (a .left) (l .out) (l .m) (c .before .before .before .before .before .before .before .before .before .product2 .result) (c .before .before .before .before .before .before .before .before .before .product2 .last .1 .1 .1 .0) (c .before .before .before .before .before .g2 .given .0 .0) (c .before .before .before .before .before .g2 .given .0 .1 .0) (c .before .before .before .before .before .before .before .before .before .product2 .ensures) (c .before .before .before .before .before .g2 .given .1)) in omega (arith, f .few, f .within)
 
 sum-loop-again : (t : ℕ) → sum-lts.Need-loop-again (sum-calls t) (sum-at t) sum.Post sum-Inv-loop sum-μ-loop
-sum-loop-again t c = 
+sum-loop-again t c =
     let a = c .before .before .before .before .before .before .before .before .before .before .before .before .before .before .before .before .before .before .before .before .before .before .before .before .args in
     let l = c .before .before .before .before .before .before .before .before .before .before .before .before .before .before .loop in
     readers.summed-more (a .text .now) (a .left) (c .before .before .before .before .before .before .before .before .before .before .before .before .before .before .before .before .f2 .given .0 .0) (c .before .before .before .before .before .before .before .before .before .before .before .before .before .before .before .before .f2 .given .0 .1 .0) (c .before .before .before .before .before .before .before .before .before .before .before .before .before .before .before .before .before .before .before .before .product .last .1 .1 .1 .0) (l .p) (l .m) (l .out) (l .inv) ((readers.was-joiner (a .text .now) (l .p) 124 (c .before .before .before .before .before .before .before .before .before .before .before .before .before .join-at .result) (c .before .before .before .before .before .before .before .before .before .before .before .before .before .join-at .ensures) _ (c .before .before .before .before .before .before .before .before .before .before .before .enum-told3 .given .1)) .0) ((readers.was-joiner (a .text .now) (l .p) 124 (c .before .before .before .before .before .before .before .before .before .before .before .before .before .join-at .result) (c .before .before .before .before .before .before .before .before .before .before .before .before .before .join-at .ensures) _ (c .before .before .before .before .before .before .before .before .before .before .before .enum-told3 .given .1)) .1) (c .before .before .before .before .before .g2 .given .0 .0) (c .before .before .before .before .before .g2 .given .0 .1 .0) (c .before .before .put .result) (c .before .before .before .before .before .before .before .before .before .product2 .last .1 .1 .1 .0) (c .before .before .put .last .0) (readers.product-at (a .text .now) (l .p + 2) (a .left) (l .out) (l .m) (c .before .before .before .before .before .before .before .before .before .product2 .result) (c .before .before .before .before .before .before .before .before .before .product2 .last .1 .1 .1 .0) (c .before .before .before .before .before .g2 .given .0 .0) (c .before .before .before .before .before .g2 .given .0 .1 .0) (c .before .before .before .before .before .before .before .before .before .product2 .ensures) (c .before .before .before .before .before .g2 .given .1)) (c .before .before .put .ensures .0) (c .before .before .put .ensures .1)
@@ -349,12 +349,31 @@ sum-same-length-4 : (t : ℕ) → sum-lts.Need-same-length-4 (sum-calls t) (sum-
 sum-same-length-4 t c = c .before .before .before .before .before .product .kept .1 .1 .1 .0
 
 sum-returns-4 : (t : ℕ) → sum-lts.Need-returns-4 (sum-calls t) (sum-at t) sum.Post sum-Inv-loop sum-μ-loop
-sum-returns-4 t c = 
+sum-returns-4 t c =
     let a = c .before .before .before .before .before .before .before .before .before .args in
     λ ls h. (readers.product-bad (a .text .now) (a .at) (a .left) (a .out .now) (a .n) (c .before .before .before .before .before .product .result) (c .before .before .before .before .before .product .last .1 .1 .1 .0) (c .before .f .given .0 .0) (c .before .f .given .0 .1 .0) (c .before .before .before .before .before .product .ensures) (c .before .f .given .1)) none ls h
 
 pub +factor+product+sum-spec : {M : Type 1} → statement M
 +factor+product+sum-spec = close μ-factor μ-product μ-sum (λ t. factor-lts.spec (factor-calls t) (factor-at t)
+    factor.Post
+    (factor-begins-requires t)
+    (factor-enum-known-s t)
+    (factor-enum-known-s-2 t)
+    (factor-relation-requires t)
+    (factor-enum-known-s-3 t)
+    (factor-sub-sum t)
+    (factor-sum-requires t)
+    (factor-enum-known-i t)
+    (factor-enum-known-i-2 t)
+    (factor-close-requires t)
+    (factor-returns t)
+    (factor-same-length t)
+    (factor-returns-2 t)
+    (factor-same-length-2 t)
+    (factor-returns-3 t)
+    (factor-same-length-3 t)
+    (factor-returns-4 t))
+    (λ t. product-lts.spec (product-calls t) (product-at t)
     product.Post
     product-Inv-loop
     product-μ-loop

@@ -10,7 +10,7 @@ byte-of-requires : tie.Need-byte-of-requires
 byte-of-requires c κs = search needs
 
 returns : tie.Need-returns
-returns c = 
+returns c =
     let a = c .before .before .before .before .before .args in
     let q = c .before .before .before .blanks in
     let b = c .before .before .byte-of in
@@ -20,14 +20,14 @@ add-t8 : tie.Need-add-t8
 add-t8 c = search needs
 
 returns-2 : tie.Need-returns-2
-returns-2 c = 
+returns-2 c =
     let a = c .before .before .before .before .before .args in
     let q = c .before .before .before .blanks in
     let b = c .before .before .byte-of in
     readers.start-open (a .text .now) (a .at) (a .left) (q .result) (q .ensures) (b .result) (b .ensures) (c .before .if1 .taken) (c .if2 .left)
 
 returns-3 : tie.Need-returns-3
-returns-3 c = 
+returns-3 c =
     let a = c .before .before .before .before .args in
     let q = c .before .before .blanks in
     let b = c .before .byte-of in

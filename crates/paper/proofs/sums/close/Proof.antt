@@ -20,19 +20,19 @@ add-t6 c = search needs
 
 returns : tie.Need-returns
 unfolding closedAt
-returns c = 
+returns c =
     let a = c .before .before .before .args in
     rw (eq-eqb (getD (a .text .now) (a .at) 0) 41 (sym (c .before .byte-of .ensures) ∙ c .if1 .taken))
 
 returns-2 : tie.Need-returns-2
 unfolding closedAt
-returns-2 c = 
+returns-2 c =
     let a = c .before .before .before .before .args in
     rw (ne-eqb (getD (a .text .now) (a .at) 0) 41 (λ z. c .before .if1 .left (c .before .before .byte-of .ensures ∙ z)), lt-ltb (a .at) (length (a .text .now)) (c .if2 .taken))
 
 returns-3 : tie.Need-returns-3
 unfolding closedAt
-returns-3 c = 
+returns-3 c =
     let a = c .before .before .before .before .args in
     rw (ne-eqb (getD (a .text .now) (a .at) 0) 41 (λ z. c .before .if1 .left (c .before .before .byte-of .ensures ∙ z)), le-ltb (a .at) (length (a .text .now)) (c .if2 .left))
 

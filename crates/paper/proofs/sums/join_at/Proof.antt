@@ -23,19 +23,19 @@ byte-of-requires-2 c κs = search needs
 
 returns : tie.Need-returns
 unfolding joinAt
-returns c = 
+returns c =
     let a = c .before .before .before .before .before .args in
     rw (eq-eqb (getD (a .text .now) (a .at) 0) (a .b) (sym (c .before .before .before .byte-of .ensures) ∙ c .before .before .if1 .taken), eq-eqb (getD (a .text .now) (a .at + 1) 0) (a .b) (sym (c .before .byte-of2 .ensures) ∙ c .if2 .taken))
 
 returns-2 : tie.Need-returns-2
 unfolding joinAt
-returns-2 c = 
+returns-2 c =
     let a = c .before .before .before .before .before .args in
     rw (eq-eqb (getD (a .text .now) (a .at) 0) (a .b) (sym (c .before .before .before .byte-of .ensures) ∙ c .before .before .if1 .taken), ne-eqb (getD (a .text .now) (a .at + 1) 0) (a .b) (λ z. c .if2 .left (c .before .byte-of2 .ensures ∙ z)))
 
 returns-3 : tie.Need-returns-3
 unfolding joinAt
-returns-3 c = 
+returns-3 c =
     let a = c .before .before .before .args in
     rw (ne-eqb (getD (a .text .now) (a .at) 0) (a .b) (λ z. c .if1 .left (c .before .byte-of .ensures ∙ z)))
 

@@ -22,7 +22,7 @@ fifth-star-requires c κs = search needs
 
 returns : tie.Need-returns
 unfolding addedAt
-returns c = 
+returns c =
     let f = c .before .fifth-star in
     rw (← f .ensures, c .if1 .taken)
 
@@ -31,14 +31,14 @@ add-t8 c = search needs
 
 returns-2 : tie.Need-returns-2
 unfolding addedAt
-returns-2 c = 
+returns-2 c =
     let a = c .before .before .before .args in
     let f = c .before .before .fifth-star in
     rw (← f .ensures, c .before .if1 .left, lt-ltb (a .count) 255 (c .if2 .taken))
 
 returns-3 : tie.Need-returns-3
 unfolding addedAt
-returns-3 c = 
+returns-3 c =
     let a = c .before .before .before .args in
     let f = c .before .before .fifth-star in
     rw (← f .ensures, c .before .if1 .left, le-ltb (a .count) 255 (c .if2 .left))

@@ -19,7 +19,7 @@ abbrev μ-loop : tie.MeasureT-loop
 μ-loop text at first e₀ v₀ e v = length text - e
 
 loop-holds : tie.Need-loop-holds Inv-loop μ-loop
-loop-holds c = 
+loop-holds c =
     let a = c .before .args in
     laws.counting-none (a .text .now) (a .at) (a .first) (c .before .pre) (omega (arith, c .before .good .1 .1 .0))
 
@@ -36,19 +36,19 @@ mul-w : tie.Need-mul-w Inv-loop μ-loop
 mul-w c = omega (arith, c .before .before .before .loop .inv .small)
 
 sub-w : tie.Need-sub-w Inv-loop μ-loop
-sub-w c = 
+sub-w c =
     let b = c .before .before .byte-of in
     let d = c .before .is-digit in
     tests.digit-least (b .result) (sym (d .ensures) ∙ c .if1 .taken)
 
 cast-w-2 : tie.Need-cast-w-2 Inv-loop μ-loop
-cast-w-2 c = 
+cast-w-2 c =
     let b = c .before .before .byte-of in
     let d = c .before .is-digit in
     omega (arith, tests.digit-most (b .result) (sym (d .ensures) ∙ c .if1 .taken))
 
 add-w : tie.Need-add-w Inv-loop μ-loop
-add-w c = 
+add-w c =
     let b = c .before .before .byte-of in
     let d = c .before .is-digit in
     omega (arith, tests.digit-most (b .result) (sym (d .ensures) ∙ c .if1 .taken), c .before .before .before .loop .inv .small)
@@ -57,7 +57,7 @@ cast-v : tie.Need-cast-v Inv-loop μ-loop
 cast-v c = omega (arith, c .if2 .taken)
 
 add-e : tie.Need-add-e Inv-loop μ-loop
-add-e c = 
+add-e c =
     let a = c .before .before .before .before .before .before .args in
     let l = c .before .before .before .before .loop in
     let b = c .before .before .before .byte-of in
@@ -65,7 +65,7 @@ add-e c =
     omega (arith, laws.counting-in (a .text .now) (a .at) (a .first) (l .e) (l .v) (l .inv) (b .result) (b .ensures) (sym (d .ensures) ∙ c .before .if1 .taken))
 
 loop-less : tie.Need-loop-less Inv-loop μ-loop
-loop-less c = 
+loop-less c =
     let a = c .before .before .before .before .before .before .args in
     let l = c .before .before .before .before .loop in
     let b = c .before .before .before .byte-of in
@@ -73,7 +73,7 @@ loop-less c =
     omega (arith, laws.counting-in (a .text .now) (a .at) (a .first) (l .e) (l .v) (l .inv) (b .result) (b .ensures) (sym (d .ensures) ∙ c .before .if1 .taken))
 
 loop-again : tie.Need-loop-again Inv-loop μ-loop
-loop-again c = 
+loop-again c =
     let a = c .before .before .before .before .before .before .args in
     let l = c .before .before .before .before .loop in
     let b = c .before .before .before .byte-of in
@@ -81,7 +81,7 @@ loop-again c =
     laws.counting-more (a .text .now) (a .at) (a .first) (l .e) (l .v) (l .inv) (b .result) (b .ensures) (sym (d .ensures) ∙ c .before .if1 .taken) (c .if2 .taken)
 
 returns : tie.Need-returns Inv-loop μ-loop
-returns c = 
+returns c =
     let a = c .before .before .before .before .before .before .args in
     let l = c .before .before .before .before .loop in
     let b = c .before .before .before .byte-of in
@@ -89,7 +89,7 @@ returns c =
     laws.counting-large (a .text .now) (a .at) (a .first) (l .e) (l .v) (l .inv) (b .result) (b .ensures) (sym (d .ensures) ∙ c .before .if1 .taken) (c .if2 .left)
 
 returns-2 : tie.Need-returns-2 Inv-loop μ-loop
-returns-2 c = 
+returns-2 c =
     let a = c .before .before .before .before .before .args in
     let l = c .before .before .before .loop in
     let b = c .before .before .byte-of in

@@ -19,7 +19,7 @@ abbrev μ-loop : tie.MeasureT-loop
 μ-loop text at e₀ e = length text - e
 
 loop-holds : tie.Need-loop-holds Inv-loop μ-loop
-loop-holds c = 
+loop-holds c =
     let a = c .before .args in
     places.passed-none (a .text .now) (a .at) (c .before .pre)
 
@@ -30,7 +30,7 @@ is-blank-requires : tie.Need-is-blank-requires Inv-loop μ-loop
 is-blank-requires c κs = search needs
 
 add-e : tie.Need-add-e Inv-loop μ-loop
-add-e c = 
+add-e c =
     let a = c .before .before .before .before .before .args in
     let l = c .before .before .before .loop in
     let b = c .before .before .byte-of in
@@ -38,7 +38,7 @@ add-e c =
     omega (arith, places.passed-in (a .text .now) (a .at) (l .e) (l .inv) (b .result) (b .ensures) (sym (k .ensures) ∙ c .if1 .taken))
 
 loop-less : tie.Need-loop-less Inv-loop μ-loop
-loop-less c = 
+loop-less c =
     let a = c .before .before .before .before .before .args in
     let l = c .before .before .before .loop in
     let b = c .before .before .byte-of in
@@ -46,7 +46,7 @@ loop-less c =
     omega (arith, places.passed-in (a .text .now) (a .at) (l .e) (l .inv) (b .result) (b .ensures) (sym (k .ensures) ∙ c .if1 .taken))
 
 loop-again : tie.Need-loop-again Inv-loop μ-loop
-loop-again c = 
+loop-again c =
     let a = c .before .before .before .before .before .args in
     let l = c .before .before .before .loop in
     let b = c .before .before .byte-of in
@@ -54,7 +54,7 @@ loop-again c =
     places.passed-more (a .text .now) (a .at) (l .e) (l .inv) (b .result) (b .ensures) (sym (k .ensures) ∙ c .if1 .taken)
 
 returns : tie.Need-returns Inv-loop μ-loop
-returns c = 
+returns c =
     let a = c .before .before .before .before .before .args in
     let l = c .before .before .before .loop in
     let b = c .before .before .byte-of in

@@ -19,7 +19,7 @@ byte-of-requires c κs = search needs
 
 returns : tie.Need-returns
 unfolding characterAt
-returns c = 
+returns c =
     let a = c .before .before .before .args in
     rw (eq-eqb (getD (a .text .now) (a .at) 0) 34 (sym (c .before .byte-of .ensures) ∙ c .if1 .taken))
 
@@ -27,19 +27,19 @@ add-escape-at : tie.Need-add-escape-at
 add-escape-at c = search needs
 
 escape-at-requires : tie.Need-escape-at-requires
-escape-at-requires c κs = 
+escape-at-requires c κs =
     let a = c .before .before .before .before .before .args in
     omega (arith, places.byte-in (a .text .now) (a .at) 92 (sym (c .before .before .before .byte-of .ensures) ∙ c .before .if2 .taken) (omega arith))
 
 returns-2 : tie.Need-returns-2
 unfolding characterAt
-returns-2 c = 
+returns-2 c =
     let a = c .before .before .before .before .before .before .args in
     rw (ne-eqb (getD (a .text .now) (a .at) 0) 34 (λ z. c .before .before .before .if1 .left (c .before .before .before .before .byte-of .ensures ∙ z)), eq-eqb (getD (a .text .now) (a .at) 0) 92 (sym (c .before .before .before .before .byte-of .ensures) ∙ c .before .before .if2 .taken), lt-ltb (a .count) 255 (c .before .if3 .taken)) (c .escape-at .ensures)
 
 returns-3 : tie.Need-returns-3
 unfolding characterAt
-returns-3 c = 
+returns-3 c =
     let a = c .before .before .before .before .before .args in
     rw (ne-eqb (getD (a .text .now) (a .at) 0) 34 (λ z. c .before .before .if1 .left (c .before .before .before .byte-of .ensures ∙ z)), eq-eqb (getD (a .text .now) (a .at) 0) 92 (sym (c .before .before .before .byte-of .ensures) ∙ c .before .if2 .taken), le-ltb (a .count) 255 (c .if3 .left))
 
@@ -51,14 +51,14 @@ added-at-requires c κs = search needs
 
 returns-4 : tie.Need-returns-4
 unfolding characterAt
-returns-4 c = 
+returns-4 c =
     let a = c .before .before .before .before .before .before .before .args in
     let b = c .before .before .before .before .before .byte-of in
     rw (ne-eqb (getD (a .text .now) (a .at) 0) 34 (λ z. c .before .before .before .before .if1 .left (c .before .before .before .before .before .byte-of .ensures ∙ z)), ne-eqb (getD (a .text .now) (a .at) 0) 92 (λ z. c .before .before .before .if2 .left (c .before .before .before .before .before .byte-of .ensures ∙ z)), ← b .ensures, ← c .before .before .is-printed .ensures, c .before .if4 .taken) (c .added-at .ensures)
 
 returns-5 : tie.Need-returns-5
 unfolding characterAt
-returns-5 c = 
+returns-5 c =
     let a = c .before .before .before .before .before .before .args in
     let b = c .before .before .before .before .byte-of in
     rw (ne-eqb (getD (a .text .now) (a .at) 0) 34 (λ z. c .before .before .before .if1 .left (c .before .before .before .before .byte-of .ensures ∙ z)), ne-eqb (getD (a .text .now) (a .at) 0) 92 (λ z. c .before .before .if2 .left (c .before .before .before .before .byte-of .ensures ∙ z)), ← b .ensures, ← c .before .is-printed .ensures, c .if4 .left)

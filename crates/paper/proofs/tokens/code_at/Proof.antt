@@ -43,7 +43,7 @@ added-at-requires c κs = search needs
 
 returns : tie.Need-returns
 unfolding codeAt
-returns c = 
+returns c =
     let h = c .before .before .before .before .before .hex-value in
     let k = c .before .before .hex-value2 in
     let b = c .before .before .before .before .before .before .byte-of in
@@ -55,7 +55,7 @@ add-t10 c = search needs
 
 returns-2 : tie.Need-returns-2
 unfolding codeAt
-returns-2 c = 
+returns-2 c =
     let h = c .before .before .before .before .hex-value in
     let k = c .before .hex-value2 in
     let b = c .before .before .before .before .before .byte-of in
@@ -64,7 +64,7 @@ returns-2 c =
 
 returns-3 : tie.Need-returns-3
 unfolding codeAt
-returns-3 c = 
+returns-3 c =
     let h = c .before .hex-value in
     let b = c .before .before .byte-of in
     rw (← b .ensures, ← h .ensures, le-ltb (h .result) 16 (c .if1 .left))

@@ -22,7 +22,7 @@ add-t7 c = search needs
 
 returns : tie.Need-returns
 unfolding escapeAt
-returns c = 
+returns c =
     let a = c .before .before .before .args in
     rw (eq-eqb (getD (a .text .now) (a .at) 0) 34 (sym (c .before .byte-of .ensures) ∙ c .if1 .taken))
 
@@ -31,7 +31,7 @@ add-t8 c = search needs
 
 returns-2 : tie.Need-returns-2
 unfolding escapeAt
-returns-2 c = 
+returns-2 c =
     let a = c .before .before .before .before .args in
     rw (ne-eqb (getD (a .text .now) (a .at) 0) 34 (λ z. c .before .if1 .left (c .before .before .byte-of .ensures ∙ z)), eq-eqb (getD (a .text .now) (a .at) 0) 92 (sym (c .before .before .byte-of .ensures) ∙ c .if2 .taken))
 
@@ -39,19 +39,19 @@ add-code-at : tie.Need-add-code-at
 add-code-at c = search needs
 
 code-at-requires : tie.Need-code-at-requires
-code-at-requires c κs = 
+code-at-requires c κs =
     let a = c .before .before .before .before .before .args in
     omega (arith, places.byte-in (a .text .now) (a .at) 120 (sym (c .before .before .before .byte-of .ensures) ∙ c .if3 .taken) (omega arith))
 
 returns-3 : tie.Need-returns-3
 unfolding escapeAt
-returns-3 c = 
+returns-3 c =
     let a = c .before .before .before .before .before .before .args in
     rw (ne-eqb (getD (a .text .now) (a .at) 0) 34 (λ z. c .before .before .before .if1 .left (c .before .before .before .before .byte-of .ensures ∙ z)), ne-eqb (getD (a .text .now) (a .at) 0) 92 (λ z. c .before .before .if2 .left (c .before .before .before .before .byte-of .ensures ∙ z)), eq-eqb (getD (a .text .now) (a .at) 0) 120 (sym (c .before .before .before .before .byte-of .ensures) ∙ c .before .if3 .taken)) (c .code-at .ensures)
 
 returns-4 : tie.Need-returns-4
 unfolding escapeAt
-returns-4 c = 
+returns-4 c =
     let a = c .before .before .before .before .before .args in
     rw (ne-eqb (getD (a .text .now) (a .at) 0) 34 (λ z. c .before .before .if1 .left (c .before .before .before .byte-of .ensures ∙ z)), ne-eqb (getD (a .text .now) (a .at) 0) 92 (λ z. c .before .if2 .left (c .before .before .before .byte-of .ensures ∙ z)), ne-eqb (getD (a .text .now) (a .at) 0) 120 (λ z. c .if3 .left (c .before .before .before .byte-of .ensures ∙ z)))
 

@@ -16,12 +16,12 @@ use Rattle.paper.proofs.tokens.fifth_star.Statement.{statement}
 use Rattle.paper.proofs.tokens.fifth_star.Tie as tie
 
 returns : tie.Need-returns
-returns c = 
+returns c =
     let a = c .before .args in
     rw (eq-eqb (a .b) 42 (c .if1 .taken))
 
 returns-2 : tie.Need-returns-2
-returns-2 c = 
+returns-2 c =
     let a = c .before .args in
     rw (ne-eqb (a .b) 42 (c .if1 .left))
 

@@ -19,7 +19,7 @@ abbrev μ-loop : tie.MeasureT-loop
 μ-loop text at n₀ v₀ n v = 4 - n
 
 loop-holds : tie.Need-loop-holds Inv-loop μ-loop
-loop-holds c = 
+loop-holds c =
     let a = c .before .args in
     laws.hashing-none (a .text .now) (a .at) (c .before .pre)
 
@@ -48,7 +48,7 @@ loop-less : tie.Need-loop-less Inv-loop μ-loop
 loop-less c = omega arith
 
 loop-again : tie.Need-loop-again Inv-loop μ-loop
-loop-again c = 
+loop-again c =
     let a = c .before .before .before .before .before .before .args in
     let l = c .before .before .before .before .loop in
     let b = c .before .before .byte-of in
@@ -59,7 +59,7 @@ add-t11 : tie.Need-add-t11 Inv-loop μ-loop
 add-t11 c = omega (arith, c .before .before .before .before .loop .inv .within, c .before .before .before .before .before .before .good .0 .0)
 
 returns : tie.Need-returns Inv-loop μ-loop
-returns c = 
+returns c =
     let a = c .before .before .before .before .before .before .args in
     let l = c .before .before .before .before .loop in
     let b = c .before .before .byte-of in
@@ -70,7 +70,7 @@ add-t12 : tie.Need-add-t12 Inv-loop μ-loop
 add-t12 c = omega (arith, c .before .loop .inv .within, c .before .before .before .good .0 .0)
 
 returns-2 : tie.Need-returns-2 Inv-loop μ-loop
-returns-2 c = 
+returns-2 c =
     let a = c .before .before .before .args in
     let l = c .before .loop in
     laws.hashing-done (a .text .now) (a .at) (l .n) (l .v) (l .inv) (c .loop-test .left)

@@ -32,37 +32,37 @@ enum-told-6 c = search needs
 
 returns : tie.Need-returns
 unfolding isEquality
-returns c = 
+returns c =
     let e = c .enum-told in
     rw (e .given .1)
 
 returns-2 : tie.Need-returns-2
 unfolding isEquality
-returns-2 c = 
+returns-2 c =
     let e = c .enum-told2 in
     rw (e .given .1)
 
 returns-3 : tie.Need-returns-3
 unfolding isEquality
-returns-3 c = 
+returns-3 c =
     let e = c .enum-told3 in
     rw (e .given .1)
 
 returns-4 : tie.Need-returns-4
 unfolding isEquality
-returns-4 c = 
+returns-4 c =
     let e = c .enum-told4 in
     rw (e .given .1)
 
 returns-5 : tie.Need-returns-5
 unfolding isEquality
-returns-5 c = 
+returns-5 c =
     let e = c .enum-told5 in
     rw (e .given .1)
 
 returns-6 : tie.Need-returns-6
 unfolding isEquality
-returns-6 c = 
+returns-6 c =
     let e = c .enum-told6 in
     rw (e .given .1)
 

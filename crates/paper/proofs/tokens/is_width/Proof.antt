@@ -13,19 +13,19 @@ use Rattle.paper.proofs.tokens.is_width.Tie as tie
 
 returns : tie.Need-returns
 unfolding isWidth
-returns c = 
+returns c =
     let a = c .before .args in
     rw (eq-eqb (a .b) 49 (c .if1 .taken))
 
 returns-2 : tie.Need-returns-2
 unfolding isWidth
-returns-2 c = 
+returns-2 c =
     let a = c .before .before .args in
     rw (ne-eqb (a .b) 49 (c .before .if1 .left), eq-eqb (a .b) 50 (c .if2 .taken))
 
 returns-3 : tie.Need-returns-3
 unfolding isWidth
-returns-3 c = 
+returns-3 c =
     let a = c .before .before .args in
     rw (ne-eqb (a .b) 49 (c .before .if1 .left), ne-eqb (a .b) 50 (c .if2 .left))
 

@@ -25,12 +25,12 @@ add-hash-from : tie.Need-add-hash-from
 add-hash-from c = search needs
 
 hash-from-requires : tie.Need-hash-from-requires
-hash-from-requires c κs = 
+hash-from-requires c κs =
     let a = c .before .before .before .args in
     omega (arith, places.byte-in (a .text .now) (a .at) 35 (sym (c .before .byte-of .ensures) ∙ c .if1 .taken) (omega arith))
 
 returns : tie.Need-returns
-returns c = 
+returns c =
     let a = c .before .before .before .before .args in
     laws.hash-item (a .text .now) (a .at) (c .before .before .before .before .pre .0) (c .before .before .before .before .pre .1) (c .before .before .before .before .pre .2) (c .hash-from .result) (sym (c .before .before .byte-of .ensures) ∙ c .before .if1 .taken) (c .hash-from .ensures)
 
@@ -50,7 +50,7 @@ enum-known-f : tie.Need-enum-known-f
 enum-known-f c = search needs
 
 add-t15 : tie.Need-add-t15
-add-t15 c = 
+add-t15 c =
     let a = c .before .before .before .before .before .before .before .before .args in
     omega (arith, (laws.known-item (a .text .now) (a .at) (c .before .before .before .before .before .before .before .before .pre .0) (c .before .before .before .before .before .before .before .before .pre .1) (c .before .before .before .before .before .before .before .before .pre .2) (c .before .before .before .before .before .before .byte-of .result) (c .before .before .before .before .before .before .byte-of .ensures) (c .before .before .before .before .before .if1 .left) (c .before .before .before .find-name .result) _ (c .before .f .given .0 .0) (c .before .f .given .0 .1 .0) (take-all (length (a .text .now) - a .at) (drop (a .at) (a .text .now)) (omega (arith, length-drop (a .at) (a .text .now)))) (c .before .before .before .find-name .ensures) (c .before .f .given .1)) .within, c .before .before .before .before .before .before .before .before .good .0 .0)
 
@@ -58,17 +58,17 @@ enum-known-f-2 : tie.Need-enum-known-f-2
 enum-known-f-2 c = search needs
 
 add-t16 : tie.Need-add-t16
-add-t16 c = 
+add-t16 c =
     let a = c .before .before .before .before .before .before .before .before .args in
     omega (arith, laws.found-within (a .text .now) (a .at) (c .before .before .before .before .before .before .before .before .pre .0) (c .before .before .before .before .before .before .before .before .pre .1) (c .before .before .before .before .before .before .before .before .pre .2) (c .before .before .before .find-name .result) _ (take-all (length (a .text .now) - a .at) (drop (a .at) (a .text .now)) (omega (arith, length-drop (a .at) (a .text .now)))) (c .before .before .before .find-name .ensures) (c .before .f2 .given .0 .0) (c .before .f2 .given .1), c .before .before .before .before .before .before .before .before .good .0 .0)
 
 returns-2 : tie.Need-returns-2
-returns-2 c = 
+returns-2 c =
     let a = c .before .before .before .before .before .before .before .before .args in
     laws.known-item (a .text .now) (a .at) (c .before .before .before .before .before .before .before .before .pre .0) (c .before .before .before .before .before .before .before .before .pre .1) (c .before .before .before .before .before .before .before .before .pre .2) (c .before .before .before .before .before .before .byte-of .result) (c .before .before .before .before .before .before .byte-of .ensures) (c .before .before .before .before .before .if1 .left) (c .before .before .before .find-name .result) _ (c .before .f .given .0 .0) (c .before .f .given .0 .1 .0) (take-all (length (a .text .now) - a .at) (drop (a .at) (a .text .now)) (omega (arith, length-drop (a .at) (a .text .now)))) (c .before .before .before .find-name .ensures) (c .before .f .given .1)
 
 returns-3 : tie.Need-returns-3
-returns-3 c = 
+returns-3 c =
     let a = c .before .before .before .before .before .before .before .before .args in
     laws.unknown-item (a .text .now) (a .at) (c .before .before .before .before .before .before .before .before .pre .0) (c .before .before .before .before .before .before .before .before .pre .1) (c .before .before .before .before .before .before .before .before .pre .2) (c .before .before .before .before .before .before .byte-of .result) (c .before .before .before .before .before .before .byte-of .ensures) (c .before .before .before .before .before .if1 .left) (c .before .before .before .find-name .result) _ (c .before .f2 .given .0 .0) (take-all (length (a .text .now) - a .at) (drop (a .at) (a .text .now)) (omega (arith, length-drop (a .at) (a .text .now)))) (c .before .before .before .find-name .ensures) (c .before .f2 .given .1)
 

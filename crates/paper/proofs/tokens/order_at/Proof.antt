@@ -21,13 +21,13 @@ add-t7 c = search needs
 
 returns : tie.Need-returns
 unfolding orderAt
-returns c = 
+returns c =
     let a = c .before .before .before .args in
     rw (eq-eqb (getD (a .text .now) (a .at) 0) 61 (sym (c .before .byte-of .ensures) ∙ c .if1 .taken))
 
 returns-2 : tie.Need-returns-2
 unfolding orderAt
-returns-2 c = 
+returns-2 c =
     let a = c .before .before .before .args in
     rw (ne-eqb (getD (a .text .now) (a .at) 0) 61 (λ z. c .if1 .left (c .before .byte-of .ensures ∙ z)))
 

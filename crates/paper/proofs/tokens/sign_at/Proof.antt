@@ -21,13 +21,13 @@ add-order-at : tie.Need-add-order-at
 add-order-at c = search needs
 
 order-at-requires : tie.Need-order-at-requires
-order-at-requires c κs = 
+order-at-requires c κs =
     let a = c .before .before .before .args in
     omega (arith, places.byte-in (a .text .now) (a .at) 60 (sym (c .before .byte-of .ensures) ∙ c .if1 .taken) (omega arith))
 
 returns : tie.Need-returns
 unfolding signAt
-returns c = 
+returns c =
     let a = c .before .before .before .before .args in
     rw (eq-eqb (getD (a .text .now) (a .at) 0) 60 (sym (c .before .before .byte-of .ensures) ∙ c .before .if1 .taken)) (c .order-at .ensures)
 
@@ -35,13 +35,13 @@ add-order-at-2 : tie.Need-add-order-at-2
 add-order-at-2 c = search needs
 
 order-at-requires-2 : tie.Need-order-at-requires-2
-order-at-requires-2 c κs = 
+order-at-requires-2 c κs =
     let a = c .before .before .before .before .args in
     omega (arith, places.byte-in (a .text .now) (a .at) 62 (sym (c .before .before .byte-of .ensures) ∙ c .if2 .taken) (omega arith))
 
 returns-2 : tie.Need-returns-2
 unfolding signAt
-returns-2 c = 
+returns-2 c =
     let a = c .before .before .before .before .before .args in
     rw (ne-eqb (getD (a .text .now) (a .at) 0) 60 (λ z. c .before .before .if1 .left (c .before .before .before .byte-of .ensures ∙ z)), eq-eqb (getD (a .text .now) (a .at) 0) 62 (sym (c .before .before .before .byte-of .ensures) ∙ c .before .if2 .taken)) (c .order-at2 .ensures)
 
@@ -49,13 +49,13 @@ add-second-at : tie.Need-add-second-at
 add-second-at c = search needs
 
 second-at-requires : tie.Need-second-at-requires
-second-at-requires c κs = 
+second-at-requires c κs =
     let a = c .before .before .before .before .before .args in
     omega (arith, places.byte-in (a .text .now) (a .at) 61 (sym (c .before .before .before .byte-of .ensures) ∙ c .if3 .taken) (omega arith))
 
 returns-3 : tie.Need-returns-3
 unfolding signAt
-returns-3 c = 
+returns-3 c =
     let a = c .before .before .before .before .before .before .args in
     rw (ne-eqb (getD (a .text .now) (a .at) 0) 60 (λ z. c .before .before .before .if1 .left (c .before .before .before .before .byte-of .ensures ∙ z)), ne-eqb (getD (a .text .now) (a .at) 0) 62 (λ z. c .before .before .if2 .left (c .before .before .before .before .byte-of .ensures ∙ z)), eq-eqb (getD (a .text .now) (a .at) 0) 61 (sym (c .before .before .before .before .byte-of .ensures) ∙ c .before .if3 .taken)) (c .second-at .ensures)
 
@@ -63,19 +63,19 @@ add-second-at-2 : tie.Need-add-second-at-2
 add-second-at-2 c = search needs
 
 second-at-requires-2 : tie.Need-second-at-requires-2
-second-at-requires-2 c κs = 
+second-at-requires-2 c κs =
     let a = c .before .before .before .before .before .before .args in
     omega (arith, places.byte-in (a .text .now) (a .at) 33 (sym (c .before .before .before .before .byte-of .ensures) ∙ c .if4 .taken) (omega arith))
 
 returns-4 : tie.Need-returns-4
 unfolding signAt
-returns-4 c = 
+returns-4 c =
     let a = c .before .before .before .before .before .before .before .args in
     rw (ne-eqb (getD (a .text .now) (a .at) 0) 60 (λ z. c .before .before .before .before .if1 .left (c .before .before .before .before .before .byte-of .ensures ∙ z)), ne-eqb (getD (a .text .now) (a .at) 0) 62 (λ z. c .before .before .before .if2 .left (c .before .before .before .before .before .byte-of .ensures ∙ z)), ne-eqb (getD (a .text .now) (a .at) 0) 61 (λ z. c .before .before .if3 .left (c .before .before .before .before .before .byte-of .ensures ∙ z)), eq-eqb (getD (a .text .now) (a .at) 0) 33 (sym (c .before .before .before .before .before .byte-of .ensures) ∙ c .before .if4 .taken)) (c .second-at2 .ensures)
 
 returns-5 : tie.Need-returns-5
 unfolding signAt
-returns-5 c = 
+returns-5 c =
     let a = c .before .before .before .before .before .before .args in
     rw (ne-eqb (getD (a .text .now) (a .at) 0) 60 (λ z. c .before .before .before .if1 .left (c .before .before .before .before .byte-of .ensures ∙ z)), ne-eqb (getD (a .text .now) (a .at) 0) 62 (λ z. c .before .before .if2 .left (c .before .before .before .before .byte-of .ensures ∙ z)), ne-eqb (getD (a .text .now) (a .at) 0) 61 (λ z. c .before .if3 .left (c .before .before .before .before .byte-of .ensures ∙ z)), ne-eqb (getD (a .text .now) (a .at) 0) 33 (λ z. c .if4 .left (c .before .before .before .before .byte-of .ensures ∙ z)))
 

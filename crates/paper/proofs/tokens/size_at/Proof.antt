@@ -26,7 +26,7 @@ is-width-requires : tie.Need-is-width-requires
 is-width-requires c κs = search needs
 
 sub-t10 : tie.Need-sub-t10
-sub-t10 c = 
+sub-t10 c =
     let d = c .before .before .byte-of2 in
     let w = c .before .is-width in
     laws.width-least (d .result) (c .before .before .before .before .before .before .args .v) (sym (w .ensures) ∙ c .if2 .taken)
@@ -36,7 +36,7 @@ add-t11 c = search needs
 
 returns : tie.Need-returns
 unfolding sizedAt
-returns c = 
+returns c =
     let a = c .before .before .before .before .before .before .args in
     let d = c .before .before .byte-of2 in
     let w = c .before .is-width in
@@ -47,7 +47,7 @@ add-t8 c = search needs
 
 returns-2 : tie.Need-returns-2
 unfolding sizedAt
-returns-2 c = 
+returns-2 c =
     let a = c .before .before .before .before .before .before .args in
     let d = c .before .before .byte-of2 in
     let w = c .before .is-width in
@@ -58,7 +58,7 @@ width-of-requires c κs = search needs
 
 returns-3 : tie.Need-returns-3
 unfolding sizedAt
-returns-3 c = 
+returns-3 c =
     let a = c .before .before .before .before .args in
     rw (ne-eqb (getD (a .text .now) (a .at) 0) 58 (λ z. c .before .if1 .left (c .before .before .byte-of .ensures ∙ z)), c .width-of .ensures)
 

@@ -21,7 +21,7 @@ greater-requires c κs = search needs
 
 returns : tie.Need-returns
 unfolding leastWidth
-returns c = 
+returns c =
     let a = c .before .before .before .args in
     let r = c .before .before .row-of in
     c .greater .ensures ∙ rw (r .ensures, row-width (a .id), lt-ltb (a .v) 256 (c .before .if1 .taken))
@@ -31,7 +31,7 @@ greater-requires-2 c κs = search needs
 
 returns-2 : tie.Need-returns-2
 unfolding leastWidth
-returns-2 c = 
+returns-2 c =
     let a = c .before .before .before .before .args in
     let r = c .before .before .before .row-of in
     c .greater2 .ensures ∙ rw (r .ensures, row-width (a .id), le-ltb (a .v) 256 (c .before .before .if1 .left), lt-ltb (a .v) 65536 (c .before .if2 .taken))
@@ -41,7 +41,7 @@ greater-requires-3 c κs = search needs
 
 returns-3 : tie.Need-returns-3
 unfolding leastWidth
-returns-3 c = 
+returns-3 c =
     let a = c .before .before .before .before .args in
     let r = c .before .before .before .row-of in
     c .greater3 .ensures ∙ rw (r .ensures, row-width (a .id), le-ltb (a .v) 256 (c .before .before .if1 .left), le-ltb (a .v) 65536 (c .before .if2 .left))
