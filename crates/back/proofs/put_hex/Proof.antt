@@ -1,0 +1,34 @@
+-- `back::put_hex` meets its contract. Assumes nothing.
+use borrow.Author.Needs.{needs}
+use Rattle.back.proofs.Pieces as pieces
+use Rattle.back.proofs.put_hex.Statement.{statement}
+use Rattle.back.proofs.put_hex.Tie as tie
+
+hex-digit-requires : tie.Need-hex-digit-requires
+hex-digit-requires c κs = search needs
+
+put-requires : tie.Need-put-requires
+put-requires c κs = search needs
+
+hex-digit-requires-2 : tie.Need-hex-digit-requires-2
+hex-digit-requires-2 c κs = search needs
+
+put-requires-2 : tie.Need-put-requires-2
+put-requires-2 c κs = search needs
+
+same-length : tie.Need-same-length
+same-length c = search needs
+
+returns : tie.Need-returns
+returns c = pieces.hex-piece (c .before .before .before .before .before .before .before .before .before .before .before .args .b) (c .before .before .before .before .before .before .before .before .before .before .before .args .n) (c .before .before .before .before .before .before .before .put .result) (c .before .before .put2 .result) (c .before .before .before .before .before .before .before .before .before .before .before .args .out .now) (c .before .before .before .before .before .before .before .put .last .1 .0) (c .before .before .put2 .last .1 .0) (c .before .before .before .before .before .before .before .before .before .hex-digit .result) (c .before .before .before .before .hex-digit2 .result) (c .before .before .before .before .before .before .before .before .before .hex-digit .ensures) (c .before .before .before .before .hex-digit2 .ensures) (c .before .before .before .before .before .before .before .put .ensures) (c .before .before .put2 .ensures)
+
+pub put-hex-spec : {M : Type 1} → statement M
+put-hex-spec =
+    tie.close
+    (tie.spec
+    hex-digit-requires
+    put-requires
+    hex-digit-requires-2
+    put-requires-2
+    same-length
+    returns)

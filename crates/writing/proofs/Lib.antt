@@ -1,0 +1,6 @@
+pub mod Relations
+pub mod Derived
+pub mod Bytes
+pub mod Parts
+pub mod Lengths
+pub mod Operands
