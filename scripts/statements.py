@@ -41,10 +41,10 @@ GROUPS = [
     ),
     Group("accepted", "Passes AtWork", "EveryTranscript", "accepted/specs/Agreement accepted/specs/Effect steps/specs/Naming"),
     Group(
-        "paging", "Worked", "PageAnswer Paging PagingWhole InPieces Examples",
+        "paging", "Worked Said", "PageAnswer Paging PagingWhole InPieces Examples",
         "paging/specs/Client paging/specs/Paging paging/specs/Pieces paging/specs/Examples",
     ),
-    Group("demands", "Example AtWork DownloadsAtWork", "Demands", "demands/specs/Demand3 demands/specs/Downloads demands/specs/Demands"),
+    Group("demands", "Example AtWork DownloadsAtWork AllAtWork", "Demands", "demands/specs/Demand3 demands/specs/Downloads demands/specs/Demands"),
     Group("driver", "Worked", "EveryDriver EveryMake DriverPlays", "driver/specs/Driver"),
 ]
 

@@ -100,6 +100,9 @@ module _ (d : Demands) where
   pub placed-so : fileOf (filesAt small lostOnce (at-its-place .place)) ≡ fileOf (filesAt small lostOnce 0)
   placed-so = at-its-place .is
 
+  pub placed-live : Live (filesAt small lostOnce (at-its-place .place))
+  placed-live = at-its-place .live
+
   -- no other place has a file with number 1
   pub only-one : (q : ℕ) → filesAt pair both 0 .file .number ≡ filesAt pair both q .file .number → 0 ≡ q
   only-one q e = d .sound-store pair pair-legal both .places .apart 0 q (live pair both 0 1 80 80 7 (computed .both .file) (omega arith)) e

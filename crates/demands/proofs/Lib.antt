@@ -26,3 +26,4 @@ pub mod Demands
 pub mod Example
 pub mod AtWork
 pub mod DownloadsAtWork
+pub mod AllAtWork

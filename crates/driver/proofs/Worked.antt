@@ -116,6 +116,10 @@ module _ (every : EveryDriver) (make : EveryMake) (machines : DriverPlays) where
   pub not-35 : answered (reached small words calls) (asked pump one) .told .code ≡ 35 → ⊥
   not-35 e = stands .never-35 (asked pump one) e
 
+  -- a driver that begins with a lost link
+  pub lost-first : isState (reached small words (nothing ▹ asked (lose 1) two) .words) ≡ true
+  lost-first = every small words makes-it (nothing ▹ asked (lose 1) two) (tt, tt) .words
+
   -- ---- it is the machine
 
   plays : Plays reachedIt (machine.run (empty 1 1 1 1) (callsOf calls))
