@@ -44,7 +44,10 @@ GROUPS = [
         "paging", "Worked Said", "PageAnswer Paging PagingWhole InPieces Examples",
         "paging/specs/Client paging/specs/Paging paging/specs/Pieces paging/specs/Examples",
     ),
-    Group("demands", "Example AtWork DownloadsAtWork AllAtWork", "Demands", "demands/specs/Demand3 demands/specs/Downloads demands/specs/Demands"),
+    Group(
+        "demands", "Example AtWork DownloadsAtWork AllAtWork ChangesAtWork", "Demands",
+        "demands/specs/Demand3 demands/specs/Downloads demands/specs/Demands history/specs/Change",
+    ),
     Group("driver", "Worked", "EveryDriver EveryMake DriverPlays", "driver/specs/Driver"),
 ]
 

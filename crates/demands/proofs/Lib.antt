@@ -27,3 +27,4 @@ pub mod Example
 pub mod AtWork
 pub mod DownloadsAtWork
 pub mod AllAtWork
+pub mod ChangesAtWork
