@@ -232,7 +232,8 @@ module _ (d : Demands) where
   gone-others = discards-half .others
 
   -- a request with nothing due changes no file
-  pub same-files : Same (serverAt small opened .last) (filesAt small opened) (serverAt small (opened ▸ request 1 output) .last) (afterCall opened (request 1 output))
+  pub same-files :
+      Same (serverAt small opened .last) (filesAt small opened) (serverAt small (opened ▸ request 1 output) .last) (afterCall opened (request 1 output))
   same-files =
       same-of _ _ _ _ (changes opened (request 1 output)) (computed .quiet ∙ sym (computed .none-yet))
       (λ q live. none-found _ _ (d .sound-store small small-legal opened .places .found q live))
