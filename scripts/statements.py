@@ -1,13 +1,10 @@
-"""Reads what is promised in demands 1 and 2 as text: each statement with its clauses, and where it is promised and where asked for. Used by
-weaken-statements. It proves nothing. Needs python3 and nothing else."""
+"""Reads what is promised as text: each statement with its clauses, and where it is promised and where asked for. Used by weaken-statements. It proves
+nothing. Needs python3 and nothing else."""
 import os
 import re
 
 import sources
 
-WHOLE = ("Demand1", "Demand2")
-CITED = ["crates/refines/specs/Refines.antt", "crates/steps/specs/Downloads.antt", "crates/steps/specs/Naming.antt", "crates/steps/specs/Sound.antt"]
-FILES = [path for path in sources.files("crates/promises/specs/*.antt") if not path.endswith("/Lib.antt")] + CITED
 PROMISED, ASKED = 1, -1
 SAYS = {PROMISED: "Unit {0}", ASKED: "⊥"}
 
@@ -16,11 +13,43 @@ def module(path):
     return os.path.basename(path)[: -len(".antt")]
 
 
-def moved(text):
-    """A text of the statements or the cases as it stands in the copy, where the statements are modules of crate `worked`."""
-    for path in FILES:
-        text = re.sub(rf"Rattle.{path.split('/')[1]}(?:·specs)?\.specs\.(?:specs\.)?{module(path)}\b", f"Rattle.worked.specs.{module(path)}", text)
-    return re.sub(r"Rattle·(promises|steps|refines)·specs\.specs\.", r"Rattle·\1.specs.", text)
+class Group:
+    """Statements and the cases that hold them: the crate of the cases and those of its modules that are cases, the names from which the statements are
+    cited, and the files of the statements, which in a copy stand in that crate's specs/."""
+
+    def __init__(self, crate, cases, whole, files):
+        self.crate, self.cases, self.whole = crate, cases.split(), whole.split()
+        self.files = [f"crates/{path}.antt" for path in files.split()]
+
+    def moved(self, text):
+        """A text of the statements or the cases as it stands in the copy, where the statements are modules of the crate of the cases."""
+        for path in self.files:
+            named = rf"Rattle.{path.split('/')[1]}(?:·specs)?\.specs\.(?:specs\.)?{module(path)}\b"
+            text = re.sub(named, f"Rattle.{self.crate}.specs.{module(path)}", text)
+        others = "|".join({path.split("/")[1] for path in self.files} - {self.crate})
+        return re.sub(rf"Rattle·({others})·specs\.specs\.", r"Rattle·\1.specs.", text) if others else text
+
+    def read(self, path):
+        return self.moved(sources.read(path))
+
+
+GROUPS = [
+    Group(
+        "worked", "Passes Computed Plain Demand1 Demand2 Machine Downloads", "Demand1 Demand2",
+        "promises/specs/Closing promises/specs/Cut promises/specs/Demand1 promises/specs/Demand2 promises/specs/Feeding promises/specs/Parts"
+        " promises/specs/Requests promises/specs/Uncut refines/specs/Refines steps/specs/Downloads steps/specs/Naming steps/specs/Sound",
+    ),
+    Group("accepted", "Passes AtWork", "EveryTranscript", "accepted/specs/Agreement accepted/specs/Effect steps/specs/Naming"),
+    Group(
+        "paging", "Worked Said", "PageAnswer Paging PagingWhole InPieces Examples",
+        "paging/specs/Client paging/specs/Paging paging/specs/Pieces paging/specs/Examples",
+    ),
+    Group(
+        "demands", "Example AtWork DownloadsAtWork AllAtWork ChangesAtWork", "Demands",
+        "demands/specs/Demand3 demands/specs/Downloads demands/specs/Demands history/specs/Change",
+    ),
+    Group("driver", "Worked", "EveryDriver EveryMake DriverPlays", "driver/specs/Driver"),
+]
 
 
 class Clause:
@@ -42,8 +71,8 @@ class Statement:
         return self.kind == "record" and clause.name in re.findall(r"[^\s(){}.,]+", others)
 
 
-def known():
-    """The statements of the files, by name."""
+def known(group):
+    """The statements of a group's files, by name."""
     found = {}
 
     def add(path, kind, name, m, clauses):
@@ -51,25 +80,32 @@ def known():
             raise SystemExit(f"two statements have the name {name}")
         found[name] = Statement(path, kind, name, m.start(), m.end(), [Clause(path, at + c.start(2), c.group(1), c.group(2)) for at, c in clauses])
 
-    for path in FILES:
-        source = moved(sources.read(path))
+    for path in group.files:
+        source = group.read(path)
         for m in re.finditer(r"^(?:pub )?(record|data) (\S+).*? where\n((?:  .*\n|\n(?=  ))*)", source, re.M):
-            add(path, m.group(1), m.group(2), m, [(m.start(3), c) for c in re.finditer(r"^  (?:pub )?(\S+) : (.*(?:\n {4,}.*)*)", m.group(3), re.M)])
-        for m in re.finditer(r"^abbrev (?:pub )?(\S+) : (?:.*→ )?Type 0\n((?:.+\n)+)", source, re.M):
-            clauses = re.finditer(rf"^({re.escape(m.group(1))}\b.*?) =\s+(.*(?:\n +.*)*)", m.group(2), re.M)
-            add(path, "abbreviation", m.group(1), m, [(m.start(2), c) for c in clauses])
-    return found
+            add(path, m.group(1), m.group(2), m, [(m.start(3), c) for c in re.finditer(r"^  (?:pub )?(\S+) :\s+(.*(?:\n {4,}.*)*)", m.group(3), re.M)])
+        for m in re.finditer(r"^( *)abbrev (?:pub )?(\S+) : (?:.*→ )?Type 0\n((?:.+\n)+)", source, re.M):
+            clauses = re.finditer(rf"^{m.group(1)}({re.escape(m.group(2))}\b.*?) =\s+(.*(?:\n{m.group(1)} +.*)*)", m.group(3), re.M)
+            add(path, "abbreviation", m.group(2), m, [(m.start(3), c) for c in clauses])
+    # the type of what is spoken of, `(c : Client)`, is no statement
+    spoken_of = {name for path in group.files for name in re.findall(r"\([^():]* : (\S+)\)", group.read(path))}
+    return {name: statement for name, statement in found.items() if name not in spoken_of}
 
 
-def parts(text):
+def parts(text, at="→"):
     """A type at its top-level arrows: the place and the text of what is asked for, one after the other, and last of what is promised."""
     found, depth, start = [], 0, 0
     for k, letter in enumerate(text):
         depth += (letter in "({") - (letter in ")}")
-        if letter == "→" and depth == 0:
+        if letter == at and depth == 0:
             found.append((start, text[start:k]))
             start = k + 1
     return found + [(start, text[start:])]
+
+
+def conjuncts(text):
+    """A type at its top-level `×`: the place and the text of each part."""
+    return parts(text, "×")
 
 
 def groups(text):
@@ -102,8 +138,8 @@ def names_in(text, sign, at=0):
             yield from names_in(group[skipped:], here, at + start + place + skipped)
 
 
-def cited(statements):
-    """Where each statement that the demands are made of is promised, and where it is asked for: by name and sign the places, as (path, place)."""
+def cited(group, statements):
+    """Where each statement that a group's whole is made of is promised, and where it is asked for: by name and sign the places, as (path, place)."""
     found = {}
 
     def visit(name, sign):
@@ -118,7 +154,7 @@ def cited(statements):
                         if is_new:
                             visit(other, here)
 
-    for name in WHOLE:
+    for name in group.whole:
         found[name, PROMISED] = set()
         visit(name, PROMISED)
     return found

@@ -2,17 +2,20 @@
 use mathlib.Core.Path.{_≡_, refl, ap, _∙_, sym, subst}
 use mathlib.Core.Bool.{true}
 use mathlib.Core.List.{List, [], _∷_}
+use mathlib.Core.Option.{some}
 use Prim.Native.Nat.{ℕ, zero, suc}
 use native.Mathlib.Omega.{arith}
 use lib.ListN.{length, drop}
 use Rattle.header.proofs.Examples.{smallest}
 use Rattle.header.specs.Fields.{fieldsSet}
 use Rattle.model.specs.State.{File, file, sessionAt}
+use Rattle.model.specs.Files.{find}
+use Rattle.model.specs.Step.{step}
 use Rattle.steps.specs.Parts.{sentBy}
 use Rattle.steps.specs.Downloads.{forUplink, requestOrUplink, ownOrOther, requestsAndUplink, sentTo, endTo, dataTo, Downloading, numberAsked}
-use Rattle.worked.proofs.Passes.{pair, pair-legal, output, download, both, handed, meanwhile}
+use Rattle.worked.proofs.Passes.{pair, pair-legal, output, of, download, both, handed, meanwhile}
 use Rattle.worked.proofs.Machine.{at-work}
-use Rattle.demands.specs.Downloads.{Handed}
+use Rattle.demands.specs.Downloads.{acceptedSet, Handed}
 use Rattle.demands.specs.Demand3.{modelAt}
 use Rattle.demands.specs.Demands.{Demands}
 use Rattle.demands.proofs.Example.{downloaded}
@@ -48,3 +51,11 @@ module _ (d : Demands) where
   unfolding at-work
   asked-for =
       d .asked-and-sent pair pair-legal both 2 9 11 (download 0 0) output (drop 2 (download 0 0)) (downloaded .asked) refl refl meanwhile only-meanwhile other-ends
+
+  -- it is the file of the number that was asked for, and its bytes are those accepted under it
+  pub asked-was : find (numberAsked (sessionAt (modelAt pair both) 1) (drop 2 (download 0 0))) (modelAt pair both .files) ≡ some (asked-for .file)
+  asked-was = asked-for .was
+
+  pub asked-sent : dataTo (step (modelAt pair both) (of 2 9 (download 0 0)) .after) 2 meanwhile
+      ≡ acceptedSet pair both (numberAsked (sessionAt (modelAt pair both) 1) (drop 2 (download 0 0))) (asked-for .file .time)
+  asked-sent = asked-for .sent

@@ -26,3 +26,5 @@ pub mod Demands
 pub mod Example
 pub mod AtWork
 pub mod DownloadsAtWork
+pub mod AllAtWork
+pub mod ChangesAtWork

@@ -3,3 +3,4 @@ pub mod Fits
 pub mod Answers
 pub mod Driving
 pub mod Worked
+pub mod Sent

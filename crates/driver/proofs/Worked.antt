@@ -1,5 +1,6 @@
 -- A driver at work: it makes a server of one block, one file, one session and MAXSEL 1 in memory with just room, logs in, uploads the file of 80 bytes,
--- asks for it and is sent it. One of its calls lacks room for the counts. What the statements give of it, in plain numbers and bytes. Assumes nothing.
+-- asks for it and is sent it. One of its calls lacks room for the counts. What the statements, hypotheses here, give of it, in plain numbers and bytes. Assumes
+-- nothing.
 use mathlib.Core.Path.{_≡_, refl, _∙_, ap}
 use mathlib.Core.Bool.{true}
 use mathlib.Core.List.{List, [], _∷_, _++_}
@@ -23,7 +24,6 @@ use Rattle.cases.specs.Computing.{computing}
 use Rattle.embed.specs.Words.{serverAt, isState}
 use Rattle.embed.specs.Calls.{Received, receivedBy, tellOf, filled, freeBy}
 use Rattle.driver.specs.Driver.{Memory, makes, asked, answered, Calls, nothing, _▹_, reached, Clocks, further, callsOf, StandsFor, EveryDriver, EveryMake, Plays, DriverPlays}
-use Rattle.driver.proofs.Driving.{every-driver, every-make, driver-plays}
 
 -- ---- the driver
 
@@ -116,6 +116,10 @@ module _ (every : EveryDriver) (make : EveryMake) (machines : DriverPlays) where
   pub not-35 : answered (reached small words calls) (asked pump one) .told .code ≡ 35 → ⊥
   not-35 e = stands .never-35 (asked pump one) e
 
+  -- a driver that begins with a lost link
+  pub lost-first : isState (reached small words (nothing ▹ asked (lose 1) two) .words) ≡ true
+  lost-first = every small words makes-it (nothing ▹ asked (lose 1) two) (tt, tt) .words
+
   -- ---- it is the machine
 
   plays : Plays reachedIt (machine.run (empty 1 1 1 1) (callsOf calls))
@@ -137,7 +141,3 @@ module _ (every : EveryDriver) (make : EveryMake) (machines : DriverPlays) where
   pub sends-file : answered (reached small words calls) (asked pump two) .out ≡ 80 ∷ 0 ∷ completeAs 1 4 ++ replicate 176 0
   unfolding computing calls machine.run callsOf further
   sends-file = plays .out (asked pump two) (omega arith)
-
--- THE CASE, of the theorems
-pub file-sent : answered (reached small words calls) (asked pump two) .out ≡ 80 ∷ 0 ∷ completeAs 1 4 ++ replicate 176 0
-file-sent = sends-file every-driver every-make driver-plays

@@ -9,3 +9,4 @@ pub mod Page
 pub mod Paging
 pub mod Pieces
 pub mod Worked
+pub mod Said

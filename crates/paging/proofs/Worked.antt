@@ -3,7 +3,7 @@ use mathlib.Core.Path.{_≡_, refl, sym, ap, ap₂, _∙_, subst}
 use mathlib.Core.Bool.{Bool, true, false, cond}
 use mathlib.Core.List.{List, [], _∷_, _++_, map, List·Memᴰ, List·Memᴰ·head}
 use mathlib.Core.Option.{some}
-use Prim.Native.Nat.{ℕ, _-_, _<_}
+use Prim.Native.Nat.{ℕ, _-_, _≤_, _<_}
 use lib.ListN.{length, drop, length-map}
 use native.Mathlib.Omega.{arith}
 use lib.Dec.{ltb}
@@ -32,7 +32,7 @@ use Rattle.model.specs.Downlink.{onSelectCmd}
 use Rattle.model.specs.Step.{byType, endsIn, onEvent, refusal, unless, step, run}
 use Rattle.paging.specs.Examples.{smallest}
 use Rattle.paging.specs.Client.{Idle, Asks, above, oldestFirst, pageOf, Answers}
-use Rattle.paging.specs.Paging.{Entry, entry, entryOf, begins, stateOf, Once, Rises, Stands, AllGiven, pageIn, newestOf, pagedBy, asked}
+use Rattle.paging.specs.Paging.{Entry, entry, entryOf, begins, asks, stateOf, Once, Rises, Stands, AllGiven, pageIn, newestOf, pagedBy, asked}
 use Rattle.paging.specs.Paging.{Clocked, Clocks, PageAnswer, Paging, PagingWhole}
 use Rattle.paging.specs.Pieces.{isPiece, piecesOnly, handed, waitsFor, AsksWith, InPieces}
 use Rattle.paging.specs.Worked.{small, uploaded, third, sized, longest, pieces, rest, beginning, reader, output, Met}
@@ -96,6 +96,16 @@ met =
       asking = asks-is _ sized 0 rest refl refl refl;
       oldest = refl;
       page = refl;
+      first-allowed = (tt, asks-is _ sized 0 rest refl refl refl);
+      second-in-one = record {
+        idle = idle-is _ refl refl;
+        nothing-held = refl;
+        only = refl;
+        room = omega arith;
+        a-byte = λ e. let z = ap length e in omega arith;
+        bytes = refl;
+      };
+      second-before = clocks-is (pagedBy small sized (waitsFor (asks beginning 1 8 rest output) (request 2 output ∷ [])) .history) refl;
       longest-size = refl;
       longest-accepted = refl;
       longest-room = omega arith;
@@ -162,6 +172,31 @@ module _ (in-pieces : InPieces) where
   pub pieces-ask : AsksWith small sized (begins uploaded) 1 8 pieces rest output
   pieces-ask = in-pieces 3 3 2 1 sized (met .accepted) (met .room) (begins uploaded) tt 1 8 pieces rest output (met .in-pieces) (met .before)
 
+  -- it is answered
+  pub pieces-answered : sessionAt (step (stateOf small sized beginning) (receive 1 8 rest output) .after) 0 .selected ≡ 2 ∷ []
+  unfolding waitsFor pagedBy
+  pieces-answered = pieces-ask .answered .page ∙ met .oldest
+
+  -- it may ask: its session is open and idle, there is room, and the bytes end in the SELECT_CMD
+  pub pieces-allowed :
+      (1 ≤ 1) × (sessionAt (stateOf small sized beginning) 0 .linked ≡ true) × (sessionAt (stateOf small sized beginning) 0 .down ≡ noDownload)
+      × (258 ≤ length output)
+      × (endsIn (sessionAt (stateOf small sized beginning) 0 .held ++ rest) ≡ some (packet 16 (narrowed sized 0)))
+  unfolding waitsFor pieces pagedBy
+  pieces-allowed =
+      let a = pieces-ask .allowed .1 in
+      (a .idle .from-one, a .idle .linked, a .idle .down, a .room, a .sends)
+
+  -- a client that has its first page asks in one piece for the second, another session being asked between: the first page it had asked for as allowed
+  pub second-asks : AsksWith small sized (asks beginning 1 8 rest output) 1 8 (request 2 output ∷ []) (packetOf 16 (narrowed sized 7)) output
+  second-asks =
+      in-pieces 3 3 2 1 sized (met .accepted) (met .room) (asks beginning 1 8 rest output) (met .first-allowed) 1 8 (request 2 output ∷ [])
+      (packetOf 16 (narrowed sized 7)) output (met .second-in-one) (met .second-before)
+
+  pub first-was-allowed : endsIn (sessionAt (stateOf small sized beginning) 0 .held ++ rest) ≡ some (packet 16 (narrowed sized 0))
+  unfolding waitsFor pagedBy pieces
+  first-was-allowed = second-asks .allowed .0 .1 .sends
+
   -- the equation of 248 bytes, in one piece
   pub longest-asks : AsksWith small longest (begins uploaded) 1 8 [] (packetOf 16 (narrowed longest 0)) output
   unfolding pagedBy waitsFor
@@ -182,15 +217,26 @@ module _ (paging : Paging) where
   pub in-order : Once (entry 2 7 ∷ entry 1 8 ∷ entry 3 9 ∷ []) × Rises 0 (entry 2 7 ∷ entry 1 8 ∷ entry 3 9 ∷ [])
   in-order = (subst Once (met .given) (all-given .once), subst (Rises 0) (met .given) (all-given .oldest-first))
 
-  -- so 2 is not 1, and 8 is below 9
+  -- so 2 is not 1, and 8 is below 9; nor is 1 the number 3
   pub apart : (_≡_ {A = ℕ} 2 1 → ⊥) × (8 < 9)
   apart = (in-order .0 .0 (entry 1 8) (List·Memᴰ·head refl), in-order .1 .1 .1 .0)
+
+  pub apart-too : _≡_ {A = ℕ} 1 3 → ⊥
+  apart-too = in-order .0 .1 .0 (entry 3 9) (List·Memᴰ·head refl)
 
   -- when the first page was given file 2 stood, and its header had one upload_time, 7
   pub stood : Stands (run small (asked small sized (pagedBy small sized beginning) 1 8 rest output)) sized (entry 2 7)
   unfolding reader
   stood =
       all-given .stood .0 .0 .0 .1 (entry 2 7) (subst (λ (es : List Entry). List·Memᴰ (entry 2 7) es) (sym (met .page)) (List·Memᴰ·head refl))
+
+  -- it was complete and matched
+  pub stood-complete :
+      (find 2 (run small (asked small sized (pagedBy small sized beginning) 1 8 rest output) .files) ≡ some (stood .matches .file))
+      × (stood .matches .file .time ≡ 7)
+      × (equation.selects sized (fieldsOf (stood .matches .file .bytes)) ≡ true)
+      × (stood .matches .file .time ≡ 0 → ⊥)
+  stood-complete = (stood .matches .found, stood .matches .time, stood .matches .matched, stood .matches .complete)
 
   pub stood-so : map number (items.bytesOf 18 (fieldsOf (stood .matches .file .bytes))) ≡ 7 ∷ []
   stood-so = stood .header

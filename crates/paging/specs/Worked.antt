@@ -8,7 +8,7 @@ use Rattle.numbers.specs.Numbers.{four}
 use Rattle.packet.specs.Packet.{packetOf}
 use Rattle.equation.specs.Newer.{unmarked, narrowed}
 use Rattle.equation.specs.Answer.{validityOf}
-use Rattle.calls.specs.Call.{Call, login, receive, History, start, _▸_}
+use Rattle.calls.specs.Call.{Call, login, receive, request, History, start, _▸_}
 use Rattle.model.specs.State.{Model, empty, sessionAt}
 use Rattle.model.specs.Step.{run}
 use Rattle.paging.specs.Examples.{smallest}
@@ -85,6 +85,11 @@ pub record Met : Type 0 where
   pub asking : Asks (stateOf small sized beginning) sized 0 1 rest output
   pub oldest : numbersOf (pageOf (stateOf small sized beginning) sized 0) ≡ 2 ∷ []
   pub page : pageFor small sized (pagedBy small sized beginning) 1 8 rest output ≡ entry 2 7 ∷ []
+  -- of the second page, which is asked for in one piece behind a request of the other session
+  pub first-allowed : Allowed small sized (asks beginning 1 8 rest output)
+  pub second-in-one :
+      Pieces small sized (asks beginning 1 8 rest output) 1 (request 2 output ∷ []) (packetOf 16 (narrowed sized 7)) output
+  pub second-before : Clocks (pagedBy small sized (waitsFor (asks beginning 1 8 rest output) (request 2 output ∷ [])) .history)
   -- of the longest equation that has room for the condition, above the latest time
   pub longest-size : length longest ≡ 248
   pub longest-accepted : validityOf longest ≡ 0
