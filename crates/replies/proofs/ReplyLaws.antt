@@ -42,6 +42,18 @@ module _ (out o1 o2 o3 : List ℕ) (xs ys zs : List ℕ) (a b c : ℕ) (ha : a �
   pub size : c ≡ length (xs ++ (ys ++ zs))
   size = omega (arith, length-append xs (ys ++ zs), length-append ys zs)
 
+pub five-pieces : (out o1 o2 o3 o4 o5 : List ℕ) (xs ys zs us ws vs : List ℕ) (a b c d e : ℕ) → us ≡ ws → a ≡ 0 + length xs → o1 ≡ sets out 0 xs → b ≡ a + length ys → o2 ≡ sets o1 a ys
+    → c ≡ b + length zs → o3 ≡ sets o2 b zs → d ≡ c + length us → o4 ≡ sets o3 c us → e ≡ d + length vs → o5 ≡ sets o4 d vs
+    → (e ≡ length (xs ++ (ys ++ (zs ++ (ws ++ vs))))) × (o5 ≡ sets out 0 (xs ++ (ys ++ (zs ++ (ws ++ vs)))))
+five-pieces out o1 o2 o3 o4 o5 xs ys zs us ws vs a b c d e hu ha e1 hb e2 hc e3 hd e4 he e5 =
+    let front : List ℕ = xs ++ (ys ++ zs) in
+    let f : o3 ≡ sets out 0 front = pieces out o1 o2 o3 xs ys zs a b c ha e1 hb e2 hc e3 in
+    let s : c ≡ length front = size out o1 o2 o3 xs ys zs a b c ha e1 hb e2 hc e3 in
+    let t : o5 ≡ sets out 0 (front ++ (us ++ vs)) = pieces out o3 o4 o5 front us vs c d e (omega arith) f hd e4 he e5 in
+    let n : e ≡ length (front ++ (us ++ vs)) = size out o3 o4 o5 front us vs c d e (omega arith) f hd e4 he e5 in
+    let j : front ++ (us ++ vs) ≡ xs ++ (ys ++ (zs ++ (ws ++ vs))) = rw hu (simp append-assoc) in
+    (n ∙ ap length j, t ∙ ap (λ (l : List ℕ). sets out 0 l) j)
+
 -- ---- the printed lines
 
 pub bytes-size : (bytes : List ℕ) → length (bytesLine bytes) ≡ 7 + 2 * length bytes
@@ -104,6 +116,9 @@ print-whole buffer text now n h i e =
 -- a line that stands in a buffer
 pub in-buffer : (buffer line : List ℕ) → length line ≤ length buffer → take (length line) (sets buffer 0 line) ≡ line
 in-buffer buffer line h = rw (sets-eq line buffer 0 (omega arith)) (take-at line (drop (0 + length line) buffer) (length line) refl)
+
+pub print-line : (buffer line now text : List ℕ) (n : ℕ) → n ≡ length line → length line ≤ length buffer → now ≡ sets buffer 0 line → printedIn (take n now) text ≡ printedIn line text
+print-line buffer line now text n h i e = rw (e, h) (ap (λ (l : List ℕ). printedIn l text) (in-buffer buffer line i))
 
 -- ---- the word in front of a line
 

@@ -73,11 +73,16 @@ toldBy a = toldOf (a .answer) (a .out)
 abbrev pub room : List ℕ
 room = replicate 4000 0
 
+-- nothing, where a field is not hex, of at most 65,536 bytes
+unfoldable pub hexReply : List ℕ → Option (List ℕ)
+hexReply field =
+    cond (isHex field) (cond (leb (length (bytesIn field)) 65536) (some (toldBy (writtenOf (bytesIn field) room))) none) none
+
 -- nothing, where the line can't be read
 unfoldable pub repliesTo : List ℕ → Option (List ℕ)
 repliesTo line =
     cond (beginsWith (bytesOf "text\t") line) (some (saidOf (outcomeOf (drop 5 line))))
-    (cond (beginsWith (bytesOf "bytes\t") line) (cond (isHex (drop 6 line)) (some (toldBy (writtenOf (bytesIn (drop 6 line)) room))) none) none)
+    (cond (beginsWith (bytesOf "bytes\t") line) (hexReply (drop 6 line)) none)
 
 -- ---- the answer to a line, and the lent text afterwards
 

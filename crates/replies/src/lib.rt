@@ -16,7 +16,7 @@ ghost use Rattle.lines.specs.Lines.{printed, printedIn};
 ghost use Rattle.names.specs.Names.{beginsWith};
 ghost use Rattle.grammar.specs.Machine.{outcomeOf};
 ghost use Rattle.back.specs.Answer.{writtenOf};
-ghost use Rattle.replies.specs.Reply.{bytesLine, wrongLine, refusedLine, textLine, saidOf, toldBy, room, replies, replyOf};
+ghost use Rattle.replies.specs.Reply.{bytesLine, wrongLine, refusedLine, textLine, saidOf, toldBy, room, hexReply, replies, replied, replyOf};
 ghost use Rattle.replies.specs.Words.{wordFor};
 
 // A line can't be read; or a line of so many bytes stands at the front of the text, 0 where the text is too short for it.
@@ -229,4 +229,60 @@ fn begins(line: &[u8], word: &[u8]) -> bool
         }
     }
     true
+}
+
+// 4,096 zeros, for a line. The `ensures` gives only the length.
+fn blank_line() -> [u8; 4096]
+    ensures { λ r. ⌜ length r ≡ 4096 ⌝ }
+{
+    [0u8; 4096]
+}
+
+// The line for an equation as on paper.
+fn reply_to_text(equation: &[u8], text: &mut [u8]) -> usize
+    ensures { λ r. ⌜ printed r (now (text .exit)) ≡ printedIn (saidOf (outcomeOf (now (equation .entry)))) (now (text .entry)) ⌝ }
+{
+    let mut buffer = blank_line();
+    let n = paper_line(equation, &mut buffer);
+    print(&buffer, n, text)
+}
+
+// The line for an equation in bytes.
+fn reply_to_bytes(equation: &[u8], text: &mut [u8]) -> usize
+    ensures { λ r. ⌜ printed r (now (text .exit)) ≡ printedIn (toldBy (writtenOf (now (equation .entry)) room)) (now (text .entry)) ⌝ }
+{
+    let mut buffer = blank_line();
+    let n = equation_line(equation, &mut buffer);
+    print(&buffer, n, text)
+}
+
+// The line for an equation that is written in hex.
+fn reply_to_hex(field: &[u8], text: &mut [u8]) -> Reply
+    ensures { λ r. ⌜ replies r (now (text .exit)) ≡ replied (hexReply (now (field .entry))) (now (text .entry)) ⌝ }
+{
+    let mut bytes = blank_bytes();
+    let p = hex(field, 0, &mut bytes);
+    match p {
+        Pairs::Bad => Reply::Unreadable,
+        Pairs::Bytes(n) => Reply::Line(reply_to_bytes(&bytes[..n], text)),
+    }
+}
+
+// Answers a line of the program.
+pub fn answer_line(line: &[u8], text: &mut [u8]) -> Reply
+    ensures { λ r. ⌜ replies r (now (text .exit)) ≡ replyOf (now (line .entry)) (now (text .entry)) ⌝ }
+{
+    if begins(line, b"text\t") {
+        if 5 <= line.len() {
+            return Reply::Line(reply_to_text(&line[5..], text));
+        }
+        return Reply::Unreadable;
+    }
+    if begins(line, b"bytes\t") {
+        if 6 <= line.len() {
+            return reply_to_hex(&line[6..], text);
+        }
+        return Reply::Unreadable;
+    }
+    Reply::Unreadable
 }

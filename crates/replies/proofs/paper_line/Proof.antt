@@ -1,97 +1,82 @@
+use mathlib.Core.Path.{_≡_, refl, sym, ap, _∙_}
+use mathlib.Core.List.{List, [], _∷_, _++_}
+use Prim.Native.Nat.{_+_, _*_, _-_, _/_, _≤_}
+use native.Mathlib.Omega.{arith}
+use lib.ListN.{length, take, drop}
+use lib.Seq.{length-take-le, length-sets}
+use borrow.Author.Needs.{needs}
+use Rattle.packet.specs.Names.{bytesOf}
+use Rattle.lines.specs.Text.{decimalOf, hexOf}
+use Rattle.lines.proofs.TextLaws.{hex-length, digits-most, digits-most-8}
+use Rattle.replies.proofs.ReplyLaws as laws
+use Rattle.replies.proofs.SaidLaws as said
 use borrow.Author.Needs.{needs}
 use Rattle.replies.proofs.paper_line.Statement.{statement}
 use Rattle.replies.proofs.paper_line.Tie as tie
-use Rattle.replies.proofs.paper_line.Reads as reads
-use Rattle.replies.proofs.paper_line.Lts as lts
-use Rattle.paper.proofs.to_bytes.Reads as to-bytes-reads
-use Rattle.replies.proofs.bytes_line.Reads as bytes-line-reads
-use Rattle.replies.proofs.refused_by.Reads as refused-by-reads
-use Rattle.replies.proofs.refused_line.Reads as refused-line-reads
-use Rattle.replies.proofs.wrong_line.Reads as wrong-line-reads
 
--- src/lib.rt:183:32
 slice-aggregate-to-bytes : tie.Need-slice-aggregate-to-bytes
 slice-aggregate-to-bytes c = search needs
 
--- src/lib.rt:183:9
 to-bytes-requires : tie.Need-to-bytes-requires
 to-bytes-requires c κs = search needs
 
--- src/lib.rt:185:30
 enum-known-a : tie.Need-enum-known-a
 enum-known-a c = search needs
 
--- src/lib.rt:185:47
 array-share-prefix-bytes : tie.Need-array-share-prefix-bytes
-array-share-prefix-bytes c = ?
+array-share-prefix-bytes c = omega (arith, said.bytes-fit (c .before .before .before .before .before .before .before .before .args .equation .now) (c .before .before .before .before .to-bytes .result) (c .before .a .given .0 .0) (c .before .before .before .before .to-bytes .last .1 .0) (c .before .before .before .before .to-bytes .ensures) (c .before .a .given .1), c .before .before .before .before .to-bytes .kept .1 .0)
 
--- src/lib.rt:185:47
 slice-aggregate-bytes-line : tie.Need-slice-aggregate-bytes-line
-slice-aggregate-bytes-line c = ?
+slice-aggregate-bytes-line c = sym (length-take-le (c .before .before .a .given .0 .0) (c .before .before .before .before .before .to-bytes .last .1 .0) (omega (arith, said.bytes-fit (c .before .before .before .before .before .before .before .before .before .args .equation .now) (c .before .before .before .before .before .to-bytes .result) (c .before .before .a .given .0 .0) (c .before .before .before .before .before .to-bytes .last .1 .0) (c .before .before .before .before .before .to-bytes .ensures) (c .before .before .a .given .1), c .before .before .before .before .before .to-bytes .kept .1 .0)))
 
--- src/lib.rt:185:36
 bytes-line-requires : tie.Need-bytes-line-requires
-bytes-line-requires c κs = ?
+bytes-line-requires c κs = (omega (arith, said.bytes-fit (c .before .before .before .before .before .before .before .before .before .before .args .equation .now) (c .before .before .before .before .before .before .to-bytes .result) (c .before .before .before .a .given .0 .0) (c .before .before .before .before .before .before .to-bytes .last .1 .0) (c .before .before .before .before .before .before .to-bytes .ensures) (c .before .before .before .a .given .1), length-take-le (c .before .before .before .a .given .0 .0) (c .before .before .before .before .before .before .to-bytes .last .1 .0) (omega (arith, said.bytes-fit (c .before .before .before .before .before .before .before .before .before .before .args .equation .now) (c .before .before .before .before .before .before .to-bytes .result) (c .before .before .before .a .given .0 .0) (c .before .before .before .before .before .before .to-bytes .last .1 .0) (c .before .before .before .before .before .before .to-bytes .ensures) (c .before .before .before .a .given .1), c .before .before .before .before .before .before .to-bytes .kept .1 .0))), c .before .before .before .before .before .before .before .before .before .before .pre)
 
--- src/lib.rt:186:30
 enum-known-a-2 : tie.Need-enum-known-a-2
 enum-known-a-2 c = search needs
 
--- src/lib.rt:186:45
 wrong-line-requires : tie.Need-wrong-line-requires
 wrong-line-requires c κs = search needs
 
--- src/lib.rt:187:45
 enum-told : tie.Need-enum-told
 enum-told c = search needs
 
--- src/lib.rt:187:45
 slice-aggregate-refused-line : tie.Need-slice-aggregate-refused-line
 slice-aggregate-refused-line c = search needs
 
--- src/lib.rt:187:32
 refused-line-requires : tie.Need-refused-line-requires
 refused-line-requires c κs = search needs
 
--- src/lib.rt:188:32
 enum-known-a-3 : tie.Need-enum-known-a-3
 enum-known-a-3 c = search needs
 
--- src/lib.rt:188:38
 refused-by-requires : tie.Need-refused-by-requires
 refused-by-requires c κs = search needs
 
--- src/lib.rt:177:1
 same-length : tie.Need-same-length
 same-length c = search needs
 
--- src/lib.rt:177:1
 returns : tie.Need-returns
-returns c = ?
+returns c = rw (said.said-as (c .before .before .before .before .before .before .before .before .before .before .before .before .before .args .equation .now) (c .before .before .before .before .before .before .before .before .before .to-bytes .result) _ (c .before .before .before .before .before .before .before .before .before .to-bytes .last .1 .0) (c .before .before .before .before .before .before .before .before .before .to-bytes .ensures) (c .before .before .before .before .before .before .a .given .1)) (c .before .before .bytes-line .ensures .0, c .before .before .bytes-line .ensures .1)
 
--- src/lib.rt:177:1
 same-length-2 : tie.Need-same-length-2
 same-length-2 c = search needs
 
--- src/lib.rt:177:1
 returns-2 : tie.Need-returns-2
-returns-2 c = ?
+returns-2 c = rw (said.said-as (c .before .before .before .before .before .before .before .before .before .before .before .before .args .equation .now) (c .before .before .before .before .before .before .before .before .to-bytes .result) _ (c .before .before .before .before .before .before .before .before .to-bytes .last .1 .0) (c .before .before .before .before .before .before .before .before .to-bytes .ensures) (c .before .before .before .before .before .a2 .given .1)) (c .before .before .wrong-line .ensures .0, c .before .before .wrong-line .ensures .1)
 
--- src/lib.rt:177:1
 same-length-3 : tie.Need-same-length-3
 same-length-3 c = search needs
 
--- src/lib.rt:177:1
 returns-3 : tie.Need-returns-3
-returns-3 c = ?
+unfolding bytesOf
+returns-3 c = rw (said.said-as (c .before .before .before .before .before .before .before .before .before .before .before .before .args .equation .now) (c .before .before .before .before .before .before .before .before .to-bytes .result) _ (c .before .before .before .before .before .before .before .before .to-bytes .last .1 .0) (c .before .before .before .before .before .before .before .before .to-bytes .ensures) (c .before .before .before .before .before .enum-told .given .1)) (c .before .before .refused-line .ensures .0, c .before .before .refused-line .ensures .1)
 
--- src/lib.rt:177:1
 same-length-4 : tie.Need-same-length-4
 same-length-4 c = search needs
 
--- src/lib.rt:177:1
 returns-4 : tie.Need-returns-4
-returns-4 c = ?
+returns-4 c = rw (said.said-as (c .before .before .before .before .before .before .before .before .before .before .before .before .args .equation .now) (c .before .before .before .before .before .before .before .before .to-bytes .result) _ (c .before .before .before .before .before .before .before .before .to-bytes .last .1 .0) (c .before .before .before .before .before .before .before .before .to-bytes .ensures) (c .before .before .before .before .before .a3 .given .1)) (c .before .before .refused-by .ensures .0, c .before .before .refused-by .ensures .1)
 
 pub paper-line-spec : {M : Type 1} → statement M
 paper-line-spec =
