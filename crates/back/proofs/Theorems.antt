@@ -22,8 +22,7 @@ use Rattle.back.specs.Answer.{Answers, answers, delivered, written, writ
 use Rattle.back.specs.declared.Answer.{Answer}
 use Rattle.back.specs.declared.Answer.the-variants as answer
 use Rattle.writing.proofs.Derived.{AllWhole, text-reads, pairsOf, fewest, flattest}
-use Rattle.writing.proofs.Bytes.{parsed-whole, parsed-bytes, parsed-means}
-use Rattle.back.proofs.Marks.{no-mark}
+use Rattle.writing.proofs.Bytes.{no-mark, parsed-whole, parsed-bytes, parsed-means}
 
 -- bytes that are equations as they come in packets
 abbrev pub Bytes : List ℕ → Type 0
