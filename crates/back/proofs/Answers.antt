@@ -1,21 +1,21 @@
 -- From an accepted equation to its answer: what the public function and its two helpers give. Assumes nothing.
-use mathlib.Core.Path.{_≡_, refl, sym, ap, ap₂, subst, _∙_}
+use mathlib.Core.Path.{_≡_, refl, sym, ap, subst, _∙_}
 use mathlib.Core.Bool.{Bool, true, false, cond}
 use mathlib.Core.List.{List, [], _∷_, _++_, append-assoc}
 use mathlib.Core.Option.{Option, none, some}
 use Prim.Native.Nat.{ℕ, zero, suc, _+_, _-_, _*_, _≤_, _<_}
 use native.Mathlib.Omega.{arith}
-use lib.Dec.{ltb, leb, eqb}
-use lib.ListN.{length, getD, take, drop, replicate, length-append, length-drop, length-replicate, drop-of-length-le}
-use lib.Seq.{sets, sets-eq, length-take-le, take-all, take-at, drop-at, drop-drop, getD-drop}
-use borrow.Author.Tests.{lt-ltb, le-ltb, lt-leb, le-leb, leb-true, ltb-true, ltb-false}
+use lib.Dec.{ltb, leb}
+use lib.ListN.{length, getD, take, drop, replicate, length-drop, length-replicate}
+use lib.Seq.{sets-eq, length-take-le, take-at, drop-at, drop-drop, getD-drop}
+use borrow.Author.Tests.{lt-ltb, le-ltb, lt-leb, le-leb, leb-true}
 use Rattle.numbers.specs.Numbers.{storedAt}
 use Rattle.numbers.proofs.NumberLaws.{stored-at}
-use Rattle.equation.specs.Symbols.{good, connectiveOf, relationAt, tokenOf, Symbol}
+use Rattle.equation.specs.Symbols.{good, connectiveOf, relationAt, tokenOf}
 use Rattle.equation.specs.Tree.{Tree, parse}
 use Rattle.equation.specs.Answer.{refusal, validityOf}
 use Rattle.equation.specs.Newer.{unmarked}
-use Rattle.equation.specs.Parsed.{relationFrom, symbolsBy, stepThen, stepsPast, stepsOf, parses, parseOf}
+use Rattle.equation.specs.Parsed.{stepThen, stepsPast, stepsOf, parses, parseOf}
 use Rattle.equation.specs.declared.evaluation.Parsed.{Parsed}
 use Rattle.equation.specs.declared.tokens.Token.{Token}
 use Rattle.equation.specs.declared.tokens.Token.the-variants.{Bad, End, And, Or, Rel}

@@ -1,6 +1,6 @@
 -- THE THEOREMS on equations written as on paper: the text reads back as the same bytes, no text with these bytes has fewer pairs of brackets, and
 -- `mark` and `deeper` are answered only where no text of the grammar turns into the bytes. Assumes nothing.
-use mathlib.Core.Path.{_≡_, refl, sym, ap, subst, _∙_}
+use mathlib.Core.Path.{_≡_, refl, sym, ap, _∙_}
 use mathlib.Core.Bool.{Bool, true, false, cond}
 use mathlib.Core.List.{List, [], _++_}
 use mathlib.Core.Option.{Option, none, some}
@@ -9,7 +9,7 @@ use native.Mathlib.Omega.{arith}
 use lib.Dec.{ltb, leb}
 use lib.ListN.{length, getD, take, drop}
 use lib.Seq.{take-at, drop-at}
-use borrow.Author.Tests.{ltb-true, ltb-false, leb-true, leb-false}
+use borrow.Author.Tests.{ltb-true, ltb-false}
 use Rattle.equation.specs.Tree.{Tree, parse}
 use Rattle.equation.specs.Newer.{unmarked}
 use Rattle.grammar.specs.Formula.{Formula, postfix}

@@ -1,7 +1,7 @@
 -- How an equation is answered: "33 above 2,047 bytes; then 8; then `mark` (it ends in an end mark), `deeper` (its text would nest deeper than 16), `bytes`
 -- (above 256), in that order; then 33 where the output is too short." A refusal writes nothing, and output beyond the text is untouched. Assumes nothing.
 use mathlib.Core.Bool.{cond}
-use mathlib.Core.List.{List, [], _∷_, _++_}
+use mathlib.Core.List.{List, _++_}
 use mathlib.Core.Option.{Option, none, some}
 use Prim.Native.Nat.{ℕ}
 use lib.Dec.{ltb, leb}

@@ -2,14 +2,13 @@
 use mathlib.Core.Path.{_≡_, refl, sym, ap, subst, _∙_}
 use mathlib.Core.Bool.{Bool, true, false, cond}
 use mathlib.Core.List.{List, [], _∷_, _++_, append-assoc, append-nil}
-use mathlib.Core.Option.{Option, none, some}
-use Prim.Native.Nat.{ℕ, zero, suc, _+_, _-_, _*_, _/_, _%_, _≤_, _<_}
+use mathlib.Core.Option.{none, some}
+use Prim.Native.Nat.{ℕ, zero, suc, _+_, _*_, _/_, _%_, _≤_, _<_}
 use native.Mathlib.Omega.{arith}
 use lib.Dec.{ltb, leb, eqb}
 use lib.ListN.{length, getD, take, drop, length-append}
 use lib.Seq.{take-at, length-take-le, take-all, take-nil}
-use borrow.Author.Tests.{ltb-true, ltb-false, leb-true, le-ltb, le-leb, lt-ltb, eqb-true}
-use Rattle.numbers.specs.Numbers.{two}
+use borrow.Author.Tests.{ltb-false, leb-true, le-ltb, le-leb, eqb-true}
 use Rattle.equation.specs.Holds.{Relation}
 use Rattle.equation.specs.Symbols.{good, connectiveOf, relationAt, tokenOf, Symbol, rel, and, or, bad, follow, symbolsPast, symbols}
 use Rattle.equation.specs.Tree.{pushed, joined, result, bind, run, Tree, parse}
