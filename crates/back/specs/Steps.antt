@@ -51,6 +51,11 @@ pub record Wrote (text : List ℕ) (before : List Symbol) (n : ℕ) (out : List 
   pub at : r .at ≡ length before
   pub piece : Piece text n out (r .n) now
 
+-- so it is for every formula whose steps end there
+abbrev pub FormulaPut : List ℕ → List ℕ → ℕ → ℕ → ℕ → List ℕ → Place → List ℕ → Type 0
+FormulaPut bytes steps e level n out r now =
+    (w : Room bytes steps e level n) → Wrote (textAt level (w .ready .formula)) (w .ready .before) n out r now
+
 -- how deep brackets are nested in the text of a formula, and where its steps begin
 pub record Measured (nested : ℕ) (before : List Symbol) (r : Nesting) : Type 0 where
   pub at : r .at ≡ length before
