@@ -25,8 +25,8 @@ ghost use Rattle.equation.specs.Parsed.{relationFrom};
 ghost use Rattle.grammar.specs.Meaning.{leastWidth, widthOf};
 ghost use Rattle.grammar.specs.Grammar.{itemText, operatorText, characterText, constantText};
 ghost use Rattle.writing.specs.Text.{itemFor, characterFor, numberFor, constantFor, comparisonFor, relationText};
-ghost use Rattle.writing.specs.Places.{nestingAt, connectiveText, opening, closing, quoted};
-ghost use Rattle.back.specs.Steps.{bindingOf, Piece, Stands, Ready, Room, FormulaPut, Measured, Accepted};
+ghost use Rattle.writing.specs.Places.{nestingAt, connectiveText, opening, closing, quoted, Stands};
+ghost use Rattle.back.specs.Steps.{bindingOf, Piece, Ready, Room, FormulaPut, Measured, Accepted};
 ghost use Rattle.back.specs.Answer.{answers, Delivers, Replies, writtenOf};
 
 // How an equation is answered: the number of bytes of its text; refused by 33 or 8; it ends in an end mark; its text would nest deeper than 16; it has

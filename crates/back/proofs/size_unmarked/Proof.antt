@@ -4,7 +4,7 @@ use Prim.Native.Nat.{_-_}
 use native.Mathlib.Omega.{arith}
 use lib.ListN.{length}
 use borrow.Author.Needs.{needs}
-use Rattle.back.proofs.Marks as marks
+use Rattle.writing.proofs.Marks as marks
 use Rattle.back.proofs.size_unmarked.Statement.{statement}
 use Rattle.back.proofs.size_unmarked.Tie as tie
 
