@@ -1,8 +1,8 @@
 -- Worked equations, computed: their texts, or why none is written. Assumes nothing.
 use mathlib.Core.Path.{_≡_, refl}
 use mathlib.Core.List.{List, [], _∷_, _++_, map}
-use Prim.Native.Nat.{ℕ, zero, suc, _-_}
-use lib.ListN.{length, replicate, drop}
+use Prim.Native.Nat.{ℕ, zero, suc}
+use lib.ListN.{length, replicate}
 use Rattle.packet.specs.Names.{bytesOf}
 use Rattle.back.specs.Answer.{Answers, answers, writtenOf}
 use Rattle.back.specs.declared.Answer.{Answer}

@@ -12,9 +12,9 @@ use Rattle.equation.specs.Symbols.{Symbol}
 use Rattle.equation.specs.Parsed.{relationFrom, symbolAt, symbolsBy}
 use Rattle.grammar.specs.Formula.{Formula, relation}
 use Rattle.writing.specs.Text.{relationText}
-use Rattle.writing.specs.Places.{symbolsOf, textAt, nestingAt, connectiveText, opening, closing}
+use Rattle.writing.specs.Places.{symbolsOf, textAt, nestingAt, connectiveText, opening, closing, Stands}
 use Rattle.writing.proofs.Operands.{binds, join-text, join-nesting, connective-length, relation-text, relation-nesting, few-at, lastOf, initOf, split, snoc-same, is-relation, Joined, is-join, join-init}
-use Rattle.back.specs.Steps.{bindingOf, Piece, Stands, Ready, Room, Wrote, Measured, Accepted}
+use Rattle.back.specs.Steps.{bindingOf, Piece, Ready, Room, Wrote, Measured, Accepted}
 use Rattle.back.specs.declared.Place.{Place}
 use Rattle.back.specs.declared.Nesting.{Nesting}
 use Rattle.back.proofs.Pieces.{before}

@@ -1,6 +1,5 @@
 pub mod Pieces
 pub mod Formulas
-pub mod Marks
 pub mod Answers
 pub mod Theorems
 pub mod Examples

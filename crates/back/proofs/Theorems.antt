@@ -1,6 +1,6 @@
 -- THE THEOREMS on equations written as on paper: the text reads back as the same bytes, no text with these bytes has fewer pairs of brackets, and
 -- `mark` and `deeper` are answered only where no text of the grammar turns into the bytes. Assumes nothing.
-use mathlib.Core.Path.{_≡_, refl, sym, ap, subst, _∙_}
+use mathlib.Core.Path.{_≡_, refl, sym, ap, _∙_}
 use mathlib.Core.Bool.{Bool, true, false, cond}
 use mathlib.Core.List.{List, [], _++_}
 use mathlib.Core.Option.{Option, none, some}
@@ -9,7 +9,7 @@ use native.Mathlib.Omega.{arith}
 use lib.Dec.{ltb, leb}
 use lib.ListN.{length, getD, take, drop}
 use lib.Seq.{take-at, drop-at}
-use borrow.Author.Tests.{ltb-true, ltb-false, leb-true, leb-false}
+use borrow.Author.Tests.{ltb-true, ltb-false}
 use Rattle.equation.specs.Tree.{Tree, parse}
 use Rattle.equation.specs.Newer.{unmarked}
 use Rattle.grammar.specs.Formula.{Formula, postfix}
@@ -22,8 +22,7 @@ use Rattle.back.specs.Answer.{Answers, answers, delivered, written, writ
 use Rattle.back.specs.declared.Answer.{Answer}
 use Rattle.back.specs.declared.Answer.the-variants as answer
 use Rattle.writing.proofs.Derived.{AllWhole, text-reads, pairsOf, fewest, flattest}
-use Rattle.writing.proofs.Bytes.{parsed-whole, parsed-bytes, parsed-means}
-use Rattle.back.proofs.Marks.{no-mark}
+use Rattle.writing.proofs.Bytes.{no-mark, parsed-whole, parsed-bytes, parsed-means}
 
 -- bytes that are equations as they come in packets
 abbrev pub Bytes : List ℕ → Type 0

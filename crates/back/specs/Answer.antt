@@ -1,7 +1,8 @@
 -- How an equation is answered: "33 above 2,047 bytes; then 8; then `mark` (it ends in an end mark), `deeper` (its text would nest deeper than 16), `bytes`
 -- (above 256), in that order; then 33 where the output is too short." A refusal writes nothing, and output beyond the text is untouched. Assumes nothing.
+use mathlib.Core.Path.{_≡_}
 use mathlib.Core.Bool.{cond}
-use mathlib.Core.List.{List, [], _∷_, _++_}
+use mathlib.Core.List.{List, _++_}
 use mathlib.Core.Option.{Option, none, some}
 use Prim.Native.Nat.{ℕ}
 use lib.Dec.{ltb, leb}
@@ -11,6 +12,7 @@ use Rattle.equation.specs.Newer.{unmarked}
 use Rattle.grammar.specs.Formula.{Formula}
 use Rattle.writing.specs.Text.{textOf, nesting}
 use Rattle.writing.specs.Places.{formulaOf}
+use Rattle.back.specs.Steps.{Accepted}
 use Rattle.back.specs.declared.Answer.{Answer}
 use Rattle.back.specs.declared.Answer.the-variants as answer
 
@@ -38,3 +40,10 @@ writtenBy (some t) n m out = written (formulaOf t) n m out
 unfoldable pub writtenOf : List ℕ → List ℕ → Answers
 writtenOf bytes out =
     cond (ltb 2047 (length bytes)) (answers (answer.Refused 33) out) (writtenBy (parse bytes) (length bytes) (length (unmarked bytes)) out)
+
+-- what the helpers of the public function give for an equation that is accepted
+abbrev pub Delivers : List ℕ → List ℕ → List ℕ → Answers → Type 0
+Delivers bytes steps out a = (w : Accepted bytes steps) → a ≡ delivered (textOf (w .formula)) out
+
+abbrev pub Replies : List ℕ → List ℕ → List ℕ → Answers → Type 0
+Replies bytes steps out a = (w : Accepted bytes steps) → a ≡ written (w .formula) (length bytes) (length (unmarked bytes)) out

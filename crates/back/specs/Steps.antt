@@ -1,17 +1,17 @@
 -- What the writer's private functions work on: the steps of an equation (crates/equation) as the symbols of a formula in postfix order, and a piece of
 -- text put before a place. Assumes nothing.
 use mathlib.Core.Path.{_≡_}
-use mathlib.Core.Bool.{true, cond}
+use mathlib.Core.Bool.{cond}
 use mathlib.Core.List.{List, _++_}
-use Prim.Native.Nat.{ℕ, _+_, _≤_, _<_}
+use Prim.Native.Nat.{ℕ, _+_, _≤_}
 use lib.Dec.{eqb}
-use lib.ListN.{length, getD, take}
+use lib.ListN.{length, take}
 use lib.Seq.{sets}
-use Rattle.equation.specs.Symbols.{Symbol, good}
-use Rattle.equation.specs.Parsed.{relationFrom, symbolsBy}
+use Rattle.equation.specs.Symbols.{Symbol}
+use Rattle.equation.specs.Parsed.{symbolsBy}
 use Rattle.grammar.specs.Formula.{Formula}
 use Rattle.writing.specs.Text.{textOf}
-use Rattle.writing.specs.Places.{symbolsOf, textAt}
+use Rattle.writing.specs.Places.{symbolsOf, textAt, AllStand}
 use Rattle.back.specs.declared.Place.{Place}
 use Rattle.back.specs.declared.Nesting.{Nesting}
 
@@ -23,15 +23,6 @@ bindingOf s = cond (eqb s 2048) 1 0
 pub record Piece (text : List ℕ) (n : ℕ) (out : List ℕ) (r : ℕ) (now : List ℕ) : Type 0 where
   pub place : r + length text ≡ n
   pub bytes : now ≡ sets out r text
-
--- a relation of the equation stands whole at a place, and is one that is accepted
-pub record Stands (bytes : List ℕ) (at : ℕ) : Type 0 where
-  pub within : at + 4 + getD bytes (at + 3) 0 ≤ length bytes
-  pub good : good (getD bytes at 0) (relationFrom bytes at .constant) ≡ true
-
--- the relations that steps name stand whole in the equation
-abbrev pub AllStand : List ℕ → List ℕ → Type 0
-AllStand bytes steps = (i : ℕ) → i < length steps → getD steps i 0 < 2048 → Stands bytes (getD steps i 0)
 
 -- the first e steps end with those of a formula
 pub record Ready (bytes steps : List ℕ) (e : ℕ) : Type 0 where
@@ -50,6 +41,11 @@ pub record Room (bytes steps : List ℕ) (e level n : ℕ) : Type 0 where
 pub record Wrote (text : List ℕ) (before : List Symbol) (n : ℕ) (out : List ℕ) (r : Place) (now : List ℕ) : Type 0 where
   pub at : r .at ≡ length before
   pub piece : Piece text n out (r .n) now
+
+-- so it is for every formula whose steps end there
+abbrev pub FormulaPut : List ℕ → List ℕ → ℕ → ℕ → ℕ → List ℕ → Place → List ℕ → Type 0
+FormulaPut bytes steps e level n out r now =
+    (w : Room bytes steps e level n) → Wrote (textAt level (w .ready .formula)) (w .ready .before) n out r now
 
 -- how deep brackets are nested in the text of a formula, and where its steps begin
 pub record Measured (nested : ℕ) (before : List Symbol) (r : Nesting) : Type 0 where

@@ -24,10 +24,10 @@ ghost use Rattle.equation.specs.Newer.{unmarked};
 ghost use Rattle.equation.specs.Parsed.{relationFrom};
 ghost use Rattle.grammar.specs.Meaning.{leastWidth, widthOf};
 ghost use Rattle.grammar.specs.Grammar.{itemText, operatorText, characterText, constantText};
-ghost use Rattle.writing.specs.Text.{itemFor, characterFor, numberFor, constantFor, comparisonFor, relationText, textOf};
-ghost use Rattle.writing.specs.Places.{textAt, nestingAt, connectiveText, opening, closing, quoted};
-ghost use Rattle.back.specs.Steps.{bindingOf, Piece, Stands, Ready, Room, Wrote, Measured, Accepted};
-ghost use Rattle.back.specs.Answer.{answers, writtenOf, written, delivered};
+ghost use Rattle.writing.specs.Text.{itemFor, characterFor, numberFor, constantFor, comparisonFor, relationText};
+ghost use Rattle.writing.specs.Places.{nestingAt, connectiveText, opening, closing, quoted, Stands};
+ghost use Rattle.back.specs.Steps.{bindingOf, Piece, Ready, Room, FormulaPut, Measured, Accepted};
+ghost use Rattle.back.specs.Answer.{answers, Delivers, Replies, writtenOf};
 
 // How an equation is answered: the number of bytes of its text; refused by 33 or 8; it ends in an end mark; its text would nest deeper than 16; it has
 // more than 256 bytes.
@@ -40,15 +40,15 @@ pub enum Answer {
 }
 
 // Where a formula's steps begin, and where its text does.
-pub struct Place {
-    pub at: usize,
-    pub n: usize,
+struct Place {
+    at: usize,
+    n: usize,
 }
 
 // Where a formula's steps begin, and how deep brackets are nested in its text.
-pub struct Nesting {
-    pub at: usize,
-    pub deep: usize,
+struct Nesting {
+    at: usize,
+    deep: usize,
 }
 
 // ---- pieces of text, each put before place n
@@ -312,7 +312,7 @@ fn put_connective(p: u8, out: &mut [u8], n: usize) -> usize
 // The formula whose steps end before step e, in brackets where it binds less close than its place asks for.
 fn put_formula(bytes: &[u8], steps: &[u16], e: usize, level: u8, out: &mut [u8], n: usize) -> Place
     requires { ⌜ Room (now bytes) (now steps) e level n ⌝ }
-    ensures { λ r. ⌜ ((w : Room (now (bytes .entry)) (now (steps .entry)) e level n) → Wrote (textAt level (w .ready .formula)) (w .ready .before) n (now (out .entry)) r (now (out .exit))) ⌝ }
+    ensures { λ r. ⌜ FormulaPut (now (bytes .entry)) (now (steps .entry)) e level n (now (out .entry)) r (now (out .exit)) ⌝ }
 {
     let i = e - 1;
     let s = steps[i];
@@ -385,7 +385,7 @@ fn size_unmarked(bytes: &[u8]) -> usize
 fn deliver(bytes: &[u8], steps: &[u16], out: &mut [u8]) -> Answer
     requires { ⌜ Accepted (now bytes) (now steps) ⌝ }
     requires { ⌜ length (now bytes) ≤ 256 ⌝ }
-    ensures { λ r. ⌜ ((w : Accepted (now (bytes .entry)) (now (steps .entry))) → answers r (now (out .exit)) ≡ delivered (textOf (w .formula)) (now (out .entry))) ⌝ }
+    ensures { λ r. ⌜ Delivers (now (bytes .entry)) (now (steps .entry)) (now (out .entry)) (answers r (now (out .exit))) ⌝ }
 {
     let mut text = [0u8; 2560];
     let p = put_formula(bytes, steps, steps.len(), 0, &mut text, 2560);
@@ -401,7 +401,7 @@ fn deliver(bytes: &[u8], steps: &[u16], out: &mut [u8]) -> Answer
 // Answers an accepted equation, given with its steps.
 fn answered(bytes: &[u8], steps: &[u16], out: &mut [u8]) -> Answer
     requires { ⌜ Accepted (now bytes) (now steps) ⌝ }
-    ensures { λ r. ⌜ ((w : Accepted (now (bytes .entry)) (now (steps .entry))) → answers r (now (out .exit)) ≡ written (w .formula) (length (now (bytes .entry))) (length (unmarked (now (bytes .entry)))) (now (out .entry))) ⌝ }
+    ensures { λ r. ⌜ Replies (now (bytes .entry)) (now (steps .entry)) (now (out .entry)) (answers r (now (out .exit))) ⌝ }
 {
     let size = size_unmarked(bytes);
     if size < bytes.len() {

@@ -2,14 +2,13 @@
 use mathlib.Core.Path.{_≡_, refl, sym, ap, subst, _∙_}
 use mathlib.Core.Bool.{Bool, true, false, cond}
 use mathlib.Core.List.{List, [], _∷_, _++_, append-assoc, append-nil}
-use mathlib.Core.Option.{Option, none, some}
-use Prim.Native.Nat.{ℕ, zero, suc, _+_, _-_, _*_, _/_, _%_, _≤_, _<_}
+use mathlib.Core.Option.{none, some}
+use Prim.Native.Nat.{ℕ, zero, suc, _+_, _*_, _/_, _%_, _≤_, _<_}
 use native.Mathlib.Omega.{arith}
 use lib.Dec.{ltb, leb, eqb}
 use lib.ListN.{length, getD, take, drop, length-append}
-use lib.Seq.{take-at, length-take-le, getD-take, getD-drop}
-use borrow.Author.Tests.{ltb-true, ltb-false, leb-true, le-ltb, le-leb, lt-ltb, eqb-true}
-use Rattle.numbers.specs.Numbers.{two}
+use lib.Seq.{take-at, length-take-le, take-all, take-nil}
+use borrow.Author.Tests.{ltb-false, leb-true, le-ltb, le-leb, eqb-true}
 use Rattle.equation.specs.Holds.{Relation}
 use Rattle.equation.specs.Symbols.{good, connectiveOf, relationAt, tokenOf, Symbol, rel, and, or, bad, follow, symbolsPast, symbols}
 use Rattle.equation.specs.Tree.{pushed, joined, result, bind, run, Tree, parse}
@@ -333,6 +332,26 @@ tells (c ∷ bs) s zero h k =
 tells (c ∷ bs) s (suc n) h k =
     let z = tells bs (λ j. s (suc j)) n (omega arith) k in
     record { bytes = ap (λ (l : List ℕ). c ∷ l) (z .bytes); whole = z .whole }
+
+-- ---- what stands before the end mark is the front of the equation
+
+front : (n : ℕ) (bs : List ℕ) → unmarkedPast n bs ≡ take (length (unmarkedPast n bs)) bs
+unfolding unmarkedPast
+front n [] = sym (take-nil (length (unmarkedPast n [])))
+front (suc n) (c ∷ bs) = ap (λ (l : List ℕ). c ∷ l) (front n bs)
+front zero (c ∷ bs) = by (λ n. front n bs) (tokenOf (c ∷ bs))
+  where
+    by : ((n : ℕ) → unmarkedPast n bs ≡ take (length (unmarkedPast n bs)) bs) → (t : Token)
+        → beforeMark t (λ n. c ∷ unmarkedPast n bs) ≡ take (length (beforeMark t (λ n. c ∷ unmarkedPast n bs))) (c ∷ bs)
+    by ih Bad = unfold beforeMark in refl
+    by ih End = unfold beforeMark in refl
+    by ih And = unfold beforeMark in ap (λ (l : List ℕ). c ∷ l) (ih 0)
+    by ih Or = unfold beforeMark in ap (λ (l : List ℕ). c ∷ l) (ih 0)
+    by ih (Rel d i n) = unfold beforeMark in ap (λ (l : List ℕ). c ∷ l) (ih (3 + n))
+
+-- an equation without an end mark
+pub no-mark : (bytes : List ℕ) → length bytes ≤ length (unmarked bytes) → unmarked bytes ≡ bytes
+no-mark bytes h = front 0 bytes ∙ take-all (length (unmarked bytes)) bytes h
 
 -- ---- the theorems on accepted bytes
 

@@ -1,18 +1,16 @@
 -- The text of a formula as a text of the grammar: it reads back as the formula, and no text with the same meaning has fewer pairs of brackets or is
 -- nested less deep. Assumes nothing.
-use mathlib.Core.Path.{_≡_, refl, sym, ap, _∙_}
-use mathlib.Core.Bool.{true}
+use mathlib.Core.Path.{_≡_, refl, ap, _∙_}
 use mathlib.Core.List.{List, [], _∷_, _++_, append-assoc, append-nil}
-use Prim.Native.Nat.{ℕ, suc, _+_, _≤_, max}
+use Prim.Native.Nat.{ℕ, suc, _+_, _≤_}
 use native.Mathlib.Omega.{arith}
 use Rattle.packet.specs.Names.{bytesOf}
-use Rattle.equation.specs.Holds.{Relation}
 use Rattle.grammar.specs.Formula as formula
 use Rattle.grammar.specs.Formula.{Formula}
 use Rattle.names.specs.Kinds.{isBlank, every}
-use Rattle.grammar.specs.Grammar.{Blanks, Written, writtenText, relationOf, GoodWritten, Sum, product, plus, Product, factor, times, Factor, relation, bracket}
+use Rattle.grammar.specs.Grammar.{Blanks, Written, Sum, product, plus, Product, factor, times, Factor, relation, bracket}
 use Rattle.grammar.specs.Grammar.{textS, textP, textF, formulaS, formulaP, formulaF, GoodS, GoodP, GoodF, nestS, nestP, nestF, pairsS, pairsP, pairsF, Reads}
-use Rattle.writing.specs.Text.{writtenFor, relationText, textOf, productText, factorText, nesting, productNesting, factorNesting}
+use Rattle.writing.specs.Text.{writtenFor, textOf, productText, factorText, nesting, productNesting, factorNesting}
 use Rattle.writing.proofs.Relations.{Whole, relation-good, relation-back}
 
 -- the blank towards a connective

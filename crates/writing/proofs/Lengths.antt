@@ -1,18 +1,18 @@
 -- How long a text can be: at most ten bytes for each byte of its equation. Assumes nothing.
-use mathlib.Core.Path.{_≡_, refl, sym, ap, _∙_}
+use mathlib.Core.Path.{_≡_, refl, ap}
 use mathlib.Core.Bool.{Bool, true, false, cond}
 use mathlib.Core.List.{List, [], _∷_, _++_, map}
 use mathlib.Core.Option.{Option, none, some}
-use Prim.Native.Nat.{ℕ, zero, suc, _+_, _*_, _/_, _%_, _≤_, _<_}
+use Prim.Native.Nat.{ℕ, _+_, _*_, _/_, _%_, _≤_}
 use native.Mathlib.Omega.{arith}
-use lib.Dec.{ltb, leb, eqb}
-use lib.ListN.{length, getD, length-append}
-use borrow.Author.Tests.{leb-true, eqb-true}
+use lib.Dec.{leb, eqb}
+use lib.ListN.{length, length-append}
+use borrow.Author.Tests.{leb-true}
 use Rattle.numbers.specs.Numbers.{number}
 use Rattle.packet.specs.Names.{bytesOf}
 use Rattle.lines.specs.Text.{decimalOf, hexDigit}
 use Rattle.lines.proofs.TextLaws.{digits-most-32}
-use Rattle.equation.specs.Relation.{operatorOf, kindOf, width}
+use Rattle.equation.specs.Relation.{operatorOf, kindOf}
 use Rattle.equation.specs.Holds.{Relation}
 use Rattle.equation.specs.Newer.{newerBytes, unmarked}
 use Rattle.equation.proofs.Append.{narrowed-length}
@@ -25,7 +25,7 @@ use Rattle.grammar.specs.Grammar as grammar
 use Rattle.grammar.specs.Grammar.{itemText, operatorText, characterText, charactersText, constantText}
 use Rattle.grammar.specs.declared.Comparison.{Comparison}
 use Rattle.grammar.specs.declared.Comparison.the-variants.{Equal, Greater, Less, NotEqual, GreaterOrEqual, LessOrEqual}
-use Rattle.writing.specs.Text.{itemBy, itemFor, characterFor, numberFor, constantFor, comparisonFor, relationText, textOf, productText, factorText}
+use Rattle.writing.specs.Text.{itemBy, characterFor, numberFor, constantFor, comparisonFor, relationText, textOf, productText, factorText}
 use Rattle.writing.specs.Places.{quoted}
 use Rattle.writing.proofs.Relations.{Whole, whole-number}
 use Rattle.writing.proofs.Derived.{AllWhole}

@@ -4,3 +4,5 @@ pub mod Bytes
 pub mod Parts
 pub mod Lengths
 pub mod Operands
+pub mod Marks
+pub mod Standing

@@ -6,13 +6,13 @@ use mathlib.Core.Option.{Option, none, some}
 use Prim.Native.Nat.{ℕ, zero, suc, _+_, _-_, _*_, _/_, _%_, _≤_, _<_}
 use native.Mathlib.Omega.{arith}
 use lib.Dec.{ltb, leb, eqb}
-use lib.ListN.{length, getD, take, length-map}
-use borrow.Author.Tests.{ltb-true, ltb-false, leb-true, lt-ltb, le-ltb, lt-leb, le-leb, eqb-true, eqb-false, eq-eqb, ne-eqb}
+use lib.ListN.{length, getD, take}
+use borrow.Author.Tests.{ltb-true, ltb-false, leb-true, lt-ltb, le-ltb, lt-leb, le-leb, eqb-true, eq-eqb, ne-eqb}
 use Rattle.numbers.specs.Numbers.{number, four}
 use Rattle.packet.specs.Names.{bytesOf}
 use Rattle.text.specs.Match.{lower}
 use Rattle.lines.specs.Text.{decimalOf, hexDigit}
-use Rattle.lines.specs.Numerals.{digit, valueFrom, hexValue}
+use Rattle.lines.specs.Numerals.{digit, valueFrom}
 use Rattle.lines.specs.Commands.{same}
 use Rattle.lines.proofs.TextLaws.{one-digit, more-digits, digits-some}
 use Rattle.lines.proofs.RoundTrip.{hex-digit-back}

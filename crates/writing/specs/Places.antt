@@ -1,10 +1,14 @@
--- A formula by its parts: its symbols in postfix order, and its text at the place where it stands. Assumes nothing.
-use mathlib.Core.Bool.{cond}
+-- A formula by its parts: its symbols in postfix order, its text at the place where it stands, and its relations in the bytes of an equation. Assumes
+-- nothing.
+use mathlib.Core.Path.{_≡_}
+use mathlib.Core.Bool.{true, cond}
 use mathlib.Core.List.{List, [], _∷_, _++_, map}
-use Prim.Native.Nat.{ℕ, zero, suc}
+use Prim.Native.Nat.{ℕ, zero, suc, _+_, _≤_, _<_}
 use lib.Dec.{ltb, eqb}
+use lib.ListN.{length, getD}
 use Rattle.packet.specs.Names.{bytesOf}
-use Rattle.equation.specs.Symbols.{Symbol, rel, and, or}
+use Rattle.equation.specs.Symbols.{Symbol, rel, and, or, good}
+use Rattle.equation.specs.Parsed.{relationFrom}
 use Rattle.equation.specs.Tree.{Tree}
 use Rattle.equation.specs.Tree as tree
 use Rattle.grammar.specs.Formula.{Formula, relation, both, either}
@@ -47,3 +51,14 @@ closing p level = cond (ltb p level) (41 ∷ []) []
 -- bytes of a string's text
 abbrev pub quoted : List ℕ → List ℕ
 quoted bytes = charactersText (map characterFor bytes)
+
+-- ---- in the bytes of an equation
+
+-- a relation of the equation stands whole at a place, and is one that is accepted
+pub record Stands (bytes : List ℕ) (at : ℕ) : Type 0 where
+  pub within : at + 4 + getD bytes (at + 3) 0 ≤ length bytes
+  pub good : good (getD bytes at 0) (relationFrom bytes at .constant) ≡ true
+
+-- the relations that steps name stand whole in the equation
+abbrev pub AllStand : List ℕ → List ℕ → Type 0
+AllStand bytes steps = (i : ℕ) → i < length steps → getD steps i 0 < 2048 → Stands bytes (getD steps i 0)

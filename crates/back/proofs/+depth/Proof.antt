@@ -50,19 +50,63 @@ depth-depth-requires : (t : ℕ) → depth-lts.Need-depth-requires (depth-calls 
 depth-depth-requires t c κs = (omega (arith, c .before .before .before .before .pre .0, formulas.some-step (c .before .before .before .before .pre .1 .0) (c .before .before .before .before .args .steps .now) (c .before .before .before .before .args .e) (c .before .before .before .before .pre .1 .1)), (c .before .before .before .before .pre .1 .0, formulas.right (c .before .before .before .before .pre .1 .0) (c .before .before .before .before .args .steps .now) (c .before .before .before .before .args .e) (c .before .before .before .before .pre .1 .1) (getD (c .before .before .before .before .args .steps .now) (c .before .before .before .before .args .e - 1) 0) refl (c .before .if1 .left)))
 
 depth-depth-requires-2 : (t : ℕ) → depth-lts.Need-depth-requires-2 (depth-calls t) (depth-at t) depth.Post
-depth-depth-requires-2 t c κs = (omega (arith, c .before .before .before .before .before .pre .0, formulas.left-fall (c .before .before .before .before .before .pre .1 .0) (c .before .before .before .before .before .args .steps .now) (c .before .before .before .before .before .args .e) (c .before .before .before .before .before .pre .1 .1) (getD (c .before .before .before .before .before .args .steps .now) (c .before .before .before .before .before .args .e - 1) 0) refl (c .before .before .if1 .left) (c .before .binding .result) (c .before .binding .ensures .0) (c .depth .result) (c .depth .ensures)), (c .before .before .before .before .before .pre .1 .0, formulas.left-ready (c .before .before .before .before .before .pre .1 .0) (c .before .before .before .before .before .args .steps .now) (c .before .before .before .before .before .args .e) (c .before .before .before .before .before .pre .1 .1) (getD (c .before .before .before .before .before .args .steps .now) (c .before .before .before .before .before .args .e - 1) 0) refl (c .before .before .if1 .left) (c .before .binding .result) (c .before .binding .ensures .0) (c .depth .result) (c .depth .ensures)))
+depth-depth-requires-2 t c κs =
+    let the-pre = c .before .before .before .before .before .pre in
+    let a = c .before .before .before .before .before .args in
+    let the-binding = c .before .binding in
+    let the-depth = c .depth in (
+      omega (
+        arith,
+        the-pre .0,
+        formulas.left-fall (the-pre .1 .0) (a .steps .now) (a .e) (the-pre .1 .1) (getD (a .steps .now)
+            (a .e - 1) 0) refl (c .before .before .if1 .left) (the-binding .result) (the-binding .ensures .0) (the-depth .result) (the-depth .ensures),
+      ),
+      (
+        the-pre .1 .0,
+        formulas.left-ready (the-pre .1 .0) (a .steps .now) (a .e) (the-pre .1 .1) (getD (a .steps .now)
+            (a .e - 1) 0) refl (c .before .before .if1 .left) (the-binding .result) (the-binding .ensures .0) (the-depth .result) (the-depth .ensures),
+      ),
+    )
 
 depth-greater-requires : (t : ℕ) → depth-lts.Need-greater-requires (depth-calls t) (depth-at t) depth.Post
 depth-greater-requires t c κs = search needs
 
 depth-add-t15 : (t : ℕ) → depth-lts.Need-add-t15 (depth-calls t) (depth-at t) depth.Post
-depth-add-t15 t c = omega (arith, formulas.deep-small (c .before .before .before .before .before .before .before .before .pre .1 .0) (c .before .before .before .before .before .before .before .before .args .steps .now) (c .before .before .before .before .before .before .before .before .args .e) (c .before .before .before .before .before .before .before .before .pre .1 .1) (getD (c .before .before .before .before .before .before .before .before .args .steps .now) (c .before .before .before .before .before .before .before .before .args .e - 1) 0) refl (c .before .before .before .before .before .if1 .left) (c .before .before .before .before .binding .result) (c .before .before .before .before .binding .ensures .0) (c .before .before .before .depth .result) (c .before .before .before .depth .ensures) (c .before .before .depth2 .result) (c .before .before .depth2 .ensures) (c .before .greater .result) (c .before .greater .ensures))
+depth-add-t15 t c =
+    let the-pre = c .before .before .before .before .before .before .before .before .pre in
+    let a = c .before .before .before .before .before .before .before .before .args in
+    let the-binding = c .before .before .before .before .binding in
+    let the-depth = c .before .before .before .depth in
+    let the-depth2 = c .before .before .depth2 in
+    let the-greater = c .before .greater in
+    omega (
+      arith,
+      formulas.deep-small (the-pre .1 .0) (a .steps .now) (a .e) (the-pre .1 .1) (getD (a .steps .now)
+          (a .e - 1) 0) refl (c .before .before .before .before .before .if1 .left) (the-binding .result) (the-binding .ensures .0) (the-depth .result)
+          (the-depth .ensures) (the-depth2 .result) (the-depth2 .ensures) (the-greater .result) (the-greater .ensures),
+    )
 
 depth-returns-2 : (t : ℕ) → depth-lts.Need-returns-2 (depth-calls t) (depth-at t) depth.Post
-depth-returns-2 t c = λ bytes w. formulas.deeper bytes (c .before .before .before .before .before .before .before .before .args .steps .now) (c .before .before .before .before .before .before .before .before .args .e) w (getD (c .before .before .before .before .before .before .before .before .args .steps .now) (c .before .before .before .before .before .before .before .before .args .e - 1) 0) refl (c .before .before .before .before .before .if1 .left) (c .before .before .before .before .binding .result) (c .before .before .before .before .binding .ensures .0) (c .before .before .before .depth .result) (c .before .before .before .depth .ensures) (c .before .before .depth2 .result) (c .before .before .depth2 .ensures) (c .before .before .before .before .before .before .before .before .args .level) (c .before .greater .result) (c .before .greater .ensures) (c .if2 .taken)
+depth-returns-2 t c =
+    let a = c .before .before .before .before .before .before .before .before .args in
+    let the-binding = c .before .before .before .before .binding in
+    let the-depth = c .before .before .before .depth in
+    let the-depth2 = c .before .before .depth2 in
+    let the-greater = c .before .greater in
+    λ bytes w. formulas.deeper bytes (a .steps .now) (a .e) w (getD (a .steps .now)
+    (a .e - 1) 0) refl (c .before .before .before .before .before .if1 .left) (the-binding .result) (the-binding .ensures .0) (the-depth .result)
+    (the-depth .ensures) (the-depth2 .result) (the-depth2 .ensures) (a .level) (the-greater .result) (the-greater .ensures) (c .if2 .taken)
 
 depth-returns-3 : (t : ℕ) → depth-lts.Need-returns-3 (depth-calls t) (depth-at t) depth.Post
-depth-returns-3 t c = λ bytes w. formulas.as-deep bytes (c .before .before .before .before .before .before .before .before .args .steps .now) (c .before .before .before .before .before .before .before .before .args .e) w (getD (c .before .before .before .before .before .before .before .before .args .steps .now) (c .before .before .before .before .before .before .before .before .args .e - 1) 0) refl (c .before .before .before .before .before .if1 .left) (c .before .before .before .before .binding .result) (c .before .before .before .before .binding .ensures .0) (c .before .before .before .depth .result) (c .before .before .before .depth .ensures) (c .before .before .depth2 .result) (c .before .before .depth2 .ensures) (c .before .before .before .before .before .before .before .before .args .level) (c .before .greater .result) (c .before .greater .ensures) (c .if2 .left)
+depth-returns-3 t c =
+    let a = c .before .before .before .before .before .before .before .before .args in
+    let the-binding = c .before .before .before .before .binding in
+    let the-depth = c .before .before .before .depth in
+    let the-depth2 = c .before .before .depth2 in
+    let the-greater = c .before .greater in
+    λ bytes w. formulas.as-deep bytes (a .steps .now) (a .e) w (getD (a .steps .now)
+    (a .e - 1) 0) refl (c .before .before .before .before .before .if1 .left) (the-binding .result) (the-binding .ensures .0) (the-depth .result)
+    (the-depth .ensures) (the-depth2 .result) (the-depth2 .ensures) (a .level) (the-greater .result) (the-greater .ensures) (c .if2 .left)
 
 pub +depth-spec : {M : Type 1} → statement M
 +depth-spec = close μ-depth λ t. depth-lts.spec (depth-calls t)

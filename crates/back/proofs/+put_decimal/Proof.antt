@@ -58,7 +58,12 @@ put-decimal-same-length-2 : (t : ℕ) → put-decimal-lts.Need-same-length-2 (pu
 put-decimal-same-length-2 t c = c .before .before .put-decimal .kept .1 .0 ∙ c .before .before .before .before .before .before .put2 .kept .1 .0
 
 put-decimal-returns-2 : (t : ℕ) → put-decimal-lts.Need-returns-2 (put-decimal-calls t) (put-decimal-at t) put-decimal.Post
-put-decimal-returns-2 t c = pieces.decimal-more (c .before .before .before .before .before .before .before .before .before .before .args .v) (c .before .before .before .before .before .before .before .before .before .before .args .n) (c .before .before .before .before .before .before .before .before .before .before .args .out .now) (c .before .before .before .before .before .before .before .before .if1 .left) (c .before .before .before .before .before .before .put2 .result) (c .before .before .before .before .before .before .put2 .last .1 .0) (c .before .before .before .before .before .before .put2 .ensures) (c .before .before .put-decimal .result) (c .before .before .put-decimal .last .1 .0) (c .before .before .put-decimal .ensures)
+put-decimal-returns-2 t c =
+    let a = c .before .before .before .before .before .before .before .before .before .before .args in
+    let the-put2 = c .before .before .before .before .before .before .put2 in
+    let the-put-decimal = c .before .before .put-decimal in
+    pieces.decimal-more (a .v) (a .n) (a .out .now) (c .before .before .before .before .before .before .before .before .if1 .left) (the-put2 .result)
+    (the-put2 .last .1 .0) (the-put2 .ensures) (the-put-decimal .result) (the-put-decimal .last .1 .0) (the-put-decimal .ensures)
 
 pub +put-decimal-spec : {M : Type 1} → statement M
 +put-decimal-spec = close μ-put-decimal λ t. put-decimal-lts.spec (put-decimal-calls t)

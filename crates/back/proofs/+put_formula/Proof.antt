@@ -46,40 +46,124 @@ put-formula-cast-put-relation : (t : ℕ) → put-formula-lts.Need-cast-put-rela
 put-formula-cast-put-relation t c = omega (arith, c .if1 .taken)
 
 put-formula-put-relation-requires : (t : ℕ) → put-formula-lts.Need-put-relation-requires (put-formula-calls t) (put-formula-at t) put-formula.Post
-put-formula-put-relation-requires t c κs = (formulas.relation-stands (c .before .before .before .before .before .before .args .bytes .now) (c .before .before .before .before .before .before .args .steps .now) (c .before .before .before .before .before .before .args .e) (c .before .before .before .before .before .before .args .level) (c .before .before .before .before .before .before .args .n) (c .before .before .before .before .before .before .pre .1) (getD (c .before .before .before .before .before .before .args .steps .now) (c .before .before .before .before .before .before .args .e - 1) 0) refl (c .before .if1 .taken), formulas.relation-room (c .before .before .before .before .before .before .args .bytes .now) (c .before .before .before .before .before .before .args .steps .now) (c .before .before .before .before .before .before .args .e) (c .before .before .before .before .before .before .args .level) (c .before .before .before .before .before .before .args .n) (c .before .before .before .before .before .before .pre .1) (getD (c .before .before .before .before .before .before .args .steps .now) (c .before .before .before .before .before .before .args .e - 1) 0) refl (c .before .if1 .taken))
+put-formula-put-relation-requires t c κs =
+    let a = c .before .before .before .before .before .before .args in
+    let the-pre = c .before .before .before .before .before .before .pre in (
+      formulas.relation-stands (a .bytes .now) (a .steps .now) (a .e) (a .level) (a .n) (the-pre .1) (getD (a .steps .now)
+          (a .e - 1) 0) refl (c .before .if1 .taken),
+      formulas.relation-room (a .bytes .now) (a .steps .now) (a .e) (a .level) (a .n) (the-pre .1)
+          (getD (a .steps .now) (a .e - 1) 0) refl (c .before .if1 .taken),
+    )
 
 put-formula-same-length : (t : ℕ) → put-formula-lts.Need-same-length (put-formula-calls t) (put-formula-at t) put-formula.Post
 put-formula-same-length t c = c .before .before .put-relation .kept .1 .1 .0
 
 put-formula-returns : (t : ℕ) → put-formula-lts.Need-returns (put-formula-calls t) (put-formula-at t) put-formula.Post
-put-formula-returns t c = λ w. formulas.relation-wrote (c .before .before .before .before .before .before .before .before .before .args .bytes .now) (c .before .before .before .before .before .before .before .before .before .args .steps .now) (c .before .before .before .before .before .before .before .before .before .args .e) (c .before .before .before .before .before .before .before .before .before .args .level) (c .before .before .before .before .before .before .before .before .before .args .n) w (getD (c .before .before .before .before .before .before .before .before .before .args .steps .now) (c .before .before .before .before .before .before .before .before .before .args .e - 1) 0) refl (c .before .before .before .before .if1 .taken) (c .before .before .before .before .before .before .before .before .before .args .out .now) (c .before .before .put-relation .result) (c .before .before .put-relation .last .1 .1 .0) (c .before .before .put-relation .ensures)
+put-formula-returns t c =
+    let a = c .before .before .before .before .before .before .before .before .before .args in
+    let the-put-relation = c .before .before .put-relation in
+    λ w. formulas.relation-wrote (a .bytes .now) (a .steps .now) (a .e) (a .level) (a .n) w (getD (a .steps .now)
+    (a .e - 1) 0) refl (c .before .before .before .before .if1 .taken) (a .out .now) (the-put-relation .result) (the-put-relation .last .1 .1 .0)
+    (the-put-relation .ensures)
 
 put-formula-binding-requires : (t : ℕ) → put-formula-lts.Need-binding-requires (put-formula-calls t) (put-formula-at t) put-formula.Post
 put-formula-binding-requires t c κs = search needs
 
 put-formula-put-closing-requires : (t : ℕ) → put-formula-lts.Need-put-closing-requires (put-formula-calls t) (put-formula-at t) put-formula.Post
-put-formula-put-closing-requires t c κs = formulas.closing-room (c .before .before .before .before .before .before .before .args .bytes .now) (c .before .before .before .before .before .before .before .args .steps .now) (c .before .before .before .before .before .before .before .args .e) (c .before .before .before .before .before .before .before .args .level) (c .before .before .before .before .before .before .before .args .n) (c .before .before .before .before .before .before .before .pre .1) (getD (c .before .before .before .before .before .before .before .args .steps .now) (c .before .before .before .before .before .before .before .args .e - 1) 0) refl (c .before .before .if1 .left) (c .before .binding .result) (c .before .binding .ensures .0)
+put-formula-put-closing-requires t c κs =
+    let a = c .before .before .before .before .before .before .before .args in
+    let the-binding = c .before .binding in
+    formulas.closing-room (a .bytes .now) (a .steps .now) (a .e) (a .level) (a .n) (c .before .before .before .before .before .before .before .pre .1)
+    (getD (a .steps .now) (a .e - 1) 0) refl (c .before .before .if1 .left) (the-binding .result) (the-binding .ensures .0)
 
 put-formula-add-put-formula : (t : ℕ) → put-formula-lts.Need-add-put-formula (put-formula-calls t) (put-formula-at t) put-formula.Post
 put-formula-add-put-formula t c = omega (arith, c .before .before .before .before .binding .ensures .1)
 
 put-formula-put-formula-requires : (t : ℕ) → put-formula-lts.Need-put-formula-requires (put-formula-calls t) (put-formula-at t) put-formula.Post
-put-formula-put-formula-requires t c κs = (omega (arith, c .before .before .before .before .before .before .before .before .before .before .before .pre .0, formulas.some-step (c .before .before .before .before .before .before .before .before .before .before .before .args .bytes .now) (c .before .before .before .before .before .before .before .before .before .before .before .args .steps .now) (c .before .before .before .before .before .before .before .before .before .before .before .args .e) (c .before .before .before .before .before .before .before .before .before .before .before .pre .1 .ready)), formulas.right-room (c .before .before .before .before .before .before .before .before .before .before .before .args .bytes .now) (c .before .before .before .before .before .before .before .before .before .before .before .args .steps .now) (c .before .before .before .before .before .before .before .before .before .before .before .args .e) (c .before .before .before .before .before .before .before .before .before .before .before .args .level) (c .before .before .before .before .before .before .before .before .before .before .before .args .n) (c .before .before .before .before .before .before .before .before .before .before .before .pre .1) (getD (c .before .before .before .before .before .before .before .before .before .before .before .args .steps .now) (c .before .before .before .before .before .before .before .before .before .before .before .args .e - 1) 0) refl (c .before .before .before .before .before .before .if1 .left) (c .before .before .before .before .before .binding .result) (c .before .before .before .before .before .binding .ensures .0) (c .before .before .before .before .before .before .before .before .before .before .before .args .out .now) (c .before .before .before .put-closing .result) (c .before .before .before .put-closing .last .1 .1 .0) (c .before .before .before .put-closing .ensures))
+put-formula-put-formula-requires t c κs =
+    let the-pre = c .before .before .before .before .before .before .before .before .before .before .before .pre in
+    let a = c .before .before .before .before .before .before .before .before .before .before .before .args in
+    let the-binding = c .before .before .before .before .before .binding in
+    let the-put-closing = c .before .before .before .put-closing in (
+      omega (arith, the-pre .0, formulas.some-step (a .bytes .now) (a .steps .now) (a .e) (the-pre .1 .ready)),
+      formulas.right-room (a .bytes .now)
+          (a .steps .now) (a .e) (a .level) (a .n) (the-pre .1) (getD (a .steps .now)
+          (a .e - 1) 0) refl (c .before .before .before .before .before .before .if1 .left) (the-binding .result) (the-binding .ensures .0) (a .out .now)
+          (the-put-closing .result) (the-put-closing .last .1 .1 .0) (the-put-closing .ensures),
+    )
 
 put-formula-put-connective-requires : (t : ℕ) → put-formula-lts.Need-put-connective-requires (put-formula-calls t) (put-formula-at t) put-formula.Post
-put-formula-put-connective-requires t c κs = formulas.connective-room (c .before .before .before .before .before .before .before .before .before .before .before .before .before .before .before .args .bytes .now) (c .before .before .before .before .before .before .before .before .before .before .before .before .before .before .before .args .steps .now) (c .before .before .before .before .before .before .before .before .before .before .before .before .before .before .before .args .e) (c .before .before .before .before .before .before .before .before .before .before .before .before .before .before .before .args .level) (c .before .before .before .before .before .before .before .before .before .before .before .before .before .before .before .args .n) (c .before .before .before .before .before .before .before .before .before .before .before .before .before .before .before .pre .1) (getD (c .before .before .before .before .before .before .before .before .before .before .before .before .before .before .before .args .steps .now) (c .before .before .before .before .before .before .before .before .before .before .before .before .before .before .before .args .e - 1) 0) refl (c .before .before .before .before .before .before .before .before .before .before .if1 .left) (c .before .before .before .before .before .before .before .before .before .binding .result) (c .before .before .before .before .before .before .before .before .before .binding .ensures .0) (c .before .before .before .before .before .before .before .before .before .before .before .before .before .before .before .args .out .now) (c .before .before .before .before .before .before .before .put-closing .result) (c .before .before .before .before .before .before .before .put-closing .last .1 .1 .0) (c .before .before .before .before .before .before .before .put-closing .ensures) (c .before .before .before .put-formula .result) (c .before .before .before .put-formula .last .1 .1 .1 .1 .0) (c .before .before .before .put-formula .ensures)
+put-formula-put-connective-requires t c κs =
+    let a = c .before .before .before .before .before .before .before .before .before .before .before .before .before .before .before .args in
+    let the-binding = c .before .before .before .before .before .before .before .before .before .binding in
+    let the-put-closing = c .before .before .before .before .before .before .before .put-closing in
+    let the-put-formula = c .before .before .before .put-formula in
+    formulas.connective-room (a .bytes .now) (a .steps .now) (a .e) (a .level) (a .n)
+    (c .before .before .before .before .before .before .before .before .before .before .before .before .before .before .before .pre .1)
+    (getD (a .steps .now) (a .e - 1) 0) refl (c .before .before .before .before .before .before .before .before .before .before .if1 .left)
+    (the-binding .result) (the-binding .ensures .0) (a .out .now) (the-put-closing .result) (the-put-closing .last .1 .1 .0) (the-put-closing .ensures)
+    (the-put-formula .result) (the-put-formula .last .1 .1 .1 .1 .0) (the-put-formula .ensures)
 
 put-formula-put-formula-requires-2 : (t : ℕ) → put-formula-lts.Need-put-formula-requires-2 (put-formula-calls t) (put-formula-at t) put-formula.Post
-put-formula-put-formula-requires-2 t c κs = (omega (arith, c .before .before .before .before .before .before .before .before .before .before .before .before .before .before .before .before .before .before .before .pre .0, formulas.left-step (c .before .before .before .before .before .before .before .before .before .before .before .before .before .before .before .before .before .before .before .args .bytes .now) (c .before .before .before .before .before .before .before .before .before .before .before .before .before .before .before .before .before .before .before .args .steps .now) (c .before .before .before .before .before .before .before .before .before .before .before .before .before .before .before .before .before .before .before .args .e) (c .before .before .before .before .before .before .before .before .before .before .before .before .before .before .before .before .before .before .before .args .level) (c .before .before .before .before .before .before .before .before .before .before .before .before .before .before .before .before .before .before .before .args .n) (c .before .before .before .before .before .before .before .before .before .before .before .before .before .before .before .before .before .before .before .pre .1) (getD (c .before .before .before .before .before .before .before .before .before .before .before .before .before .before .before .before .before .before .before .args .steps .now) (c .before .before .before .before .before .before .before .before .before .before .before .before .before .before .before .before .before .before .before .args .e - 1) 0) refl (c .before .before .before .before .before .before .before .before .before .before .before .before .before .before .if1 .left) (c .before .before .before .before .before .before .before .before .before .before .before .before .before .binding .result) (c .before .before .before .before .before .before .before .before .before .before .before .before .before .binding .ensures .0) (c .before .before .before .before .before .before .before .before .before .before .before .before .before .before .before .before .before .before .before .args .out .now) (c .before .before .before .before .before .before .before .before .before .before .before .put-closing .result) (c .before .before .before .before .before .before .before .before .before .before .before .put-closing .last .1 .1 .0) (c .before .before .before .before .before .before .before .before .before .before .before .put-closing .ensures) (c .before .before .before .before .before .before .before .put-formula .result) (c .before .before .before .before .before .before .before .put-formula .last .1 .1 .1 .1 .0) (c .before .before .before .before .before .before .before .put-formula .ensures) (c .before .before .before .put-connective .result) (c .before .before .before .put-connective .last .1 .0) (c .before .before .before .put-connective .ensures)), formulas.left-room (c .before .before .before .before .before .before .before .before .before .before .before .before .before .before .before .before .before .before .before .args .bytes .now) (c .before .before .before .before .before .before .before .before .before .before .before .before .before .before .before .before .before .before .before .args .steps .now) (c .before .before .before .before .before .before .before .before .before .before .before .before .before .before .before .before .before .before .before .args .e) (c .before .before .before .before .before .before .before .before .before .before .before .before .before .before .before .before .before .before .before .args .level) (c .before .before .before .before .before .before .before .before .before .before .before .before .before .before .before .before .before .before .before .args .n) (c .before .before .before .before .before .before .before .before .before .before .before .before .before .before .before .before .before .before .before .pre .1) (getD (c .before .before .before .before .before .before .before .before .before .before .before .before .before .before .before .before .before .before .before .args .steps .now) (c .before .before .before .before .before .before .before .before .before .before .before .before .before .before .before .before .before .before .before .args .e - 1) 0) refl (c .before .before .before .before .before .before .before .before .before .before .before .before .before .before .if1 .left) (c .before .before .before .before .before .before .before .before .before .before .before .before .before .binding .result) (c .before .before .before .before .before .before .before .before .before .before .before .before .before .binding .ensures .0) (c .before .before .before .before .before .before .before .before .before .before .before .before .before .before .before .before .before .before .before .args .out .now) (c .before .before .before .before .before .before .before .before .before .before .before .put-closing .result) (c .before .before .before .before .before .before .before .before .before .before .before .put-closing .last .1 .1 .0) (c .before .before .before .before .before .before .before .before .before .before .before .put-closing .ensures) (c .before .before .before .before .before .before .before .put-formula .result) (c .before .before .before .before .before .before .before .put-formula .last .1 .1 .1 .1 .0) (c .before .before .before .before .before .before .before .put-formula .ensures) (c .before .before .before .put-connective .result) (c .before .before .before .put-connective .last .1 .0) (c .before .before .before .put-connective .ensures))
+put-formula-put-formula-requires-2 t c κs =
+    let the-pre = c .before .before .before .before .before .before .before .before .before .before .before .before .before .before .before .before .before .before .before .pre in
+    let a = c .before .before .before .before .before .before .before .before .before .before .before .before .before .before .before .before .before .before .before .args in
+    let the-binding = c .before .before .before .before .before .before .before .before .before .before .before .before .before .binding in
+    let the-put-closing = c .before .before .before .before .before .before .before .before .before .before .before .put-closing in
+    let the-put-formula = c .before .before .before .before .before .before .before .put-formula in
+    let the-put-connective = c .before .before .before .put-connective in (
+      omega (
+        arith,
+        the-pre .0,
+        formulas.left-step (a .bytes .now) (a .steps .now) (a .e) (a .level) (a .n) (the-pre .1) (getD (a .steps .now)
+            (a .e - 1) 0) refl (c .before .before .before .before .before .before .before .before .before .before .before .before .before .before .if1 .left)
+            (the-binding .result) (the-binding .ensures .0) (a .out .now) (the-put-closing .result) (the-put-closing .last .1 .1 .0) (the-put-closing .ensures)
+            (the-put-formula .result) (the-put-formula .last .1 .1 .1 .1 .0) (the-put-formula .ensures) (the-put-connective .result)
+            (the-put-connective .last .1 .0) (the-put-connective .ensures),
+      ),
+      formulas.left-room (a .bytes .now) (a .steps .now) (a .e) (a .level) (a .n)
+          (the-pre .1) (getD (a .steps .now)
+          (a .e - 1) 0) refl (c .before .before .before .before .before .before .before .before .before .before .before .before .before .before .if1 .left)
+          (the-binding .result) (the-binding .ensures .0) (a .out .now) (the-put-closing .result) (the-put-closing .last .1 .1 .0) (the-put-closing .ensures)
+          (the-put-formula .result) (the-put-formula .last .1 .1 .1 .1 .0) (the-put-formula .ensures) (the-put-connective .result)
+          (the-put-connective .last .1 .0) (the-put-connective .ensures),
+    )
 
 put-formula-put-opening-requires : (t : ℕ) → put-formula-lts.Need-put-opening-requires (put-formula-calls t) (put-formula-at t) put-formula.Post
-put-formula-put-opening-requires t c κs = formulas.opening-room (c .before .before .before .before .before .before .before .before .before .before .before .before .before .before .before .before .before .before .before .before .before .before .before .args .bytes .now) (c .before .before .before .before .before .before .before .before .before .before .before .before .before .before .before .before .before .before .before .before .before .before .before .args .steps .now) (c .before .before .before .before .before .before .before .before .before .before .before .before .before .before .before .before .before .before .before .before .before .before .before .args .e) (c .before .before .before .before .before .before .before .before .before .before .before .before .before .before .before .before .before .before .before .before .before .before .before .args .level) (c .before .before .before .before .before .before .before .before .before .before .before .before .before .before .before .before .before .before .before .before .before .before .before .args .n) (c .before .before .before .before .before .before .before .before .before .before .before .before .before .before .before .before .before .before .before .before .before .before .before .pre .1) (getD (c .before .before .before .before .before .before .before .before .before .before .before .before .before .before .before .before .before .before .before .before .before .before .before .args .steps .now) (c .before .before .before .before .before .before .before .before .before .before .before .before .before .before .before .before .before .before .before .before .before .before .before .args .e - 1) 0) refl (c .before .before .before .before .before .before .before .before .before .before .before .before .before .before .before .before .before .before .if1 .left) (c .before .before .before .before .before .before .before .before .before .before .before .before .before .before .before .before .before .binding .result) (c .before .before .before .before .before .before .before .before .before .before .before .before .before .before .before .before .before .binding .ensures .0) (c .before .before .before .before .before .before .before .before .before .before .before .before .before .before .before .before .before .before .before .before .before .before .before .args .out .now) (c .before .before .before .before .before .before .before .before .before .before .before .before .before .before .before .put-closing .result) (c .before .before .before .before .before .before .before .before .before .before .before .before .before .before .before .put-closing .last .1 .1 .0) (c .before .before .before .before .before .before .before .before .before .before .before .before .before .before .before .put-closing .ensures) (c .before .before .before .before .before .before .before .before .before .before .before .put-formula .result) (c .before .before .before .before .before .before .before .before .before .before .before .put-formula .last .1 .1 .1 .1 .0) (c .before .before .before .before .before .before .before .before .before .before .before .put-formula .ensures) (c .before .before .before .before .before .before .before .put-connective .result) (c .before .before .before .before .before .before .before .put-connective .last .1 .0) (c .before .before .before .before .before .before .before .put-connective .ensures) (c .before .before .before .put-formula2 .result) (c .before .before .before .put-formula2 .last .1 .1 .1 .1 .0) (c .before .before .before .put-formula2 .ensures)
+put-formula-put-opening-requires t c κs =
+    let a = c .before .before .before .before .before .before .before .before .before .before .before .before .before .before .before .before .before .before .before .before .before .before .before .args in
+    let the-binding = c .before .before .before .before .before .before .before .before .before .before .before .before .before .before .before .before .before .binding in
+    let the-put-closing = c .before .before .before .before .before .before .before .before .before .before .before .before .before .before .before .put-closing in
+    let the-put-formula = c .before .before .before .before .before .before .before .before .before .before .before .put-formula in
+    let the-put-connective = c .before .before .before .before .before .before .before .put-connective in
+    let the-put-formula2 = c .before .before .before .put-formula2 in
+    formulas.opening-room (a .bytes .now) (a .steps .now) (a .e) (a .level) (a .n)
+    (c .before .before .before .before .before .before .before .before .before .before .before .before .before .before .before .before .before .before .before .before .before .before .before .pre .1)
+    (getD (a .steps .now)
+    (a .e - 1) 0) refl (c .before .before .before .before .before .before .before .before .before .before .before .before .before .before .before .before .before .before .if1 .left)
+    (the-binding .result) (the-binding .ensures .0) (a .out .now) (the-put-closing .result) (the-put-closing .last .1 .1 .0) (the-put-closing .ensures)
+    (the-put-formula .result) (the-put-formula .last .1 .1 .1 .1 .0) (the-put-formula .ensures) (the-put-connective .result)
+    (the-put-connective .last .1 .0) (the-put-connective .ensures) (the-put-formula2 .result) (the-put-formula2 .last .1 .1 .1 .1 .0)
+    (the-put-formula2 .ensures)
 
 put-formula-same-length-2 : (t : ℕ) → put-formula-lts.Need-same-length-2 (put-formula-calls t) (put-formula-at t) put-formula.Post
 put-formula-same-length-2 t c = c .before .before .put-opening .kept .1 .1 .0 ∙ c .before .before .before .before .before .before .put-formula2 .kept .1 .1 .1 .1 .0 ∙ c .before .before .before .before .before .before .before .before .before .before .put-connective .kept .1 .0 ∙ c .before .before .before .before .before .before .before .before .before .before .before .before .before .before .put-formula .kept .1 .1 .1 .1 .0 ∙ c .before .before .before .before .before .before .before .before .before .before .before .before .before .before .before .before .before .before .put-closing .kept .1 .1 .0
 
 put-formula-returns-2 : (t : ℕ) → put-formula-lts.Need-returns-2 (put-formula-calls t) (put-formula-at t) put-formula.Post
-put-formula-returns-2 t c = λ w. formulas.both-wrote (c .before .before .before .before .before .before .before .before .before .before .before .before .before .before .before .before .before .before .before .before .before .before .before .before .before .before .args .bytes .now) (c .before .before .before .before .before .before .before .before .before .before .before .before .before .before .before .before .before .before .before .before .before .before .before .before .before .before .args .steps .now) (c .before .before .before .before .before .before .before .before .before .before .before .before .before .before .before .before .before .before .before .before .before .before .before .before .before .before .args .e) (c .before .before .before .before .before .before .before .before .before .before .before .before .before .before .before .before .before .before .before .before .before .before .before .before .before .before .args .level) (c .before .before .before .before .before .before .before .before .before .before .before .before .before .before .before .before .before .before .before .before .before .before .before .before .before .before .args .n) w (getD (c .before .before .before .before .before .before .before .before .before .before .before .before .before .before .before .before .before .before .before .before .before .before .before .before .before .before .args .steps .now) (c .before .before .before .before .before .before .before .before .before .before .before .before .before .before .before .before .before .before .before .before .before .before .before .before .before .before .args .e - 1) 0) refl (c .before .before .before .before .before .before .before .before .before .before .before .before .before .before .before .before .before .before .before .before .before .if1 .left) (c .before .before .before .before .before .before .before .before .before .before .before .before .before .before .before .before .before .before .before .before .binding .result) (c .before .before .before .before .before .before .before .before .before .before .before .before .before .before .before .before .before .before .before .before .binding .ensures .0) (c .before .before .before .before .before .before .before .before .before .before .before .before .before .before .before .before .before .before .before .before .before .before .before .before .before .before .args .out .now) (c .before .before .before .before .before .before .before .before .before .before .before .before .before .before .before .before .before .before .put-closing .result) (c .before .before .before .before .before .before .before .before .before .before .before .before .before .before .before .before .before .before .put-closing .last .1 .1 .0) (c .before .before .before .before .before .before .before .before .before .before .before .before .before .before .before .before .before .before .put-closing .ensures) (c .before .before .before .before .before .before .before .before .before .before .before .before .before .before .put-formula .result) (c .before .before .before .before .before .before .before .before .before .before .before .before .before .before .put-formula .last .1 .1 .1 .1 .0) (c .before .before .before .before .before .before .before .before .before .before .before .before .before .before .put-formula .ensures) (c .before .before .before .before .before .before .before .before .before .before .put-connective .result) (c .before .before .before .before .before .before .before .before .before .before .put-connective .last .1 .0) (c .before .before .before .before .before .before .before .before .before .before .put-connective .ensures) (c .before .before .before .before .before .before .put-formula2 .result) (c .before .before .before .before .before .before .put-formula2 .last .1 .1 .1 .1 .0) (c .before .before .before .before .before .before .put-formula2 .ensures) (c .before .before .put-opening .result) (c .before .before .put-opening .last .1 .1 .0) (c .before .before .put-opening .ensures)
+put-formula-returns-2 t c =
+    let a = c .before .before .before .before .before .before .before .before .before .before .before .before .before .before .before .before .before .before .before .before .before .before .before .before .before .before .args in
+    let the-binding = c .before .before .before .before .before .before .before .before .before .before .before .before .before .before .before .before .before .before .before .before .binding in
+    let the-put-closing = c .before .before .before .before .before .before .before .before .before .before .before .before .before .before .before .before .before .before .put-closing in
+    let the-put-formula = c .before .before .before .before .before .before .before .before .before .before .before .before .before .before .put-formula in
+    let the-put-connective = c .before .before .before .before .before .before .before .before .before .before .put-connective in
+    let the-put-formula2 = c .before .before .before .before .before .before .put-formula2 in
+    let the-put-opening = c .before .before .put-opening in
+    λ w. formulas.both-wrote (a .bytes .now) (a .steps .now) (a .e) (a .level) (a .n) w (getD (a .steps .now)
+    (a .e - 1) 0) refl (c .before .before .before .before .before .before .before .before .before .before .before .before .before .before .before .before .before .before .before .before .before .if1 .left)
+    (the-binding .result) (the-binding .ensures .0) (a .out .now) (the-put-closing .result) (the-put-closing .last .1 .1 .0) (the-put-closing .ensures)
+    (the-put-formula .result) (the-put-formula .last .1 .1 .1 .1 .0) (the-put-formula .ensures) (the-put-connective .result)
+    (the-put-connective .last .1 .0) (the-put-connective .ensures) (the-put-formula2 .result) (the-put-formula2 .last .1 .1 .1 .1 .0)
+    (the-put-formula2 .ensures) (the-put-opening .result) (the-put-opening .last .1 .1 .0) (the-put-opening .ensures)
 
 pub +put-formula-spec : {M : Type 1} → statement M
 +put-formula-spec = close μ-put-formula λ t. put-formula-lts.spec (put-formula-calls t)

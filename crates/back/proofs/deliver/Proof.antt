@@ -34,19 +34,17 @@ same-length : tie.Need-same-length
 same-length c = search needs
 
 returns-2 : tie.Need-returns-2
-returns-2 c = λ w. replies.deliver-text (c .before .before .before .before .before .before .before .before .before .before .before .before .before .args .bytes .now) (c .before .before .before .before .before .before .before .before .before .before .before .before .before .args .steps .now) (c .before .before .before .before .before .before .before .before .before .before .before .before .before .args .out .now) w (c .before .before .before .before .before .before .before .before .before .before .before .before .before .pre .1) (c .before .before .before .before .before .before .before .before .put-formula .result) (c .before .before .before .before .before .before .before .before .put-formula .last .1 .1 .1 .1 .0) (c .before .before .before .before .before .before .before .before .put-formula .ensures) (c .before .before .before .before .before .before .if1 .left) (c .before .before .store .last .0) (c .before .before .store .ensures .1)
+returns-2 c =
+    let a = c .before .before .before .before .before .before .before .before .before .before .before .before .before .args in
+    let the-put-formula = c .before .before .before .before .before .before .before .before .put-formula in
+    let the-store = c .before .before .store in
+    λ w. replies.deliver-text (a .bytes .now) (a .steps .now)
+    (a .out .now) w (c .before .before .before .before .before .before .before .before .before .before .before .before .before .pre .1)
+    (the-put-formula .result) (the-put-formula .last .1 .1 .1 .1 .0) (the-put-formula .ensures)
+    (c .before .before .before .before .before .before .if1 .left) (the-store .last .0) (the-store .ensures .1)
 
 pub deliver-spec : {M : Type 1} → statement M
 deliver-spec =
     tie.close
-    (tie.spec
-    slice-aggregate-put-formula
-    put-formula-requires
-    sub-size
-    returns
-    sub-store
-    part-store-start
-    part-store-end
-    store-requires
-    same-length
+    (tie.spec slice-aggregate-put-formula put-formula-requires sub-size returns sub-store part-store-start part-store-end store-requires same-length
     returns-2)

@@ -27,7 +27,12 @@ loop-less : tie.Need-loop-less Inv-loop μ-loop
 loop-less c = omega (arith, c .before .before .before .before .before .loop-test .taken)
 
 loop-again : tie.Need-loop-again Inv-loop μ-loop
-loop-again c = pieces.put-next (c .before .before .before .before .before .before .before .before .before .args .s .now) (c .before .before .before .before .before .before .before .before .before .args .n) (c .before .before .before .before .before .before .before .before .before .args .out .now) (c .before .before .before .before .before .before .loop .out) (c .before .before .before .before .before .before .loop .i) (c .before .before .before .before .before .before .loop .k) (c .before .before .before .before .before .before .loop .inv) (c .before .before .before .before .before .loop-test .taken) (c .before .before .put .result) (c .before .before .put .last .1 .0) (c .before .before .put .ensures)
+loop-again c =
+    let a = c .before .before .before .before .before .before .before .before .before .args in
+    let l = c .before .before .before .before .before .before .loop in
+    let the-put = c .before .before .put in
+    pieces.put-next (a .s .now) (a .n) (a .out .now) (l .out) (l .i) (l .k) (l .inv) (c .before .before .before .before .before .loop-test .taken)
+    (the-put .result) (the-put .last .1 .0) (the-put .ensures)
 
 same-length : tie.Need-same-length Inv-loop μ-loop
 same-length c = pieces.piece-length (drop (c .before .loop .i) (c .before .before .before .before .args .s .now)) (c .before .before .before .before .args .n) (c .before .loop .k) (c .before .before .before .before .args .out .now) (c .before .loop .out) (c .before .loop .inv .piece)
@@ -38,14 +43,4 @@ returns c = pieces.put-end (c .before .before .before .before .args .s .now) (c 
 pub put-all-spec : {M : Type 1} → statement M
 put-all-spec =
     tie.close
-    (tie.spec
-    Inv-loop
-    μ-loop
-    loop-holds
-    sub-i
-    shared-slice-read-put
-    put-requires
-    loop-less
-    loop-again
-    same-length
-    returns)
+    (tie.spec Inv-loop μ-loop loop-holds sub-i shared-slice-read-put put-requires loop-less loop-again same-length returns)

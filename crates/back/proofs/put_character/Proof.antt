@@ -60,26 +60,18 @@ same-length-4 : tie.Need-same-length-4
 same-length-4 c = search needs
 
 returns-4 : tie.Need-returns-4
-returns-4 c = rw (parts.character-coded (c .before .before .before .before .before .before .before .before .before .before .before .before .before .before .args .b) (c .before .before .before .before .before .before .before .before .before .before .before .before .if1 .left) (c .before .before .before .before .before .before .before .before .before .before .before .if2 .left) (sym (c .before .before .before .before .before .before .before .before .before .before .is-printed .ensures) ∙ c .before .before .before .before .before .before .before .before .before .if3 .left)) (pieces.before (92 ∷ 120 ∷ []) (hexDigit (c .before .before .before .before .before .before .before .before .before .before .before .before .before .before .args .b / 16) ∷ hexDigit (c .before .before .before .before .before .before .before .before .before .before .before .before .before .before .args .b % 16) ∷ []) (c .before .before .before .before .before .before .before .before .before .before .before .before .before .before .args .n) (c .before .before .before .before .before .before .before .put-hex .result) (c .before .before .put-all3 .result) (c .before .before .before .before .before .before .before .before .before .before .before .before .before .before .args .out .now) (c .before .before .before .before .before .before .before .put-hex .last .1 .0) (c .before .before .put-all3 .last .1 .0) (c .before .before .before .before .before .before .before .put-hex .ensures) (c .before .before .put-all3 .ensures))
+returns-4 c =
+    let a = c .before .before .before .before .before .before .before .before .before .before .before .before .before .before .args in
+    let the-put-hex = c .before .before .before .before .before .before .before .put-hex in
+    let the-put-all3 = c .before .before .put-all3 in
+    rw (parts.character-coded (a .b) (c .before .before .before .before .before .before .before .before .before .before .before .before .if1 .left)
+    (c .before .before .before .before .before .before .before .before .before .before .before .if2 .left)
+    (sym (c .before .before .before .before .before .before .before .before .before .before .is-printed .ensures) ∙ c .before .before .before .before .before .before .before .before .before .if3 .left))
+    (pieces.before (92 ∷ 120 ∷ []) (hexDigit (a .b / 16) ∷ hexDigit (a .b % 16) ∷ []) (a .n) (the-put-hex .result) (the-put-all3 .result) (a .out .now)
+    (the-put-hex .last .1 .0) (the-put-all3 .last .1 .0) (the-put-hex .ensures) (the-put-all3 .ensures))
 
 pub put-character-spec : {M : Type 1} → statement M
 put-character-spec =
     tie.close
-    (tie.spec
-    slice-aggregate-put-all
-    put-all-requires
-    same-length
-    returns
-    slice-aggregate-put-all-2
-    put-all-requires-2
-    same-length-2
-    returns-2
-    is-printed-requires
-    put-requires
-    same-length-3
-    returns-3
-    put-hex-requires
-    slice-aggregate-put-all-3
-    put-all-requires-3
-    same-length-4
-    returns-4)
+    (tie.spec slice-aggregate-put-all put-all-requires same-length returns slice-aggregate-put-all-2 put-all-requires-2 same-length-2 returns-2
+    is-printed-requires put-requires same-length-3 returns-3 put-hex-requires slice-aggregate-put-all-3 put-all-requires-3 same-length-4 returns-4)

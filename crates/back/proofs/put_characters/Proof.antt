@@ -28,7 +28,12 @@ loop-less : tie.Need-loop-less Inv-loop μ-loop
 loop-less c = omega (arith, c .before .before .before .before .before .loop-test .taken)
 
 loop-again : tie.Need-loop-again Inv-loop μ-loop
-loop-again c = pieces.quote-next (c .before .before .before .before .before .before .before .before .before .args .s .now) (c .before .before .before .before .before .before .before .before .before .args .n) (c .before .before .before .before .before .before .before .before .before .args .out .now) (c .before .before .before .before .before .before .loop .out) (c .before .before .before .before .before .before .loop .i) (c .before .before .before .before .before .before .loop .k) (c .before .before .before .before .before .before .loop .inv) (c .before .before .before .before .before .loop-test .taken) (c .before .before .put-character .result) (c .before .before .put-character .last .1 .0) (c .before .before .put-character .ensures)
+loop-again c =
+    let a = c .before .before .before .before .before .before .before .before .before .args in
+    let l = c .before .before .before .before .before .before .loop in
+    let the-put-character = c .before .before .put-character in
+    pieces.quote-next (a .s .now) (a .n) (a .out .now) (l .out) (l .i) (l .k) (l .inv) (c .before .before .before .before .before .loop-test .taken)
+    (the-put-character .result) (the-put-character .last .1 .0) (the-put-character .ensures)
 
 same-length : tie.Need-same-length Inv-loop μ-loop
 same-length c = pieces.piece-length (quoted (drop (c .before .loop .i) (c .before .before .before .before .args .s .now))) (c .before .before .before .before .args .n) (c .before .loop .k) (c .before .before .before .before .args .out .now) (c .before .loop .out) (c .before .loop .inv .piece)
@@ -39,14 +44,4 @@ returns c = pieces.quote-end (c .before .before .before .before .args .s .now) (
 pub put-characters-spec : {M : Type 1} → statement M
 put-characters-spec =
     tie.close
-    (tie.spec
-    Inv-loop
-    μ-loop
-    loop-holds
-    sub-i
-    shared-slice-read-put-character
-    put-character-requires
-    loop-less
-    loop-again
-    same-length
-    returns)
+    (tie.spec Inv-loop μ-loop loop-holds sub-i shared-slice-read-put-character put-character-requires loop-less loop-again same-length returns)

@@ -31,12 +31,4 @@ returns-2 c = rw (← parts.connective-or (c .before .before .before .before .be
 pub put-connective-spec : {M : Type 1} → statement M
 put-connective-spec =
     tie.close
-    (tie.spec
-    slice-aggregate-put-all
-    put-all-requires
-    same-length
-    returns
-    slice-aggregate-put-all-2
-    put-all-requires-2
-    same-length-2
-    returns-2)
+    (tie.spec slice-aggregate-put-all put-all-requires same-length returns slice-aggregate-put-all-2 put-all-requires-2 same-length-2 returns-2)

@@ -20,15 +20,16 @@ same-length : tie.Need-same-length
 same-length c = search needs
 
 returns : tie.Need-returns
-returns c = pieces.hex-piece (c .before .before .before .before .before .before .before .before .before .before .before .args .b) (c .before .before .before .before .before .before .before .before .before .before .before .args .n) (c .before .before .before .before .before .before .before .put .result) (c .before .before .put2 .result) (c .before .before .before .before .before .before .before .before .before .before .before .args .out .now) (c .before .before .before .before .before .before .before .put .last .1 .0) (c .before .before .put2 .last .1 .0) (c .before .before .before .before .before .before .before .before .before .hex-digit .result) (c .before .before .before .before .hex-digit2 .result) (c .before .before .before .before .before .before .before .before .before .hex-digit .ensures) (c .before .before .before .before .hex-digit2 .ensures) (c .before .before .before .before .before .before .before .put .ensures) (c .before .before .put2 .ensures)
+returns c =
+    let a = c .before .before .before .before .before .before .before .before .before .before .before .args in
+    let the-hex-digit = c .before .before .before .before .before .before .before .before .before .hex-digit in
+    let the-put = c .before .before .before .before .before .before .before .put in
+    let the-hex-digit2 = c .before .before .before .before .hex-digit2 in
+    let the-put2 = c .before .before .put2 in
+    pieces.hex-piece (a .b) (a .n) (the-put .result) (the-put2 .result) (a .out .now) (the-put .last .1 .0) (the-put2 .last .1 .0) (the-hex-digit .result)
+    (the-hex-digit2 .result) (the-hex-digit .ensures) (the-hex-digit2 .ensures) (the-put .ensures) (the-put2 .ensures)
 
 pub put-hex-spec : {M : Type 1} → statement M
 put-hex-spec =
     tie.close
-    (tie.spec
-    hex-digit-requires
-    put-requires
-    hex-digit-requires-2
-    put-requires-2
-    same-length
-    returns)
+    (tie.spec hex-digit-requires put-requires hex-digit-requires-2 put-requires-2 same-length returns)

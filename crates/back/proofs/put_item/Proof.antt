@@ -24,13 +24,31 @@ put-hex-requires-2 : tie.Need-put-hex-requires-2
 put-hex-requires-2 c κs = omega (arith, c .before .before .before .before .before .before .before .before .pre, ap length (parts.item-coded (c .before .before .before .before .before .before .before .before .args .id) (c .before .before .before .before .before .before .row-of .result) (c .before .before .before .before .before .before .row-of .ensures) (omega arith) (c .before .before .before .before .before .if1 .taken)), c .before .before .before .put-hex .ensures .place)
 
 put-requires : tie.Need-put-requires
-put-requires c κs = omega (arith, c .before .before .before .before .before .before .before .before .before .before .before .before .pre, ap length (parts.item-coded (c .before .before .before .before .before .before .before .before .before .before .before .before .args .id) (c .before .before .before .before .before .before .before .before .before .before .row-of .result) (c .before .before .before .before .before .before .before .before .before .before .row-of .ensures) (omega arith) (c .before .before .before .before .before .before .before .before .before .if1 .taken)), c .before .before .before .before .before .before .before .put-hex .ensures .place, c .before .before .before .put-hex2 .ensures .place)
+put-requires c κs =
+    let the-row-of = c .before .before .before .before .before .before .before .before .before .before .row-of in
+    omega (
+      arith,
+      c .before .before .before .before .before .before .before .before .before .before .before .before .pre,
+      ap length (parts.item-coded (c .before .before .before .before .before .before .before .before .before .before .before .before .args .id)
+          (the-row-of .result) (the-row-of .ensures) (omega arith) (c .before .before .before .before .before .before .before .before .before .if1 .taken)),
+      c .before .before .before .before .before .before .before .put-hex .ensures .place,
+      c .before .before .before .put-hex2 .ensures .place,
+    )
 
 same-length : tie.Need-same-length
 same-length c = search needs
 
 returns : tie.Need-returns
-returns c = pieces.coded-piece (c .before .before .before .before .before .before .before .before .before .before .before .before .before .before .before .args .id) (c .before .before .before .before .before .before .before .before .before .before .before .before .before .row-of .result) (c .before .before .before .before .before .before .before .before .before .before .before .before .before .row-of .ensures) (omega arith) (c .before .before .before .before .before .before .before .before .before .before .before .before .if1 .taken) (c .before .before .before .before .before .before .before .before .before .before .before .before .before .before .before .args .n) (c .before .before .before .before .before .before .before .before .before .before .put-hex .result) (c .before .before .before .before .before .before .put-hex2 .result) (c .before .before .put .result) (c .before .before .before .before .before .before .before .before .before .before .before .before .before .before .before .args .out .now) (c .before .before .before .before .before .before .before .before .before .before .put-hex .last .1 .0) (c .before .before .before .before .before .before .put-hex2 .last .1 .0) (c .before .before .put .last .1 .0) (c .before .before .before .before .before .before .before .before .before .before .put-hex .ensures) (c .before .before .before .before .before .before .put-hex2 .ensures) (c .before .before .put .ensures)
+returns c =
+    let a = c .before .before .before .before .before .before .before .before .before .before .before .before .before .before .before .args in
+    let the-row-of = c .before .before .before .before .before .before .before .before .before .before .before .before .before .row-of in
+    let the-put-hex = c .before .before .before .before .before .before .before .before .before .before .put-hex in
+    let the-put-hex2 = c .before .before .before .before .before .before .put-hex2 in
+    let the-put = c .before .before .put in
+    pieces.coded-piece (a .id) (the-row-of .result) (the-row-of .ensures) (omega arith)
+    (c .before .before .before .before .before .before .before .before .before .before .before .before .if1 .taken) (a .n) (the-put-hex .result)
+    (the-put-hex2 .result) (the-put .result) (a .out .now) (the-put-hex .last .1 .0) (the-put-hex2 .last .1 .0) (the-put .last .1 .0) (the-put-hex .ensures)
+    (the-put-hex2 .ensures) (the-put .ensures)
 
 array-share-prefix-letters : tie.Need-array-share-prefix-letters
 array-share-prefix-letters c = parts.letters-within (c .before .before .before .before .args .id) (c .before .before .row-of .result) (c .before .before .row-of .ensures)
@@ -50,17 +68,5 @@ returns-2 c = rw (← parts.item-named (c .before .before .before .before .befor
 pub put-item-spec : {M : Type 1} → statement M
 put-item-spec =
     tie.close
-    (tie.spec
-    row-of-requires
-    cast-put-hex
-    put-hex-requires
-    cast-put-hex-2
-    put-hex-requires-2
-    put-requires
-    same-length
-    returns
-    array-share-prefix-letters
-    slice-aggregate-put-all
-    put-all-requires
-    same-length-2
-    returns-2)
+    (tie.spec row-of-requires cast-put-hex put-hex-requires cast-put-hex-2 put-hex-requires-2 put-requires same-length returns
+    array-share-prefix-letters slice-aggregate-put-all put-all-requires same-length-2 returns-2)

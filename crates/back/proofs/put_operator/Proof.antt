@@ -82,28 +82,6 @@ returns-6 c = rw (← parts.operator-5 (c .before .before .before .before .befor
 pub put-operator-spec : {M : Type 1} → statement M
 put-operator-spec =
     tie.close
-    (tie.spec
-    slice-aggregate-put-all
-    put-all-requires
-    same-length
-    returns
-    slice-aggregate-put-all-2
-    put-all-requires-2
-    same-length-2
-    returns-2
-    slice-aggregate-put-all-3
-    put-all-requires-3
-    same-length-3
-    returns-3
-    slice-aggregate-put-all-4
-    put-all-requires-4
-    same-length-4
-    returns-4
-    slice-aggregate-put-all-5
-    put-all-requires-5
-    same-length-5
-    returns-5
-    slice-aggregate-put-all-6
-    put-all-requires-6
-    same-length-6
-    returns-6)
+    (tie.spec slice-aggregate-put-all put-all-requires same-length returns slice-aggregate-put-all-2 put-all-requires-2 same-length-2 returns-2
+    slice-aggregate-put-all-3 put-all-requires-3 same-length-3 returns-3 slice-aggregate-put-all-4 put-all-requires-4 same-length-4 returns-4
+    slice-aggregate-put-all-5 put-all-requires-5 same-length-5 returns-5 slice-aggregate-put-all-6 put-all-requires-6 same-length-6 returns-6)

@@ -20,7 +20,15 @@ same-length : tie.Need-same-length
 same-length c = search needs
 
 returns : tie.Need-returns
-returns c = pieces.before (34 ∷ []) (quoted (c .before .before .before .before .before .before .before .before .before .before .before .before .before .before .args .s .now) ++ 34 ∷ []) (c .before .before .before .before .before .before .before .before .before .before .before .before .before .before .args .n) (c .before .before .before .before .before .before .put-characters .result) (c .before .before .put2 .result) (c .before .before .before .before .before .before .before .before .before .before .before .before .before .before .args .out .now) (c .before .before .before .before .before .before .put-characters .last .1 .0) (c .before .before .put2 .last .1 .0) (pieces.before (quoted (c .before .before .before .before .before .before .before .before .before .before .before .before .before .before .args .s .now)) (34 ∷ []) (c .before .before .before .before .before .before .before .before .before .before .before .before .before .before .args .n) (c .before .before .before .before .before .before .before .before .before .before .put .result) (c .before .before .before .before .before .before .put-characters .result) (c .before .before .before .before .before .before .before .before .before .before .before .before .before .before .args .out .now) (c .before .before .before .before .before .before .before .before .before .before .put .last .1 .0) (c .before .before .before .before .before .before .put-characters .last .1 .0) (c .before .before .before .before .before .before .before .before .before .before .put .ensures) (c .before .before .before .before .before .before .put-characters .ensures)) (c .before .before .put2 .ensures)
+returns c =
+    let a = c .before .before .before .before .before .before .before .before .before .before .before .before .before .before .args in
+    let the-put = c .before .before .before .before .before .before .before .before .before .before .put in
+    let the-put-characters = c .before .before .before .before .before .before .put-characters in
+    let the-put2 = c .before .before .put2 in
+    pieces.before (34 ∷ []) (quoted (a .s .now) ++ 34 ∷ []) (a .n) (the-put-characters .result) (the-put2 .result) (a .out .now)
+    (the-put-characters .last .1 .0) (the-put2 .last .1 .0) (pieces.before (quoted (a .s .now)) (34 ∷ []) (a .n) (the-put .result)
+    (the-put-characters .result) (a .out .now) (the-put .last .1 .0) (the-put-characters .last .1 .0) (the-put .ensures) (the-put-characters .ensures))
+    (the-put2 .ensures)
 
 pub put-string-spec : {M : Type 1} → statement M
 put-string-spec =

@@ -4,7 +4,7 @@ use Prim.Native.Nat.{_-_}
 use native.Mathlib.Omega.{arith}
 use lib.ListN.{length}
 use borrow.Author.Needs.{needs}
-use Rattle.back.proofs.Marks as marks
+use Rattle.writing.proofs.Marks as marks
 use Rattle.back.proofs.size_unmarked.Statement.{statement}
 use Rattle.back.proofs.size_unmarked.Tie as tie
 
@@ -74,25 +74,5 @@ loop-again-3 c = marks.pass-rel (c .before .before .before .before .before .befo
 pub size-unmarked-spec : {M : Type 1} → statement M
 size-unmarked-spec =
     tie.close
-    (tie.spec
-    Inv-loop
-    μ-loop
-    loop-holds
-    read-token-requires
-    enum-told
-    returns
-    enum-told-2
-    returns-2
-    enum-told-3
-    add-at
-    loop-less
-    loop-again
-    enum-told-4
-    add-at-2
-    loop-less-2
-    loop-again-2
-    enum-known-t
-    add-at-3
-    add-at-4
-    loop-less-3
-    loop-again-3)
+    (tie.spec Inv-loop μ-loop loop-holds read-token-requires enum-told returns enum-told-2 returns-2 enum-told-3 add-at loop-less loop-again
+    enum-told-4 add-at-2 loop-less-2 loop-again-2 enum-known-t add-at-3 add-at-4 loop-less-3 loop-again-3)

@@ -26,7 +26,14 @@ same-length : tie.Need-same-length
 same-length c = search needs
 
 returns : tie.Need-returns
-returns c = replies.whole-answer (c .before .before .before .before .before .before .before .before .before .before .before .before .before .args .bytes .now) (c .before .before .before .before .before .before .before .before .before .parse .last .1 .0) (c .before .before .before .before .before .before .before .before .before .parse .result) (λ j. c .before .before .before .before .before .before .before .before .before .before .before .before .shared-slice-known .given j .fits) (c .before .before .before .before .before .before .before .before .before .parse .ensures) (c .before .before .before .before .before .before .if1 .taken) (c .before .before .answered .result) (c .before .before .before .before .before .before .before .before .before .before .before .before .before .args .out .now) (c .before .before .answered .last .1 .1 .0) (c .before .before .answered .ensures)
+returns c =
+    let a = c .before .before .before .before .before .before .before .before .before .before .before .before .before .args in
+    let the-parse = c .before .before .before .before .before .before .before .before .before .parse in
+    let the-answered = c .before .before .answered in
+    replies.whole-answer (a .bytes .now) (the-parse .last .1 .0) (the-parse .result)
+    (λ j. c .before .before .before .before .before .before .before .before .before .before .before .before .shared-slice-known .given j .fits)
+    (the-parse .ensures) (c .before .before .before .before .before .before .if1 .taken) (the-answered .result) (a .out .now) (the-answered .last .1 .1 .0)
+    (the-answered .ensures)
 
 returns-2 : tie.Need-returns-2
 returns-2 c = replies.refused-answer (c .before .before .before .before .before .before .before .args .bytes .now) (c .before .before .before .parse .last .1 .0) (c .before .before .before .parse .result) (λ j. c .before .before .before .before .before .before .shared-slice-known .given j .fits) (c .before .before .before .parse .ensures) (c .if1 .left) (c .before .before .before .before .before .before .before .args .out .now)
@@ -34,13 +41,4 @@ returns-2 c = replies.refused-answer (c .before .before .before .before .before 
 pub to-text-spec : {M : Type 1} → statement M
 to-text-spec =
     tie.close
-    (tie.spec
-    slice-aggregate-parse
-    parse-requires
-    sub-answered
-    part-answered-start
-    part-answered-end
-    answered-requires
-    same-length
-    returns
-    returns-2)
+    (tie.spec slice-aggregate-parse parse-requires sub-answered part-answered-start part-answered-end answered-requires same-length returns returns-2)

@@ -52,18 +52,6 @@ returns-3 c = c .number32 .ensures ∙ parts.four-bytes (c .before .before .befo
 pub value-spec : {M : Type 1} → statement M
 value-spec =
     tie.close
-    (tie.spec
-    shared-slice-read-result
-    cast-result
-    returns
-    shared-slice-read-number16
-    shared-slice-read-number16-2
-    number16-requires
-    cast-result-2
-    returns-2
-    shared-slice-read-number32
-    shared-slice-read-number32-2
-    shared-slice-read-number32-3
-    shared-slice-read-number32-4
-    number32-requires
+    (tie.spec shared-slice-read-result cast-result returns shared-slice-read-number16 shared-slice-read-number16-2 number16-requires cast-result-2
+    returns-2 shared-slice-read-number32 shared-slice-read-number32-2 shared-slice-read-number32-3 shared-slice-read-number32-4 number32-requires
     returns-3)

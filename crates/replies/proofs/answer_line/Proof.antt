@@ -1,87 +1,86 @@
+use mathlib.Core.Path.{_≡_, refl, sym, ap, _∙_}
+use Prim.Native.Nat.{_-_}
+use native.Mathlib.Omega.{arith}
+use lib.ListN.{length, drop, length-drop}
+use lib.Seq.{length-take-le, take-all}
+use borrow.Author.Needs.{needs}
+use Rattle.packet.specs.Names.{bytesOf}
+use Rattle.replies.proofs.LineLaws as laws
 use borrow.Author.Needs.{needs}
 use Rattle.replies.proofs.answer_line.Statement.{statement}
 use Rattle.replies.proofs.answer_line.Tie as tie
-use Rattle.replies.proofs.answer_line.Reads as reads
-use Rattle.replies.proofs.answer_line.Lts as lts
-use Rattle.replies.proofs.begins.Reads as begins-reads
-use Rattle.replies.proofs.reply_to_hex.Reads as reply-to-hex-reads
-use Rattle.replies.proofs.reply_to_text.Reads as reply-to-text-reads
 
--- src/lib.rt:275:21
 slice-aggregate-begins : tie.Need-slice-aggregate-begins
 slice-aggregate-begins c = search needs
 
--- src/lib.rt:275:8
 begins-requires : tie.Need-begins-requires
 begins-requires c κs = search needs
 
--- src/lib.rt:277:46
 sub-reply-to-text : tie.Need-sub-reply-to-text
 sub-reply-to-text c = search needs
 
--- src/lib.rt:277:46
 part-reply-to-text-start : tie.Need-part-reply-to-text-start
 part-reply-to-text-start c = search needs
 
--- src/lib.rt:277:46
 part-reply-to-text-end : tie.Need-part-reply-to-text-end
 part-reply-to-text-end c = search needs
 
--- src/lib.rt:277:32
 reply-to-text-requires : tie.Need-reply-to-text-requires
 reply-to-text-requires c κs = search needs
 
--- src/lib.rt:277:13
 same-length : tie.Need-same-length
 same-length c = search needs
 
--- src/lib.rt:277:13
 returns : tie.Need-returns
-returns c = ?
+unfolding bytesOf
+returns c = 
+    let a = c .before .before .before .before .before .before .before .before .before .before .before .args in
+    laws.text-first (a .line .now) (a .text .now) (sym (c .before .before .before .before .before .before .before .begins .ensures) ∙ c .before .before .before .before .before .before .if1 .taken) _ _ (c .before .before .reply-to-text .result) (take-all (length (a .line .now) - 5) (drop 5 (a .line .now)) (omega (arith, length-drop 5 (a .line .now)))) (c .before .before .reply-to-text .ensures)
 
--- src/lib.rt:279:9
 returns-2 : tie.Need-returns-2
-returns-2 c = ?
+unfolding bytesOf
+returns-2 c = 
+    let a = c .before .before .before .before .before .before .args in
+    laws.text-short (a .line .now) (a .text .now) (sym (c .before .before .begins .ensures) ∙ c .before .if1 .taken) (c .if2 .left)
 
--- src/lib.rt:281:21
 slice-aggregate-begins-2 : tie.Need-slice-aggregate-begins-2
 slice-aggregate-begins-2 c = search needs
 
--- src/lib.rt:281:8
 begins-requires-2 : tie.Need-begins-requires-2
 begins-requires-2 c κs = search needs
 
--- src/lib.rt:283:33
 sub-reply-to-hex : tie.Need-sub-reply-to-hex
 sub-reply-to-hex c = search needs
 
--- src/lib.rt:283:33
 part-reply-to-hex-start : tie.Need-part-reply-to-hex-start
 part-reply-to-hex-start c = search needs
 
--- src/lib.rt:283:33
 part-reply-to-hex-end : tie.Need-part-reply-to-hex-end
 part-reply-to-hex-end c = search needs
 
--- src/lib.rt:283:13
 reply-to-hex-requires : tie.Need-reply-to-hex-requires
 reply-to-hex-requires c κs = search needs
 
--- src/lib.rt:283:13
 same-length-2 : tie.Need-same-length-2
 same-length-2 c = search needs
 
--- src/lib.rt:283:13
 returns-3 : tie.Need-returns-3
-returns-3 c = ?
+unfolding bytesOf
+returns-3 c = 
+    let a = c .before .before .before .before .before .before .before .before .before .before .before .before .before .before .args in
+    laws.bytes-first (a .line .now) (a .text .now) (sym (c .before .before .before .before .before .before .before .before .before .before .begins .ensures) ∙ c .before .before .before .before .before .before .before .before .before .if1 .left) (sym (c .before .before .before .before .before .before .before .begins2 .ensures) ∙ c .before .before .before .before .before .before .if3 .taken) _ _ (c .before .before .reply-to-hex .result) (take-all (length (a .line .now) - 6) (drop 6 (a .line .now)) (omega (arith, length-drop 6 (a .line .now)))) (c .before .before .reply-to-hex .ensures)
 
--- src/lib.rt:285:9
 returns-4 : tie.Need-returns-4
-returns-4 c = ?
+unfolding bytesOf
+returns-4 c = 
+    let a = c .before .before .before .before .before .before .before .before .before .args in
+    laws.bytes-short (a .line .now) (a .text .now) (sym (c .before .before .before .before .before .begins .ensures) ∙ c .before .before .before .before .if1 .left) (sym (c .before .before .begins2 .ensures) ∙ c .before .if3 .taken) (c .if4 .left)
 
--- src/lib.rt:272:1
 returns-5 : tie.Need-returns-5
-returns-5 c = ?
+unfolding bytesOf
+returns-5 c = 
+    let a = c .before .before .before .before .before .before .before .before .args in
+    laws.no-word (a .line .now) (a .text .now) (sym (c .before .before .before .before .begins .ensures) ∙ c .before .before .before .if1 .left) (sym (c .before .begins2 .ensures) ∙ c .if3 .left)
 
 pub answer-line-spec : {M : Type 1} → statement M
 answer-line-spec =

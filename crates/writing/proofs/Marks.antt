@@ -1,11 +1,10 @@
 -- The bytes of an equation before its end mark, counted token by token. Assumes nothing.
-use mathlib.Core.Path.{_≡_, refl, sym, ap, _∙_}
-use mathlib.Core.Bool.{Bool}
+use mathlib.Core.Path.{_≡_, refl, _∙_}
 use mathlib.Core.List.{List, [], _∷_}
-use Prim.Native.Nat.{ℕ, zero, suc, _+_, _-_, _≤_, _<_}
+use Prim.Native.Nat.{ℕ, zero, suc, _+_, _≤_}
 use native.Mathlib.Omega.{arith}
-use lib.ListN.{length, take, drop, length-drop}
-use lib.Seq.{drop-drop, take-all, take-nil}
+use lib.ListN.{length, drop, length-drop}
+use lib.Seq.{drop-drop}
 use Rattle.equation.specs.Symbols.{tokenOf}
 use Rattle.equation.specs.Newer.{beforeMark, unmarkedPast, unmarked}
 use Rattle.equation.specs.declared.tokens.Token.{Token}
@@ -119,23 +118,3 @@ module _ (bytes : List ℕ) (at : ℕ) (p : Passing bytes at) where
   pass-rel c i n e =
       let z : at + (4 + n) ≡ at + 4 + n = omega arith in
       rw (← z) (go-on (Rel c i n) e tt (omega (arith, rel-within c i n e)))
-
--- ---- what stands before the end mark is the front of the equation
-
-front : (n : ℕ) (bs : List ℕ) → unmarkedPast n bs ≡ take (length (unmarkedPast n bs)) bs
-unfolding unmarkedPast
-front n [] = sym (take-nil (length (unmarkedPast n [])))
-front (suc n) (c ∷ bs) = ap (λ (l : List ℕ). c ∷ l) (front n bs)
-front zero (c ∷ bs) = by (λ n. front n bs) (tokenOf (c ∷ bs))
-  where
-    by : ((n : ℕ) → unmarkedPast n bs ≡ take (length (unmarkedPast n bs)) bs) → (t : Token)
-        → beforeMark t (λ n. c ∷ unmarkedPast n bs) ≡ take (length (beforeMark t (λ n. c ∷ unmarkedPast n bs))) (c ∷ bs)
-    by ih Bad = unfold beforeMark in refl
-    by ih End = unfold beforeMark in refl
-    by ih And = unfold beforeMark in ap (λ (l : List ℕ). c ∷ l) (ih 0)
-    by ih Or = unfold beforeMark in ap (λ (l : List ℕ). c ∷ l) (ih 0)
-    by ih (Rel d i n) = unfold beforeMark in ap (λ (l : List ℕ). c ∷ l) (ih (3 + n))
-
--- an equation without an end mark
-pub no-mark : (bytes : List ℕ) → length bytes ≤ length (unmarked bytes) → unmarked bytes ≡ bytes
-no-mark bytes h = front 0 bytes ∙ take-all (length (unmarked bytes)) bytes h
