@@ -48,7 +48,7 @@ module _ (field bytes now : List ℕ) (r : Pairs) (size : length bytes ≡ 65536
           record {
             line = rw (x, ← size, y);
             bytes = rw (o, k) (take-at (bytesIn field) (drop (length (bytesIn field)) bytes) (length (bytesIn field)) refl);
-            within = rw o (omega (arith, length-append (bytesIn field) (drop (length (bytesIn field)) bytes)))
+            within = rw o (omega (arith, length-append (bytesIn field) (drop (length (bytesIn field)) bytes)));
           }
       by true x false y w = absurd (omega (arith, ap kind (sym z ∙ ap (λ (h : HexRead). h .answer) w)))
       by false x t y w = absurd (omega (arith, ap kind (sym z ∙ ap (λ (h : HexRead). h .answer) w)))

@@ -35,18 +35,54 @@ fn word_of(why: Reason) -> Word
     ensures { λ r. ⌜ r ≡ wordFor why ⌝ }
 {
     match why {
-        Reason::Item => Word { bytes: *b"item\0\0\0\0\0\0", size: 4 },
-        Reason::Deeper => Word { bytes: *b"deeper\0\0\0\0", size: 6 },
-        Reason::Operator => Word { bytes: *b"operator\0\0", size: 8 },
-        Reason::Order => Word { bytes: *b"order\0\0\0\0\0", size: 5 },
-        Reason::Constant => Word { bytes: *b"constant\0\0", size: 8 },
-        Reason::Large => Word { bytes: *b"large\0\0\0\0\0", size: 5 },
-        Reason::Width => Word { bytes: *b"width\0\0\0\0\0", size: 5 },
-        Reason::String => Word { bytes: *b"string\0\0\0\0", size: 6 },
-        Reason::Stars => Word { bytes: *b"stars\0\0\0\0\0", size: 5 },
-        Reason::Long => Word { bytes: *b"long\0\0\0\0\0\0", size: 4 },
-        Reason::Connective => Word { bytes: *b"connective", size: 10 },
-        Reason::Bracket => Word { bytes: *b"bracket\0\0\0", size: 7 },
+        Reason::Item => Word {
+            bytes: *b"item\0\0\0\0\0\0",
+            size: 4,
+        },
+        Reason::Deeper => Word {
+            bytes: *b"deeper\0\0\0\0",
+            size: 6,
+        },
+        Reason::Operator => Word {
+            bytes: *b"operator\0\0",
+            size: 8,
+        },
+        Reason::Order => Word {
+            bytes: *b"order\0\0\0\0\0",
+            size: 5,
+        },
+        Reason::Constant => Word {
+            bytes: *b"constant\0\0",
+            size: 8,
+        },
+        Reason::Large => Word {
+            bytes: *b"large\0\0\0\0\0",
+            size: 5,
+        },
+        Reason::Width => Word {
+            bytes: *b"width\0\0\0\0\0",
+            size: 5,
+        },
+        Reason::String => Word {
+            bytes: *b"string\0\0\0\0",
+            size: 6,
+        },
+        Reason::Stars => Word {
+            bytes: *b"stars\0\0\0\0\0",
+            size: 5,
+        },
+        Reason::Long => Word {
+            bytes: *b"long\0\0\0\0\0\0",
+            size: 4,
+        },
+        Reason::Connective => Word {
+            bytes: *b"connective",
+            size: 10,
+        },
+        Reason::Bracket => Word {
+            bytes: *b"bracket\0\0\0",
+            size: 7,
+        },
     }
 }
 

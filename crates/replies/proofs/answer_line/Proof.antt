@@ -33,13 +33,13 @@ same-length c = search needs
 
 returns : tie.Need-returns
 unfolding bytesOf
-returns c = 
+returns c =
     let a = c .before .before .before .before .before .before .before .before .before .before .before .args in
     laws.text-first (a .line .now) (a .text .now) (sym (c .before .before .before .before .before .before .before .begins .ensures) ∙ c .before .before .before .before .before .before .if1 .taken) _ _ (c .before .before .reply-to-text .result) (take-all (length (a .line .now) - 5) (drop 5 (a .line .now)) (omega (arith, length-drop 5 (a .line .now)))) (c .before .before .reply-to-text .ensures)
 
 returns-2 : tie.Need-returns-2
 unfolding bytesOf
-returns-2 c = 
+returns-2 c =
     let a = c .before .before .before .before .before .before .args in
     laws.text-short (a .line .now) (a .text .now) (sym (c .before .before .begins .ensures) ∙ c .before .if1 .taken) (c .if2 .left)
 
@@ -66,19 +66,19 @@ same-length-2 c = search needs
 
 returns-3 : tie.Need-returns-3
 unfolding bytesOf
-returns-3 c = 
+returns-3 c =
     let a = c .before .before .before .before .before .before .before .before .before .before .before .before .before .before .args in
     laws.bytes-first (a .line .now) (a .text .now) (sym (c .before .before .before .before .before .before .before .before .before .before .begins .ensures) ∙ c .before .before .before .before .before .before .before .before .before .if1 .left) (sym (c .before .before .before .before .before .before .before .begins2 .ensures) ∙ c .before .before .before .before .before .before .if3 .taken) _ _ (c .before .before .reply-to-hex .result) (take-all (length (a .line .now) - 6) (drop 6 (a .line .now)) (omega (arith, length-drop 6 (a .line .now)))) (c .before .before .reply-to-hex .ensures)
 
 returns-4 : tie.Need-returns-4
 unfolding bytesOf
-returns-4 c = 
+returns-4 c =
     let a = c .before .before .before .before .before .before .before .before .before .args in
     laws.bytes-short (a .line .now) (a .text .now) (sym (c .before .before .before .before .before .begins .ensures) ∙ c .before .before .before .before .if1 .left) (sym (c .before .before .begins2 .ensures) ∙ c .before .if3 .taken) (c .if4 .left)
 
 returns-5 : tie.Need-returns-5
 unfolding bytesOf
-returns-5 c = 
+returns-5 c =
     let a = c .before .before .before .before .before .before .before .before .args in
     laws.no-word (a .line .now) (a .text .now) (sym (c .before .before .before .before .begins .ensures) ∙ c .before .before .before .if1 .left) (sym (c .before .begins2 .ensures) ∙ c .if3 .left)
 

@@ -11,12 +11,12 @@ use Rattle.replies.proofs.print.Statement.{statement}
 use Rattle.replies.proofs.print.Tie as tie
 
 returns : tie.Need-returns
-returns c = 
+returns c =
     let a = c .before .before .before .args in
     laws.print-none (a .buffer .now) (a .text .now) (a .n) (c .before .before .before .pre) (c .if1 .taken)
 
 slice-aggregate-store : tie.Need-slice-aggregate-store
-slice-aggregate-store c = 
+slice-aggregate-store c =
     let a = c .before .before .before .before .before .args in
     sym (length-take-le (a .n) (a .buffer .now) (c .before .before .before .before .before .pre))
 
@@ -27,7 +27,7 @@ same-length : tie.Need-same-length
 same-length c = search needs
 
 returns-2 : tie.Need-returns-2
-returns-2 c = 
+returns-2 c =
     let a = c .before .before .before .before .before .before .before .before .args in
     let s = c .before .before .store in
     laws.print-whole (a .buffer .now) (a .text .now) (s .last .0) (a .n) (c .before .before .before .before .before .before .before .before .pre) (c .before .before .before .before .before .if1 .left) (s .ensures .1)

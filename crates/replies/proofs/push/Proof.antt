@@ -20,7 +20,7 @@ same-length : tie.Need-same-length
 same-length c = search needs
 
 returns : tie.Need-returns
-returns c = 
+returns c =
     let a = c .before .before .before .before .before .before .args in
     let s = c .before .before .store in
     (refl, laws.stored (a .out .now) (s .last .0) (a .n) (a .piece .now) (c .before .before .before .before .before .before .pre) (s .ensures .1))

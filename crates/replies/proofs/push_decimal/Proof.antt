@@ -46,7 +46,7 @@ loop-less : tie.Need-loop-less Inv-loop μ-loop
 loop-less c = omega arith
 
 loop-again : tie.Need-loop-again Inv-loop μ-loop
-loop-again c = 
+loop-again c =
     let l = c .before .loop in
     let more = digits-more (l .rest) (omega arith) in let some = digits-some (l .rest / 10) in (simp length-set (omega arith), omega arith, omega arith, decimal-step (l .out) (c .before .before .before .before .args .n) (l .i) (l .rest) _ (omega arith) (omega arith) (l .inv .3))
 
@@ -66,7 +66,7 @@ same-length : tie.Need-same-length Inv-loop μ-loop
 same-length c = simp length-set (omega arith)
 
 returns : tie.Need-returns Inv-loop μ-loop
-returns c = 
+returns c =
     let l = c .before .loop in
     (rw (c .before .before .width .ensures), decimal-end (l .out) (c .before .before .before .before .args .n) (l .i) (l .rest) _ (omega arith) (omega arith) (l .inv .3))
 

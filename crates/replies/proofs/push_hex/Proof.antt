@@ -48,7 +48,7 @@ loop-less : tie.Need-loop-less Inv-loop μ-loop
 loop-less c = omega arith
 
 loop-again : tie.Need-loop-again Inv-loop μ-loop
-loop-again c = 
+loop-again c =
     let l = c .before .before .before .before .loop in
     (omega arith, simp length-set (omega arith), omega arith, rw (c .before .hex-digit .ensures, c .hex-digit2 .ensures) (hex-step (l .out) (l .to) (l .i) (c .before .before .before .before .before .before .before .args .bytes .now) _ (omega arith) (l .inv .3)))
 
@@ -56,7 +56,7 @@ same-length : tie.Need-same-length Inv-loop μ-loop
 same-length c = omega arith
 
 returns : tie.Need-returns Inv-loop μ-loop
-returns c = 
+returns c =
     let l = c .before .loop in
     (omega arith, hex-end (l .out) (l .to) (l .i) (c .before .before .before .before .args .bytes .now) _ (omega arith) (l .inv .3))
 

@@ -22,7 +22,7 @@ push-requires : tie.Need-push-requires
 push-requires c κs = search needs
 
 push-decimal-requires : tie.Need-push-decimal-requires
-push-decimal-requires c κs = 
+push-decimal-requires c κs =
     let p = c .before .before .before .push in
     omega (arith, digits-most-8 (c .before .before .before .before .before .before .before .args .number) (omega (arith, c .before .before .before .before .before .before .before .good .0)), p .ensures .0, p .kept .0, c .before .before .before .before .before .before .before .pre)
 
@@ -30,7 +30,7 @@ slice-aggregate-push-2 : tie.Need-slice-aggregate-push-2
 slice-aggregate-push-2 c = search needs
 
 push-requires-2 : tie.Need-push-requires-2
-push-requires-2 c κs = 
+push-requires-2 c κs =
     let p = c .before .before .before .before .before .before .before .before .push in
     let q = c .before .before .before .before .push-decimal in
     omega (arith, digits-most-8 (c .before .before .before .before .before .before .before .before .before .before .before .before .args .number) (omega (arith, c .before .before .before .before .before .before .before .before .before .before .before .before .good .0)), p .ensures .0, p .kept .0, q .ensures .0, q .kept .0, c .before .before .before .before .before .before .before .before .before .before .before .before .pre)
@@ -40,7 +40,7 @@ same-length c = search needs
 
 returns : tie.Need-returns
 unfolding refusedLine bytesOf
-returns c = 
+returns c =
     let a = c .before .before .before .before .before .before .before .before .before .before .before .before .before .before .before .args in
     let p = c .before .before .before .before .before .before .before .before .before .before .before .push in
     let q = c .before .before .before .before .before .before .before .push-decimal in

@@ -20,7 +20,7 @@ slice-aggregate-print : tie.Need-slice-aggregate-print
 slice-aggregate-print c = search needs
 
 print-requires : tie.Need-print-requires
-print-requires c κs = 
+print-requires c κs =
     let b = c .before .before .before .before .before .blank-line in
     let p = c .before .before .before .paper-line in
     omega (arith, p .ensures .0, p .kept .1 .0, b .ensures, said.said-fits (c .before .before .before .before .before .before .before .before .args .equation .now) (omega (arith, c .before .before .before .before .before .before .before .before .good .0 .1)))
@@ -29,7 +29,7 @@ same-length : tie.Need-same-length
 same-length c = search needs
 
 returns : tie.Need-returns
-returns c = 
+returns c =
     let b = c .before .before .before .before .before .before .before .before .blank-line in
     let p = c .before .before .before .before .before .before .paper-line in
     let q = c .before .before .print in

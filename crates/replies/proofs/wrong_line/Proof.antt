@@ -25,7 +25,7 @@ push-requires : tie.Need-push-requires
 push-requires c κs = search needs
 
 push-decimal-requires : tie.Need-push-decimal-requires
-push-decimal-requires c κs = 
+push-decimal-requires c κs =
     let p = c .before .before .before .push in
     omega (arith, digits-most (c .before .before .before .before .before .before .before .before .before .args .place) (omega (arith, c .before .before .before .before .before .before .before .before .before .good .0)), p .ensures .0, p .kept .0, c .before .before .before .before .before .before .before .before .before .pre)
 
@@ -33,7 +33,7 @@ slice-aggregate-push-2 : tie.Need-slice-aggregate-push-2
 slice-aggregate-push-2 c = search needs
 
 push-requires-2 : tie.Need-push-requires-2
-push-requires-2 c κs = 
+push-requires-2 c κs =
     let p = c .before .before .before .before .before .before .before .before .push in
     let q = c .before .before .before .before .push-decimal in
     omega (arith, digits-most (c .before .before .before .before .before .before .before .before .before .before .before .before .before .before .args .place) (omega (arith, c .before .before .before .before .before .before .before .before .before .before .before .before .before .before .good .0)), p .ensures .0, p .kept .0, q .ensures .0, q .kept .0, c .before .before .before .before .before .before .before .before .before .before .before .before .before .before .pre)
@@ -45,7 +45,7 @@ slice-aggregate-push-3 : tie.Need-slice-aggregate-push-3
 slice-aggregate-push-3 c = sym (length-take-le (c .before .before .before .before .before .before .before .before .before .before .before .before .before .before .before .before .before .word-of .result .size) (c .before .before .before .before .before .before .before .before .before .before .before .before .before .before .before .before .before .word-of .result .bytes) (laws.word-room (c .before .before .before .before .before .before .before .before .before .before .before .before .before .before .before .before .before .before .before .args .why) (c .before .before .before .before .before .before .before .before .before .before .before .before .before .before .before .before .before .word-of .result) (c .before .before .before .before .before .before .before .before .before .before .before .before .before .before .before .before .before .word-of .ensures)))
 
 push-requires-3 : tie.Need-push-requires-3
-push-requires-3 c κs = 
+push-requires-3 c κs =
     let p = c .before .before .before .before .before .before .before .before .before .before .before .before .before .push in
     let q = c .before .before .before .before .before .before .before .before .before .push-decimal in
     let r = c .before .before .before .before .push2 in
@@ -55,7 +55,7 @@ slice-aggregate-push-4 : tie.Need-slice-aggregate-push-4
 slice-aggregate-push-4 c = search needs
 
 push-requires-4 : tie.Need-push-requires-4
-push-requires-4 c κs = 
+push-requires-4 c κs =
     let p = c .before .before .before .before .before .before .before .before .before .before .before .before .before .before .before .before .before .before .push in
     let q = c .before .before .before .before .before .before .before .before .before .before .before .before .before .before .push-decimal in
     let r = c .before .before .before .before .before .before .before .before .before .push2 in
@@ -67,7 +67,7 @@ same-length c = search needs
 
 returns : tie.Need-returns
 unfolding wrongLine bytesOf
-returns c = 
+returns c =
     let a = c .before .before .before .before .before .before .before .before .before .before .before .before .before .before .before .before .before .before .before .before .before .before .before .before .before .before .before .args in
     let p = c .before .before .before .before .before .before .before .before .before .before .before .before .before .before .before .before .before .before .before .before .before .push in
     let q = c .before .before .before .before .before .before .before .before .before .before .before .before .before .before .before .before .before .push-decimal in
