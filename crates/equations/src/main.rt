@@ -1,10 +1,10 @@
 // The program `equations`: reads lines from standard input, and prints for each the line that crates/replies defines. A line that can't be read prints
 // `error` and its number, and ends the program. This part only moves bytes.
+use input::Found;
+use input::parts::least;
 use libc::STDIN_FILENO;
 use libc::STDOUT_FILENO;
 use replies::Reply;
-use script::input::Found;
-use script::parts::least;
 use std::num::wrapping_add_usize;
 ghost use mathlib.Core.Path.{_≡_};
 ghost use lib.ListN.{length};
@@ -37,7 +37,7 @@ fn write_front(text: &[u8], n: usize) -> bool {
 
 // Moves the part of a line to the front of the input and reads more behind it. A read that brings nothing, or fails, ends the input.
 fn fill(run: Run, input: &mut [u8]) -> Run {
-    let left = script::input::shift(input, run.from, run.end);
+    let left = input::shift(input, run.from, run.end);
     let kept = least(left, input.len());
     let got = libc::read(STDIN_FILENO, &mut input[kept..]);
     let n = io::count(got, &input[kept..]);
@@ -80,7 +80,7 @@ fn answer(run: Run, n: usize, input: &[u8], text: &mut [u8]) -> Run {
 }
 
 fn turn(run: Run, input: &mut [u8], text: &mut [u8]) -> Run {
-    let found = script::input::find_line(&*input, run.from, run.end, run.ended);
+    let found = input::find_line(&*input, run.from, run.end, run.ended);
     match found {
         Found::Part => fill(run, input),
         Found::Line(n) => answer(run, n, &*input, text),

@@ -6,7 +6,7 @@ use Rattle.equations.proofs.write_front.Tie as tie
 use Rattle.equations.proofs.write_front.Reads as reads
 use Rattle.equations.proofs.write_front.Lts as lts
 use Rattle.io.proofs.write_all.Reads as write-all-reads
-use Rattle.script.proofs.parts.least.Reads as least-reads
+use Rattle.input.proofs.parts.least.Reads as least-reads
 
 least-requires : tie.Need-least-requires
 least-requires c κs = search needs
