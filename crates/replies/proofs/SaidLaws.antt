@@ -22,7 +22,7 @@ use Rattle.paper.specs.Answer as paper
 use Rattle.paper.specs.declared.Answer.{Answer}
 use Rattle.paper.specs.declared.Answer.the-variants as answer
 use Rattle.paper.proofs.Promised.{promised}
-use Rattle.back.specs.Text.{textOf, nesting}
+use Rattle.writing.specs.Text.{textOf, nesting}
 use Rattle.back.specs.Answer as back
 use Rattle.back.specs.declared.Answer as back-answer
 use Rattle.back.specs.declared.Answer.the-variants as written
