@@ -23,6 +23,7 @@ use Rattle.paper.specs.declared.Answer.{Answer}
 use Rattle.paper.specs.declared.Answer.the-variants as answer
 use Rattle.paper.proofs.Promised.{promised}
 use Rattle.writing.specs.Text.{textOf, nesting}
+use Rattle.writing.specs.Places.{formulaOf}
 use Rattle.back.specs.Answer as back
 use Rattle.back.specs.declared.Answer as back-answer
 use Rattle.back.specs.declared.Answer.the-variants as written
@@ -91,12 +92,12 @@ unfolding back.writtenBy back.written back.delivered sizeOf
 written-fits out none n m = omega arith
 written-fits out (some t) n m =
     by-cond out (ltb m n) _ _ (omega arith)
-    (λ a. by-cond out (ltb 16 (nesting (back.formulaOf t))) _ _ (omega arith)
-    (λ b. by-cond out (ltb 256 n) _ _ (omega arith) (λ c. by (leb (length (textOf (back.formulaOf t))) (length out)) refl)))
+    (λ a. by-cond out (ltb 16 (nesting (formulaOf t))) _ _ (omega arith)
+    (λ b. by-cond out (ltb 256 n) _ _ (omega arith) (λ c. by (leb (length (textOf (formulaOf t))) (length out)) refl)))
   where
-    by : (s : Bool) → leb (length (textOf (back.formulaOf t))) (length out) ≡ s
-        → Fits out (cond s (back.answers (written.Text (length (textOf (back.formulaOf t)))) (textOf (back.formulaOf t) ++ drop (length (textOf (back.formulaOf t))) out)) (back.answers (written.Refused 33) out))
-    by true e = leb-true (length (textOf (back.formulaOf t))) (length out) e
+    by : (s : Bool) → leb (length (textOf (formulaOf t))) (length out) ≡ s
+        → Fits out (cond s (back.answers (written.Text (length (textOf (formulaOf t)))) (textOf (formulaOf t) ++ drop (length (textOf (formulaOf t))) out)) (back.answers (written.Refused 33) out))
+    by true e = leb-true (length (textOf (formulaOf t))) (length out) e
     by false e = omega arith
 
 all-fits : (bytes out : List ℕ) → Fits out (back.writtenOf bytes out)
@@ -145,7 +146,7 @@ small-written : (o : Option Tree) (n m : ℕ) → Small (back.writtenBy o n m ro
 unfolding back.writtenBy back.written
 small-written none n m = small-number 8 (omega arith)
 small-written (some t) n m =
-    small-cond (ltb m n) _ _ (small-words .0) (small-cond (ltb 16 (nesting (back.formulaOf t))) _ _ (small-words .1) (small-cond (ltb 256 n) _ _ (small-words .2) (small-delivered (textOf (back.formulaOf t)))))
+    small-cond (ltb m n) _ _ (small-words .0) (small-cond (ltb 16 (nesting (formulaOf t))) _ _ (small-words .1) (small-cond (ltb 256 n) _ _ (small-words .2) (small-delivered (textOf (formulaOf t)))))
 
 pub told-fits : (bytes : List ℕ) → length (toldBy (back.writtenOf bytes room)) ≤ 4096
 unfolding back.writtenOf
