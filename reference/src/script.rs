@@ -3,11 +3,11 @@
 
 use std::io::{self, Write};
 
+use crate::lines::{from_hex, run_whole, Feed, Reader};
 use crate::packet::Packet;
 use crate::server::{Answer, Server, Sizes, OUTPUT};
 
-/// The most bytes of a line that can be read, without its newline.
-pub const LINE_MOST: usize = 131_072;
+pub use crate::lines::{to_hex, LINE_MOST};
 
 /// A line that can be read.
 #[derive(Clone, Debug, PartialEq, Eq)]
@@ -61,35 +61,6 @@ fn decimal(field: &[u8]) -> Option<u32> {
         b'0'..=b'9' => value.checked_mul(10)?.checked_add(u32::from(digit - b'0')),
         _ => None,
     })
-}
-
-/// Bytes from pairs of lower-case hex digits.
-fn from_hex(field: &[u8]) -> Option<Vec<u8>> {
-    if field.len() % 2 != 0 {
-        return None;
-    }
-    field
-        .chunks_exact(2)
-        .map(|pair| Some(digit(pair[0])? << 4 | digit(pair[1])?))
-        .collect()
-}
-
-fn digit(letter: u8) -> Option<u8> {
-    match letter {
-        b'0'..=b'9' => Some(letter - b'0'),
-        b'a'..=b'f' => Some(letter - b'a' + 10),
-        _ => None,
-    }
-}
-
-pub fn to_hex(bytes: &[u8]) -> String {
-    const DIGITS: &[u8; 16] = b"0123456789abcdef";
-    let mut text = String::with_capacity(2 * bytes.len());
-    for byte in bytes {
-        text.push(char::from(DIGITS[usize::from(byte >> 4)]));
-        text.push(char::from(DIGITS[usize::from(byte & 15)]));
-    }
-    text
 }
 
 /// A call that a line leads to.
@@ -220,79 +191,20 @@ fn print(session: u32, answer: &Answer, output: &mut impl Write) -> io::Result<(
     }
 }
 
-/// A script as it comes in, in pieces of any size.
-pub struct Script<W> {
-    pub driver: Driver<W>,
-    /// The beginning of the line that is not yet whole.
-    line: Vec<u8>,
-    /// The number of that line, from 1.
-    number: usize,
-    ended: bool,
-}
-
-impl<W: Watch> Script<W> {
-    /// Prints the first line.
-    pub fn begin(watch: W, output: &mut impl Write) -> io::Result<Script<W>> {
-        writeln!(output, "session\tpacket\tinformation")?;
-        Ok(Script {
-            driver: Driver::new(watch),
-            line: Vec::new(),
-            number: 1,
-            ended: false,
-        })
-    }
-
-    /// Whether the last line is printed and no more input counts.
-    pub fn has_ended(&self) -> bool {
-        self.ended
-    }
-
-    /// Takes a piece of the input.
-    pub fn feed(&mut self, bytes: &[u8], output: &mut impl Write) -> io::Result<()> {
-        let mut rest = bytes;
-        while !self.ended {
-            let end = match rest.iter().position(|&byte| byte == b'\n') {
-                Some(end) => end,
-                None => return self.keep(rest, output),
-            };
-            self.keep(&rest[..end], output)?;
-            self.line_ends(output)?;
-            rest = &rest[end + 1..];
+impl<W: Watch> Reader for Driver<W> {
+    fn read(&mut self, line: &[u8], output: &mut impl Write) -> io::Result<bool> {
+        match Line::parse(line) {
+            Some(line) => self.run(&line, output).map(|()| true),
+            None => Ok(false),
         }
-        Ok(())
     }
 
-    /// Adds to the line that is not yet whole, unless it gets too long.
-    fn keep(&mut self, bytes: &[u8], output: &mut impl Write) -> io::Result<()> {
-        self.line.extend(bytes);
-        if self.line.len() > LINE_MOST {
-            self.stop_at_line(output)?;
-        }
-        Ok(())
+    fn unreadable(&mut self, line: &[u8]) {
+        self.watch.unreadable(line);
     }
 
-    fn line_ends(&mut self, output: &mut impl Write) -> io::Result<()> {
-        if self.ended {
-            return Ok(());
-        }
-        match Line::parse(&self.line) {
-            Some(line) => self.driver.run(&line, output)?,
-            None => return self.stop_at_line(output),
-        }
-        self.line.clear();
-        self.number += 1;
-        Ok(())
-    }
-
-    fn stop_at_line(&mut self, output: &mut impl Write) -> io::Result<()> {
-        self.driver.watch.unreadable(&self.line);
-        writeln!(output, "error\t{}", self.number)?;
-        self.last_line(output)
-    }
-
-    fn last_line(&mut self, output: &mut impl Write) -> io::Result<()> {
-        self.ended = true;
-        let store = &self.driver.server.store;
+    fn last(&mut self, output: &mut impl Write) -> io::Result<()> {
+        let store = &self.server.store;
         writeln!(
             output,
             "blocks\t{}\t{}",
@@ -300,30 +212,22 @@ impl<W: Watch> Script<W> {
             store.held_blocks()
         )
     }
+}
 
-    /// The input has ended; a last line without its newline counts.
-    pub fn finish(&mut self, output: &mut impl Write) -> io::Result<()> {
-        if !self.line.is_empty() {
-            self.line_ends(output)?;
-        }
-        if !self.ended {
-            self.last_line(output)?;
-        }
-        Ok(())
+/// A script as it comes in.
+pub type Script<W> = Feed<Driver<W>>;
+
+impl<W: Watch> Script<W> {
+    /// Prints the first line.
+    pub fn begin(watch: W, output: &mut impl Write) -> io::Result<Script<W>> {
+        writeln!(output, "session\tpacket\tinformation")?;
+        Ok(Feed::new(Driver::new(watch)))
     }
 }
 
 /// Runs a whole script with one who looks on.
 pub fn run_watched<W: Watch>(input: &[u8], watch: W) -> (Vec<u8>, Driver<W>) {
-    let mut output = Vec::new();
-    let driver = (|| {
-        let mut script = Script::begin(watch, &mut output)?;
-        script.feed(input, &mut output)?;
-        script.finish(&mut output)?;
-        Ok::<_, io::Error>(script.driver)
-    })()
-    .expect("writing to memory does not fail");
-    (output, driver)
+    run_whole(input, |output| Script::begin(watch, output))
 }
 
 /// What the program prints for a whole script.

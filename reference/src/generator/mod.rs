@@ -3,6 +3,7 @@
 
 mod author;
 mod equations;
+pub mod paper;
 mod pieces;
 mod plans;
 mod themes;

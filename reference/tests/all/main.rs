@@ -9,6 +9,7 @@ mod generator;
 mod header;
 mod history;
 mod packet;
+mod paper;
 mod script;
 mod server;
 mod sound;

@@ -1,0 +1,5 @@
+pub mod Pieces
+pub mod Formulas
+pub mod Answers
+pub mod Theorems
+pub mod Examples

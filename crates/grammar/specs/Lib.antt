@@ -1,0 +1,4 @@
+pub mod Formula
+pub mod Meaning
+pub mod Grammar
+pub mod Machine

@@ -1,0 +1,35 @@
+use mathlib.Core.Path.{_≡_, refl, sym, ap, _∙_}
+use mathlib.Core.Bool.{Bool, true, false, cond}
+use mathlib.Core.List.{List, [], _∷_, _++_}
+use Prim.Native.Nat.{ℕ, _+_, _-_, _*_, _≤_, _<_}
+use native.Mathlib.Omega.{arith}
+use lib.Dec.{ltb, leb, eqb}
+use lib.ListN.{length, getD, set, take, drop}
+use borrow.Author.Needs.{needs}
+use borrow.Author.Tests.{ltb-true, ltb-false, lt-ltb, le-ltb, le-leb, lt-leb, eq-eqb, ne-eqb}
+use Rattle.paper.specs.Tokens.{orderAt, secondAt, signAt, sizedAt, addedAt, codeAt, escapeAt, characterAt}
+use Rattle.paper.proofs.TokenLaws as laws
+use borrow.Author.Needs.{needs}
+use Rattle.paper.proofs.tokens.order_at.Statement.{statement}
+use Rattle.paper.proofs.tokens.order_at.Tie as tie
+
+byte-of-requires : tie.Need-byte-of-requires
+byte-of-requires c κs = search needs
+
+add-t7 : tie.Need-add-t7
+add-t7 c = search needs
+
+returns : tie.Need-returns
+unfolding orderAt
+returns c =
+    let a = c .before .before .before .args in
+    rw (eq-eqb (getD (a .text .now) (a .at) 0) 61 (sym (c .before .byte-of .ensures) ∙ c .if1 .taken))
+
+returns-2 : tie.Need-returns-2
+unfolding orderAt
+returns-2 c =
+    let a = c .before .before .before .args in
+    rw (ne-eqb (getD (a .text .now) (a .at) 0) 61 (λ z. c .if1 .left (c .before .byte-of .ensures ∙ z)))
+
+pub order-at-spec : {M : Type 1} → statement M
+order-at-spec = tie.close (tie.spec byte-of-requires add-t7 returns returns-2)

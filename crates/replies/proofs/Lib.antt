@@ -1,0 +1,3 @@
+pub mod ReplyLaws
+pub mod SaidLaws
+pub mod LineLaws
