@@ -3,8 +3,8 @@ use Rattle.paging.proofs.Examples.{examples}
 use Rattle.paging.proofs.Paging.{page-answered, paging, paging-whole}
 use Rattle.paging.proofs.Pieces.{in-pieces}
 use Rattle.demands.specs.Demands.{Demands}
-use Rattle.demands.proofs.Demand1.{demand-1}
-use Rattle.demands.proofs.Demand2.{demand-2}
+use Rattle.answers.proofs.Demand1.{demand-1}
+use Rattle.cutting.proofs.Demand2.{demand-2}
 use Rattle.demands.proofs.Whole.{demand-3}
 use Rattle.demands.proofs.Downloads.{from-pupil-to-pupil, asked-and-sent}
 

@@ -13,7 +13,7 @@ use Rattle.history.specs.Calls.{callOf, after}
 use Rattle.history.proofs.Histories.{never-33, never-35}
 use Rattle.promises.specs.Parts.{oneOf}
 use Rattle.promises.specs.Demand1.{Answers, refuses, silent, closes, sends, OnlyByTheCaller, Demand1}
-use Rattle.demands.proofs.Answered.{every-call-answers, every-local-refusal, every-making, every-upload-error, every-download-error, every-nak}
+use Rattle.answers.proofs.Answered.{every-call-answers, every-local-refusal, every-making, every-upload-error, every-download-error, every-nak}
 
 -- of the four numbers two are left
 two-left : (n : ℕ) → oneOf n (32 ∷ 33 ∷ 34 ∷ 35 ∷ []) ≡ true → (n ≡ 33 → ⊥) → (n ≡ 35 → ⊥) → oneOf n (32 ∷ 34 ∷ []) ≡ true

@@ -17,8 +17,8 @@ use Rattle.history.specs.Calls.{Call, receive, callOf, Start, History, _▸_, a
 use Rattle.promises.specs.Parts.{sessionIn}
 use Rattle.promises.specs.Closing.{eventAt}
 use Rattle.promises.specs.Cut.{endsIn, Recut, same, chain, also, joined, passed, _▸▸_, others, LentEarlier}
-use Rattle.demands.proofs.CutCalls.{cut-elsewhere}
-use Rattle.demands.proofs.Others.{others-link, others-part}
+use Rattle.cutting.proofs.CutCalls.{cut-elsewhere}
+use Rattle.cutting.proofs.Others.{others-link, others-part}
 
 -- what bytes end in is the same after a call for another session
 event-kept : (sv : Server) (l : Lent) (c : Call) (session : ℕ) (xs : List ℕ) → 1 ≤ session → (sessionIn c ≡ session → ⊥)

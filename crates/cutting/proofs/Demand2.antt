@@ -12,13 +12,13 @@ use Rattle.history.specs.Calls.{callOf}
 use Rattle.refines.proofs.Refining.{every-call, every-history}
 use Rattle.promises.specs.Demand1.{Answers, refuses, silent, closes, sends}
 use Rattle.promises.specs.Demand2.{WrittenReadsBack, SentReads, SentReadsBack, Demand2}
-use Rattle.demands.proofs.Answered.{every-call-answers}
-use Rattle.demands.proofs.ClosingIsLosing.{closing-is-losing, every-closing}
-use Rattle.demands.proofs.CutCalls.{cut-elsewhere}
-use Rattle.demands.proofs.Uncut.{uncut-same}
-use Rattle.demands.proofs.Earlier.{lent-earlier}
-use Rattle.demands.proofs.Feeding.{enough-calls, pieces-elsewhere}
-use Rattle.demands.proofs.Requests.{nothing-due}
+use Rattle.answers.proofs.Answered.{every-call-answers}
+use Rattle.answers.proofs.ClosingIsLosing.{closing-is-losing, every-closing}
+use Rattle.cutting.proofs.CutCalls.{cut-elsewhere}
+use Rattle.cutting.proofs.Uncut.{uncut-same}
+use Rattle.cutting.proofs.Earlier.{lent-earlier}
+use Rattle.cutting.proofs.Feeding.{enough-calls, pieces-elsewhere}
+use Rattle.cutting.proofs.Requests.{nothing-due}
 use Rattle.steps.proofs.Downloads.{download-brings, download-ends}
 use Rattle.steps.proofs.Begins.{download-begins}
 

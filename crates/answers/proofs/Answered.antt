@@ -38,9 +38,9 @@ use Rattle.promises.specs.Parts.{sessionIn, bytesIn, outIn, openIn, roomIn, che
 use Rattle.promises.specs.Demand1.{Sends, Answers, refuses, silent, closes, sends, EveryCallAnswers, RefusedBy, Fits, IsSound}
 use Rattle.promises.specs.Demand1.{Reachable, EveryLocalRefusal, Says, forgotten, cleared, NothingElse, uploadErrors, downloadErrors}
 use Rattle.promises.specs.Demand1.{naks, PacketRefusal, UploadOver, EveryUploadError, EveryDownloadError, Naks, EveryNak, EveryMaking}
-use Rattle.demands.proofs.Checks.{check-33, check-35, check-sound, session-34, session-through, check-through, check-refuses, not-true}
-use Rattle.demands.proofs.Carried.{isPlain}
-use Rattle.demands.proofs.Receiving as steps
+use Rattle.answers.proofs.Checks.{check-33, check-35, check-sound, session-34, session-through, check-through, check-refuses, not-true}
+use Rattle.answers.proofs.Carried.{isPlain}
+use Rattle.answers.proofs.Receiving as steps
 
 -- ---- what a reply puts out
 

@@ -46,7 +46,7 @@ use Rattle.decide.specs.declared.act.Act.{Act}
 use Rattle.decide.proofs.Closing.{closes, close-alone}
 use Rattle.promises.specs.Parts.{oneOf}
 use Rattle.promises.specs.Demand1.{uploadErrors, downloadErrors, naks, UploadOver, over, overrun}
-use Rattle.demands.proofs.Deciding as decided
+use Rattle.answers.proofs.Deciding as decided
 
 -- ---- what a turn leaves, by its reply
 

@@ -27,12 +27,12 @@ use Rattle.history.specs.Good.{Good}
 use Rattle.history.proofs.GoodFacts.{good-check}
 use Rattle.links.proofs.Facts.{part-end}
 use Rattle.promises.specs.Parts.{sessionIn, openIn, roomIn, checkIn}
-use Rattle.demands.proofs.Checks.{Through, StateFacts, check-through, state-facts}
-use Rattle.demands.proofs.Hearing.{Hears, unended, ended}
-use Rattle.demands.proofs.Parts.{part-other, with-comm}
-use Rattle.demands.proofs.Held.{hold, keep, withLinks, hold-other, hold-seen, act-same}
-use Rattle.demands.proofs.Joined.{stepWith, step-with}
-use Rattle.demands.proofs.Receiving as steps
+use Rattle.answers.proofs.Checks.{Through, StateFacts, check-through, state-facts}
+use Rattle.answers.proofs.Hearing.{Hears, unended, ended}
+use Rattle.cutting.proofs.Parts.{part-other, with-comm}
+use Rattle.cutting.proofs.Held.{hold, keep, withLinks, hold-other, hold-seen, act-same}
+use Rattle.cutting.proofs.Joined.{stepWith, step-with}
+use Rattle.answers.proofs.Receiving as steps
 
 -- ---- the check of a call
 

@@ -24,10 +24,10 @@ use Rattle.promises.specs.Closing.{eventAt}
 use Rattle.promises.specs.Demand1.{Answers, refuses, silent, closes, sends}
 use Rattle.promises.specs.Cut.{Seen, seenIn}
 use Rattle.promises.specs.Feeding.{Fed, fed, andThen, onward, feed, feedAll, EnoughCalls, feedPieces, PiecesElsewhere}
-use Rattle.demands.proofs.Joined.{shift, shifted, rest-untouched}
-use Rattle.demands.proofs.Answered.{Tells, quiet, closing, sending, tells, every-call-answers}
-use Rattle.demands.proofs.CutCalls.{refused-receive, no-packet, joined-call, seen-shift, unended-seen}
-use Rattle.demands.proofs.Receiving as steps
+use Rattle.cutting.proofs.Joined.{shift, shifted, rest-untouched}
+use Rattle.answers.proofs.Answered.{Tells, quiet, closing, sending, tells, every-call-answers}
+use Rattle.cutting.proofs.CutCalls.{refused-receive, no-packet, joined-call, seen-shift, unended-seen}
+use Rattle.answers.proofs.Receiving as steps
 
 -- the state that an outcome leaves
 abbrev left : Outcome → State

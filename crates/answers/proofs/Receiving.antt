@@ -34,10 +34,10 @@ use Rattle.server.specs.Turns.{hearOf, sizeIn, partsOf, putBack, actOf}
 use Rattle.server.specs.Calls.{answeredBy, heardBy, stepOf, onCheck, receiveOf, receiveBy}
 use Rattle.promises.specs.Parts.{oneOf}
 use Rattle.promises.specs.Demand1.{uploadErrors, downloadErrors, naks, UploadOver}
-use Rattle.demands.proofs.Checks.{Through, StateFacts, check-through, check-refuses, state-facts, part-length, held-few}
-use Rattle.demands.proofs.Hearing.{Unended, Ended, Hears, unended, ended, hears}
-use Rattle.demands.proofs.Deciding as decided
-use Rattle.demands.proofs.Carried as carried
+use Rattle.answers.proofs.Checks.{Through, StateFacts, check-through, check-refuses, state-facts, part-length, held-few}
+use Rattle.answers.proofs.Hearing.{Unended, Ended, Hears, unended, ended, hears}
+use Rattle.answers.proofs.Deciding as decided
+use Rattle.answers.proofs.Carried as carried
 
 -- ---- parts put back
 

@@ -27,14 +27,14 @@ use Rattle.promises.specs.Parts.{sessionIn, outIn, openIn, roomIn, checkIn}
 use Rattle.promises.specs.Demand1.{Answers, refuses, silent, closes, sends}
 use Rattle.promises.specs.Cut.{endsIn, SameAfter}
 use Rattle.promises.specs.Uncut.{Uncut, uncut, waitingWith, onBytes, withCall, unlessRefused, uncutOf, UncutSame}
-use Rattle.demands.proofs.Checks.{Through, check-through, state-facts}
-use Rattle.demands.proofs.Answered.{refused-call, every-call-answers}
-use Rattle.demands.proofs.Others.{others-link}
-use Rattle.demands.proofs.Own.{request-free}
-use Rattle.demands.proofs.CutCalls.{joined-after, untaken-after, empty-after, also-after, request-after}
-use Rattle.demands.proofs.Bare.{Bare, bare-event, bare-login, bare-request, bare-lose, bare-receive, taken-ends}
-use Rattle.demands.proofs.Flushed.{same-self, same-back, _then_, lends, flush, flush-same, with-own, with-other, with-each}
-use Rattle.demands.proofs.Flushed.{refused-after, lose-after, Still, flush-also, flush-linked, flush-first, flush-call}
+use Rattle.answers.proofs.Checks.{Through, check-through, state-facts}
+use Rattle.answers.proofs.Answered.{refused-call, every-call-answers}
+use Rattle.cutting.proofs.Others.{others-link}
+use Rattle.cutting.proofs.Own.{request-free}
+use Rattle.cutting.proofs.CutCalls.{joined-after, untaken-after, empty-after, also-after, request-after}
+use Rattle.cutting.proofs.Bare.{Bare, bare-event, bare-login, bare-request, bare-lose, bare-receive, taken-ends}
+use Rattle.cutting.proofs.Flushed.{same-self, same-back, _then_, lends, flush, flush-same, with-own, with-other, with-each}
+use Rattle.cutting.proofs.Flushed.{refused-after, lose-after, Still, flush-also, flush-linked, flush-first, flush-call}
 
 clash : true ≡ false → ⊥
 clash e = let z : _≡_ {A = ℕ} 0 1 = cc in omega arith

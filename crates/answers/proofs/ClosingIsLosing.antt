@@ -26,11 +26,11 @@ use Rattle.server.specs.Check.{checkOf}
 use Rattle.server.specs.Calls.{onLose, loseOf, stepOf, onCheck, receiveOf, receiveBy, loseBy}
 use Rattle.history.specs.Calls.{lose, callOf}
 use Rattle.promises.specs.Closing.{ClosesBy, SameAsLost, ClosingIsLosing, Unwelcome, long, unexpected, ClosesExactly, EveryClosing}
-use Rattle.demands.proofs.Checks.{Through, check-sound, check-through, through-again}
-use Rattle.demands.proofs.Hearing.{Ended, Hears, unended, ended}
-use Rattle.demands.proofs.Carried.{isPlain}
-use Rattle.demands.proofs.Receiving as steps
-use Rattle.demands.proofs.Answered.{Tells, quiet, closing, sending, tells}
+use Rattle.answers.proofs.Checks.{Through, check-sound, check-through, through-again}
+use Rattle.answers.proofs.Hearing.{Ended, Hears, unended, ended}
+use Rattle.answers.proofs.Carried.{isPlain}
+use Rattle.answers.proofs.Receiving as steps
+use Rattle.answers.proofs.Answered.{Tells, quiet, closing, sending, tells}
 
 clash : false ≡ true → ⊥
 clash e = let z : _≡_ {A = ℕ} 0 1 = cc in omega arith

@@ -30,13 +30,13 @@ use Rattle.promises.specs.Parts.{sessionIn}
 use Rattle.promises.specs.Closing.{eventAt}
 use Rattle.promises.specs.Cut.{Seen, seenIn, seenOf, seen, endsIn, Recut, same, back, chain, also, joined, empty, passed, untaken}
 use Rattle.promises.specs.Cut.{SameAfter, CutElsewhere}
-use Rattle.demands.proofs.Checks.{check-through, state-facts, through-again}
-use Rattle.demands.proofs.Hearing.{Unended}
-use Rattle.demands.proofs.Held.{hold, keep, withLinks, hold-seen}
-use Rattle.demands.proofs.Joined.{shift, shifted, rest-untouched, step-joined}
-use Rattle.demands.proofs.Others.{session-same, others-sessions, moved}
-use Rattle.demands.proofs.Own.{Free, others-free, request-free}
-use Rattle.demands.proofs.Receiving as steps
+use Rattle.answers.proofs.Checks.{check-through, state-facts, through-again}
+use Rattle.answers.proofs.Hearing.{Unended}
+use Rattle.cutting.proofs.Held.{hold, keep, withLinks, hold-seen}
+use Rattle.cutting.proofs.Joined.{shift, shifted, rest-untouched, step-joined}
+use Rattle.cutting.proofs.Others.{session-same, others-sessions, moved}
+use Rattle.cutting.proofs.Own.{Free, others-free, request-free}
+use Rattle.answers.proofs.Receiving as steps
 
 -- ---- by the check
 

@@ -20,12 +20,12 @@ use Rattle.history.proofs.Histories.{good-after}
 use Rattle.promises.specs.Parts.{sessionIn, outIn}
 use Rattle.promises.specs.Cut.{Seen, seenIn, seenOf, seen, endsIn, SameAfter}
 use Rattle.promises.specs.Uncut.{waitingWith}
-use Rattle.demands.proofs.Checks.{state-facts, through-again}
-use Rattle.demands.proofs.Held.{hold, keep, hold-seen}
-use Rattle.demands.proofs.Own.{lose-over}
-use Rattle.demands.proofs.CutCalls.{no-packet, unended-seen, passed-after, empty-after, also-after}
-use Rattle.demands.proofs.Earlier.{ends-kept}
-use Rattle.demands.proofs.Receiving as steps
+use Rattle.answers.proofs.Checks.{state-facts, through-again}
+use Rattle.cutting.proofs.Held.{hold, keep, hold-seen}
+use Rattle.cutting.proofs.Own.{lose-over}
+use Rattle.cutting.proofs.CutCalls.{no-packet, unended-seen, passed-after, empty-after, also-after}
+use Rattle.cutting.proofs.Earlier.{ends-kept}
+use Rattle.answers.proofs.Receiving as steps
 
 -- ---- histories that leave the same
 

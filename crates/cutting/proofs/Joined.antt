@@ -29,11 +29,11 @@ use Rattle.server.specs.Check.{checkOf}
 use Rattle.server.specs.Turns.{hearOf, actOf}
 use Rattle.server.specs.Calls.{answeredBy, heardBy, stepOf, onCheck, receiveOf, receiveBy}
 use Rattle.promises.specs.Closing.{eventAt}
-use Rattle.demands.proofs.Checks.{Through, check-through, state-facts}
-use Rattle.demands.proofs.Hearing.{Unended}
-use Rattle.demands.proofs.Parts.{part-own, with-over}
-use Rattle.demands.proofs.Held.{hold, keep, hold-own, act-same}
-use Rattle.demands.proofs.Receiving as steps
+use Rattle.answers.proofs.Checks.{Through, check-through, state-facts}
+use Rattle.answers.proofs.Hearing.{Unended}
+use Rattle.cutting.proofs.Parts.{part-own, with-over}
+use Rattle.cutting.proofs.Held.{hold, keep, hold-own, act-same}
+use Rattle.answers.proofs.Receiving as steps
 use Rattle.links.proofs.Facts.{part-end}
 
 -- ---- an answer that took k bytes more

@@ -42,13 +42,13 @@ use Rattle.history.specs.Calls.{login, receive, request, lose, callOf}
 use Rattle.history.specs.Good.{Good}
 use Rattle.promises.specs.Parts.{sessionIn}
 use Rattle.promises.specs.Closing.{eventAt}
-use Rattle.demands.proofs.Checks.{Through, check-through, state-facts}
-use Rattle.demands.proofs.Hearing.{Hears, unended, ended, Ended}
-use Rattle.demands.proofs.Parts.{part-own}
-use Rattle.demands.proofs.Others.{part-room}
-use Rattle.demands.proofs.Own.{Free, others-free, request-free}
-use Rattle.demands.proofs.CutCalls.{refused-receive, gone-on}
-use Rattle.demands.proofs.Receiving as steps
+use Rattle.answers.proofs.Checks.{Through, check-through, state-facts}
+use Rattle.answers.proofs.Hearing.{Hears, unended, ended, Ended}
+use Rattle.cutting.proofs.Parts.{part-own}
+use Rattle.cutting.proofs.Others.{part-room}
+use Rattle.cutting.proofs.Own.{Free, others-free, request-free}
+use Rattle.cutting.proofs.CutCalls.{refused-receive, gone-on}
+use Rattle.answers.proofs.Receiving as steps
 
 -- ---- an act leaves the number of bytes held, or closes
 

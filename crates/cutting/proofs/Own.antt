@@ -24,10 +24,10 @@ use Rattle.server.specs.Calls.{onLose, loseOf, dueAs, onRequest, requestOf, req
 use Rattle.history.specs.Calls.{Call, request, lose, callOf}
 use Rattle.history.specs.Good.{Good}
 use Rattle.promises.specs.Parts.{sessionIn}
-use Rattle.demands.proofs.Checks.{check-through, state-facts}
-use Rattle.demands.proofs.Parts.{with-over}
-use Rattle.demands.proofs.Held.{hold, keep, withLinks, hold-own}
-use Rattle.demands.proofs.Others.{others-link, others-part, moved, apart-call, check-same, part-room}
+use Rattle.answers.proofs.Checks.{check-through, state-facts}
+use Rattle.cutting.proofs.Parts.{with-over}
+use Rattle.cutting.proofs.Held.{hold, keep, withLinks, hold-own}
+use Rattle.cutting.proofs.Others.{others-link, others-part, moved, apart-call, check-same, part-room}
 
 -- a call that leaves the bytes of a session, and does the same whatever they are
 pub record Free (sv : Server) (l : Lent) (c : Call) (i : ℕ) : Type 0 where

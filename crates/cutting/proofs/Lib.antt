@@ -1,0 +1,13 @@
+pub mod Parts
+pub mod Held
+pub mod Joined
+pub mod Others
+pub mod Own
+pub mod CutCalls
+pub mod Bare
+pub mod Earlier
+pub mod Flushed
+pub mod Uncut
+pub mod Feeding
+pub mod Requests
+pub mod Demand2
