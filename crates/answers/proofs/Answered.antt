@@ -123,7 +123,7 @@ unfolding receiveOf receiveBy onCheck loginOf loginBy onLogin requestOf requestB
 refused-call sv l (login session clock out) n e = rw e
 refused-call sv l (receive session clock input out) n e = rw e
 refused-call sv l (request session out) n e = rw e
-refused-call sv l (lose session) n e = rw e
+refused-call sv l (lose session) n e = let refused : checkOf sv l session true 258 ≡ Refuse n = e in rw refused
 
 -- ---- the calls that go through
 
