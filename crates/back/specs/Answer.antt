@@ -7,8 +7,10 @@ use mathlib.Core.Option.{Option, none, some}
 use Prim.Native.Nat.{ℕ}
 use lib.Dec.{ltb, leb}
 use lib.ListN.{length, drop}
+use Rattle.equation.specs.Symbols.{tokenNumber}
 use Rattle.equation.specs.Tree.{Tree, parse}
 use Rattle.equation.specs.Newer.{unmarked}
+use Rattle.equation.specs.declared.tokens.Token.the-variants.{Bad}
 use Rattle.grammar.specs.Formula.{Formula}
 use Rattle.writing.specs.Text.{textOf, nesting}
 use Rattle.writing.specs.Places.{formulaOf}
@@ -34,7 +36,7 @@ written f n m out =
     (cond (ltb 16 (nesting f)) (answers answer.Deeper out) (cond (ltb 256 n) (answers answer.Bytes out) (delivered (textOf f) out)))
 
 unfoldable pub writtenBy : Option Tree → ℕ → ℕ → List ℕ → Answers
-writtenBy none n m out = answers (answer.Refused 8) out
+writtenBy none n m out = answers (answer.Refused (tokenNumber Bad)) out
 writtenBy (some t) n m out = written (formulaOf t) n m out
 
 unfoldable pub writtenOf : List ℕ → List ℕ → Answers

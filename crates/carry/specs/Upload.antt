@@ -11,7 +11,7 @@ use Rattle.session.specs.declared.reply.Reply.the-variants.{Nothing, Go, Upload
 use Rattle.session.specs.State.{withUp}
 use Rattle.table.specs.declared.Given.{Given}
 use Rattle.table.specs.declared.Given.the-variants.{UsedUp, Next}
-use Rattle.table.specs.Given.{nextNumber, uploadTime}
+use Rattle.table.specs.Given.{nextNumber, uploadTime, givenNumber}
 use Rattle.files.specs.declared.Begun.{Begun}
 use Rattle.files.specs.declared.Begun.the-variants.{Refused, Started}
 use Rattle.files.specs.Uploads as files
@@ -26,7 +26,7 @@ use Rattle.carry.specs.Turn.{lastOf, turnOf, Frees, frees, Writes, write
 
 -- "UL_GO_RESP gives number and offset"; a refused one uses no number
 unfoldable pub begunTurn : Begun → Session → Last → ℕ → Turn
-begunTurn (Refused n) s last number = turnOf s last (UploadError n)
+begunTurn (Refused n) s last number = turnOf s last (UploadError (files.begunNumber (Refused n)))
 begunTurn (Started place) s last number = turnOf (withUp s (up.Receiving place 0 0)) (lastOf number (last .time)) (Go number 0)
 
 unfoldable pub begunAs : ℕ → Session → Last → files.Begins → Frees
@@ -34,7 +34,7 @@ begunAs number s last b = frees (begunTurn (b .answer) s last number) (b .map) (
 
 -- "UPLOAD new: 1, 3, 13"
 unfoldable pub beginWith : Given → Session → Last → ℕ → List ℕ → List ℕ → List ℕ → Frees
-beginWith UsedUp s last size map owner table = frees (turnOf s last (UploadError 3)) map owner table
+beginWith UsedUp s last size map owner table = frees (turnOf s last (UploadError (givenNumber UsedUp))) map owner table
 beginWith (Next number) s last size map owner table = begunAs number s last (files.beginOf map owner table (last .number) size)
 
 abbrev pub beginTurn : Session → Last → ℕ → List ℕ → List ℕ → List ℕ → Frees
@@ -72,7 +72,7 @@ discardTurn s last place u number map owner table =
 
 -- the checks of the header, "then 3"
 unfoldable pub timed : Given → Judged
-timed UsedUp = Rejected 3
+timed UsedUp = Rejected (givenNumber UsedUp)
 timed (Next time) = Accepted time
 
 unfoldable pub judgedAt : Last → ℕ → ℕ → List ℕ → List ℕ → List ℕ → Judged

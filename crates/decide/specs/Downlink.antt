@@ -10,7 +10,7 @@ use Rattle.session.specs.declared.reply.Reply.the-variants.{DownloadError, Abor
 use Rattle.table.specs.declared.File.{File}
 use Rattle.table.specs.declared.Found.{Found}
 use Rattle.table.specs.declared.Found.the-variants.{Nothing, At}
-use Rattle.table.specs.Table.{fileAt, findOf}
+use Rattle.table.specs.Table.{fileAt, findOf, findNumber}
 use Rattle.decide.specs.Words.{wordAt}
 use Rattle.decide.specs.declared.act.Act.{Act}
 use Rattle.decide.specs.declared.act.Act.the-variants as act
@@ -18,7 +18,7 @@ use Rattle.decide.specs.declared.act.Act.the-variants as act
 -- "DOWNLOAD: 1, then 5 or 4, 11, 2, 10": 4 "no such file"; 11 "download of a partial file"; 2 "download offset beyond the file's length"; 10 is
 -- found when the download begins. `passed` selected files lie behind an accepted command.
 unfoldable pub onFound : Found → ℕ → ℕ → ℕ → List File → Act
-onFound Nothing offset lock passed fs = act.Tell (DownloadError 4)
+onFound Nothing offset lock passed fs = act.Tell (DownloadError (findNumber Nothing))
 onFound (At place) offset lock passed fs =
     cond (eqb (fileAt fs place .time) 0) (act.Tell (DownloadError 11))
     (cond (ltb (fileAt fs place .size) offset) (act.Tell (DownloadError 2))

@@ -12,7 +12,7 @@ use Rattle.session.specs.State.{closedSession}
 use Rattle.table.specs.declared.File.{File}
 use Rattle.table.specs.declared.Found.{Found}
 use Rattle.table.specs.declared.Found.the-variants.{Nothing, At}
-use Rattle.table.specs.Table.{fileAt, findOf}
+use Rattle.table.specs.Table.{fileAt, findOf, findNumber}
 use Rattle.decide.specs.Words.{wordAt}
 use Rattle.decide.specs.declared.act.Act.{Act}
 use Rattle.decide.specs.declared.act.Act.the-variants as act
@@ -38,7 +38,7 @@ uploading links place =
 -- "UPLOAD continued: 1, 4, 12, 2": 4 "no such file"; 12 "continuing a complete file"; 2 "continued length differs from the first, or
 -- another session is uploading it (H)"
 unfoldable pub onContinued : Found → ℕ → ℕ → List Session → List File → Act
-onContinued Nothing number size links fs = act.Tell (UploadError 4)
+onContinued Nothing number size links fs = act.Tell (UploadError (findNumber Nothing))
 onContinued (At place) number size links fs =
     cond (eqb (fileAt fs place .time) 0)
     (cond (eqb (fileAt fs place .size) size)

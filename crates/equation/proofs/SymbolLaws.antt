@@ -4,11 +4,25 @@ use mathlib.Core.Bool.{Bool, true, false, cond}
 use mathlib.Core.List.{List, [], _∷_}
 use Prim.Native.Nat.{ℕ, zero, suc, _+_, _-_, _*_, _≤_}
 use native.Mathlib.Omega.{arith}
+use lib.Dec.{ltb}
 use lib.ListN.{length, drop}
-use Rattle.equation.specs.Symbols.{tokenOf, Symbol, and, or, follow, symbolsPast, symbols, relations}
+use Rattle.equation.specs.Symbols.{connectiveOf, relationAt, tokenOf, tokenNumber, Symbol, and, or, bad, follow, symbolsPast, symbols, relations}
 use Rattle.equation.specs.declared.tokens.Token.{Token}
 use Rattle.equation.specs.declared.tokens.Token.the-variants.{Bad, End, And, Or, Rel}
 use Rattle.equation.proofs.TokenLaws.{relation-fits, more-within}
+
+-- what has the number of a refusal is the last symbol, and a bad one
+pub refused-token : (bs : List ℕ) → tokenNumber (tokenOf bs) ≡ 8 → symbols bs ≡ bad ∷ []
+unfolding tokenOf symbolsPast follow
+refused-token [] q = absurd (omega (arith, q))
+refused-token (c ∷ bs) q = go (cond (ltb c 128) (connectiveOf c (length bs)) (relationAt c bs)) q
+  where
+    go : (t : Token) → tokenNumber t ≡ 8 → follow t (c ∷ bs) (λ n. symbolsPast n bs) ≡ bad ∷ []
+    go Bad q = unfold follow in refl
+    go End q = absurd (omega (arith, q))
+    go And q = absurd (omega (arith, q))
+    go Or q = absurd (omega (arith, q))
+    go (Rel d i n) q = absurd (omega (arith, q))
 
 -- AND or OR
 abbrev pub joinToken : Bool → Token

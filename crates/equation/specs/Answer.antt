@@ -1,5 +1,5 @@
 -- The answers of this layer, with document 01's numbers: 8, "equation refused", and 33, "a size or length outside the table" ("equation bytes
--- the evaluator takes" are at most 2,047). Assumes nothing.
+-- the evaluator takes" are at most 2,047). 8 is one number, whatever is wrong: that of what is no token. Assumes nothing.
 use mathlib.Core.Bool.{Bool, true, false, cond}
 use mathlib.Core.List.{List}
 use mathlib.Core.Option.{Option, none, some}
@@ -8,10 +8,12 @@ use lib.Dec.{ltb}
 use lib.ListN.{length}
 use Rattle.header.specs.Items.{Field, fieldsOf}
 use Rattle.equation.specs.Holds.{Relation, holds}
+use Rattle.equation.specs.Symbols.{tokenNumber}
 use Rattle.equation.specs.Tree.{Tree, parse, truth}
 use Rattle.equation.specs.Marks.{markedTrue}
 use Rattle.equation.specs.declared.evaluation.Truth.{Truth}
 use Rattle.equation.specs.declared.evaluation.Truth.the-variants.{No, Yes, Refused}
+use Rattle.equation.specs.declared.tokens.Token.the-variants.{Bad}
 
 -- the number of an answer: 0 for an equation that is taken
 unfoldable pub numberOf : Truth → ℕ
@@ -21,12 +23,12 @@ numberOf (Refused n) = n
 
 -- a tree's truth, or 8 where there is none
 unfoldable pub said : (ℕ → Relation → Bool) → Option Tree → Truth
-said f none = Refused 8
+said f none = Refused (tokenNumber Bad)
 said f (some t) = cond (truth f t) Yes No
 
 -- the same of a run's result
 unfoldable pub verdict : Option Bool → Truth
-verdict none = Refused 8
+verdict none = Refused (tokenNumber Bad)
 verdict (some b) = cond b Yes No
 
 -- an equation, with the truth of its relations given
@@ -46,7 +48,7 @@ answerOf eq file = answerOn eq (fieldsOf file)
 
 -- 8 where an equation has no tree, 33 above 2,047 bytes, and else 0
 unfoldable pub refusal : Option Tree → ℕ
-refusal none = 8
+refusal none = tokenNumber Bad
 refusal (some t) = 0
 
 unfoldable pub validityOf : List ℕ → ℕ

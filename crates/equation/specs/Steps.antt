@@ -5,15 +5,17 @@ use mathlib.Core.Option.{Option}
 use Prim.Native.Nat.{ℕ, zero, suc}
 use lib.Dec.{eqb}
 use lib.ListN.{getD}
+use Rattle.equation.specs.Symbols.{tokenNumber}
 use Rattle.equation.specs.Tree.{run}
 use Rattle.equation.specs.Marks.{markedTrue}
 use Rattle.equation.specs.Parsed.{symbolsBy}
 use Rattle.equation.specs.declared.evaluation.Truth.{Truth}
 use Rattle.equation.specs.declared.evaluation.Truth.the-variants.{No, Yes, Refused}
+use Rattle.equation.specs.declared.tokens.Token.the-variants.{Bad}
 
 -- what a run's end says, by a depth and the result at the stack's bottom
 abbrev pub finished : ℕ → Bool → Truth
-finished d b = cond (eqb d 1) (cond b Yes No) (Refused 8)
+finished d b = cond (eqb d 1) (cond b Yes No) (Refused (tokenNumber Bad))
 
 -- AND or OR of two results
 abbrev pub combine : Bool → Bool → Bool → Bool

@@ -45,6 +45,14 @@ unfoldable pub tokenOf : List ℕ → Token
 tokenOf [] = End
 tokenOf (c ∷ bs) = cond (ltb c 128) (connectiveOf c (length bs)) (relationAt c bs)
 
+-- document 01's number for a token: 8, "equation refused", for what is none
+abbrev pub tokenNumber : Token → ℕ
+tokenNumber Bad = 8
+tokenNumber End = 0
+tokenNumber And = 0
+tokenNumber Or = 0
+tokenNumber (Rel c i n) = 0
+
 -- a relation, a connective, or what is none of these
 pub data Symbol : Type 0 where
   rel : Relation → Symbol

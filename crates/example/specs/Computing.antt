@@ -55,7 +55,7 @@ unfolding
     blocks-owners.heldCount blocks-owners.countsFrom blocks-owners.nextOf blocks-owners.nth blocks-owners.reservedOwner blocks-owners.releasedOwner
     blocks-owners.releasedMap blocks-owners.wordOf blocks-owners.mapOf blocks-contents.held blocks-contents.stored files-completion.checkOf
     files-completion.completeNumber files-completion.completeOf files-completion.destinationsAt files-uploads.beginAt files-uploads.beginIn
-    files-uploads.beginWith files-uploads.begunNumber files-uploads.placeNumber files-uploads.roomNumber files-uploads.appendNumber
+    files-uploads.beginWith files-uploads.placeNumber files-uploads.roomNumber files-uploads.appendNumber
     files-uploads.appendOf files-uploads.discardNumber files-uploads.discardOf decide-decide.onPacket decide-decide.onFrame decide-decide.decideOf
     decide-downlink.onFound decide-downlink.onNumbered decide-downlink.onDownload decide-downlink.onAck decide-downlink.onNak
     decide-downlink.onDownlink decide-uplink.onContinued decide-uplink.onUpload decide-uplink.onData decide-uplink.onEnd decide-uplink.onUplink

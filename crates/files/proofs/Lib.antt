@@ -8,3 +8,4 @@ pub mod Received
 pub mod Discarded
 pub mod Completed
 pub mod Selected
+pub mod BegunNumbers

@@ -11,8 +11,8 @@ use Rattle.table.specs.declared.Found.{Found}
 use Rattle.table.specs.declared.Found.the-variants.{Nothing, At}
 use Rattle.table.specs.declared.Given.{Given}
 use Rattle.table.specs.declared.Given.the-variants.{UsedUp, Next}
-use Rattle.table.specs.Table.{noFile, files, putTable, freeOf}
-use Rattle.table.specs.Given.{nextNumber, blocksFor}
+use Rattle.table.specs.Table.{noFile, files, putTable, freeOf, freeNumber}
+use Rattle.table.specs.Given.{nextNumber, givenNumber, blocksFor}
 use Rattle.files.specs.declared.Begun.{Begun}
 use Rattle.files.specs.declared.Begun.the-variants.{Refused, Started}
 use Rattle.files.specs.View.{recordAt}
@@ -43,12 +43,12 @@ beginAt place number size map owner table =
 
 -- the lowest free place; 13 ".. or no free file place"
 unfoldable pub beginIn : Found → ℕ → ℕ → List ℕ → List ℕ → List ℕ → Begins
-beginIn Nothing number size map owner table = begins (Refused 13) map owner table
+beginIn Nothing number size map owner table = begins (Refused (freeNumber Nothing)) map owner table
 beginIn (At place) number size map owner table = beginAt place number size map owner table
 
 -- 3 "file numbers .. are used up"
 unfoldable pub beginWith : Given → ℕ → List ℕ → List ℕ → List ℕ → Begins
-beginWith UsedUp size map owner table = begins (Refused 3) map owner table
+beginWith UsedUp size map owner table = begins (Refused (givenNumber UsedUp)) map owner table
 beginWith (Next number) size map owner table = beginIn (freeOf (files table)) number size map owner table
 
 -- ".. and gets the number after the last one given"
@@ -56,7 +56,7 @@ abbrev pub beginOf : List ℕ → List ℕ → List ℕ → ℕ → ℕ → Begi
 beginOf map owner table last size = beginWith (nextNumber last) size map owner table
 
 -- document 01's number for an answer: 0 for a file that was begun
-unfoldable pub begunNumber : Begun → ℕ
+abbrev pub begunNumber : Begun → ℕ
 begunNumber (Refused n) = n
 begunNumber (Started place) = 0
 

@@ -9,7 +9,7 @@ use lib.ListN.{length, getD, take, drop, length-drop}
 use lib.Seq.{drop-cons, drop-drop}
 use borrow.Author.Tests.{leb-true, le-leb, lt-leb, eq-eqb, ne-eqb}
 use Rattle.numbers.specs.Numbers.{number}
-use Rattle.header.specs.Items.{headOf, after, walk}
+use Rattle.header.specs.Items.{headOf, headNumber, Walk, after, walk}
 use Rattle.header.specs.declared.items.Head.{Head}
 use Rattle.header.specs.declared.items.Head.the-variants.{Broken, End, Item}
 
@@ -105,6 +105,15 @@ module _ (bs : List ℕ) (at : ℕ) where
   pub walk-end : headOf (drop at bs) ≡ End → walk 0 (drop at bs) ≡ record { items = []; whole = true; size = 3 }
   unfolding after
   walk-end e = at-head (drop at bs) End e
+
+  -- a head with the number of a refusal leaves the walk without its end
+  pub refused-head : headNumber (headOf (drop at bs)) ≡ 14 → walk 0 (drop at bs) .whole ≡ false
+  refused-head q = go (headOf (drop at bs)) refl q
+    where
+      go : (h : Head) → headOf (drop at bs) ≡ h → headNumber h ≡ 14 → walk 0 (drop at bs) .whole ≡ false
+      go Broken e q = ap (λ (w : Walk). w .whole) (walk-broken e)
+      go End e q = absurd (omega (arith, q))
+      go (Item i n) e q = absurd (omega (arith, q))
 
   -- the end mark's three bytes are there
   pub end-within : headOf (drop at bs) ≡ End → at + 3 ≤ length bs

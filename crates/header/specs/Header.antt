@@ -5,7 +5,8 @@ use Prim.Native.Nat.{ℕ, _+_, _-_, _%_}
 use lib.Dec.{ltb, leb, eqb}
 use lib.ListN.{length, take, drop}
 use Rattle.numbers.specs.Numbers.{number}
-use Rattle.header.specs.Items.{Field, walk, marked, fieldsOf}
+use Rattle.header.specs.Items.{Field, headNumber, walk, marked, fieldsOf}
+use Rattle.header.specs.declared.items.Head.the-variants.{Broken}
 use Rattle.header.specs.declared.scan.Place.{Place}
 use Rattle.header.specs.declared.scan.Header.{Header}
 
@@ -91,7 +92,7 @@ bodySum file = sumOf (drop (headerLength file) file) % 65536
 unfoldable pub checkItems : List ℕ → ℕ
 checkItems file =
     cond (marked file)
-    (cond (walk 0 (drop 2 file) .whole) (cond (proper (fieldsOf file)) (cond (complete (fieldsOf file)) 0 6) 14) 14)
+    (cond (walk 0 (drop 2 file) .whole) (cond (proper (fieldsOf file)) (cond (complete (fieldsOf file)) 0 6) 14) (headNumber Broken))
     7
 
 -- "body_offset not the header's length or file_size not the announced length, 14; header sum, 15; body sum, 16"

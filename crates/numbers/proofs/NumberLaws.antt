@@ -34,11 +34,11 @@ value-at width l at h = rw (le-leb _ _ h)
 
 -- bytes that do not fit, and bytes that do
 pub refused-at : (width : ℕ) (l : List ℕ) (at : ℕ) → length l < at + width → 33 ≡ fitsAt width l at
-unfolding fitsAt
+unfolding fitsAt numberAt
 refused-at width l at h = rw (lt-leb _ _ h)
 
 pub accepted-at : (width : ℕ) (l : List ℕ) (at : ℕ) → at + width ≤ length l → 0 ≡ fitsAt width l at
-unfolding fitsAt
+unfolding fitsAt numberAt
 accepted-at width l at h = rw (le-leb _ _ h)
 
 pub unstored-at : (l : List ℕ) (at : ℕ) (xs : List ℕ) → length l < at + length xs → l ≡ storedAt l at xs

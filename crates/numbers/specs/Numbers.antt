@@ -24,9 +24,14 @@ four n = n % 256 ∷ n / 256 % 256 ∷ n / 65536 % 256 ∷ n / 16777216 % 256 �
 unfoldable pub numberAt : ℕ → List ℕ → ℕ → Number
 numberAt width bs at = cond (leb (at + width) (length bs)) (Value (number (take width (drop at bs)))) Short
 
--- Refusal 33, "a lent buffer too short", where the bytes do not fit; 0 for done
+-- document 01's number for a number that was read: 33, "a lent buffer too short", where its bytes are not all there
+abbrev pub shortNumber : Number → ℕ
+shortNumber Short = 33
+shortNumber (Value n) = 0
+
+-- the same number for bytes to be written: they fit where as many could be read; 0 for done
 unfoldable pub fitsAt : ℕ → List ℕ → ℕ → ℕ
-fitsAt width bs at = cond (leb (at + width) (length bs)) 0 33
+fitsAt width bs at = shortNumber (numberAt width bs at)
 
 -- bs with xs in the place of as many bytes from byte `at` on; unchanged where they do not fit
 unfoldable pub storedAt : List ℕ → ℕ → List ℕ → List ℕ

@@ -7,7 +7,7 @@ use lib.Dec.{eqb}
 use Rattle.files.specs.declared.Begun.{Begun}
 use Rattle.files.specs.declared.Begun.the-variants.{Refused, Started}
 use Rattle.files.specs.declared.Selection.{Selection}
-use Rattle.files.specs.Uploads.{Begins}
+use Rattle.files.specs.Uploads.{Begins, begunNumber}
 use Rattle.files.specs.Selection.{Selects}
 
 -- ---- a new file
@@ -18,7 +18,7 @@ placeOf (Refused n) = 0
 placeOf (Started place) = place
 
 unfoldable pub begunCode : Begun → ℕ
-begunCode (Refused n) = n
+begunCode (Refused n) = begunNumber (Refused n)
 begunCode (Started place) = 256 + place
 
 -- the number answered, and the map, the owners and the table afterwards

@@ -4,3 +4,4 @@ pub mod Ordering
 pub mod Fitting
 pub mod Keeping
 pub mod Giving
+pub mod Refusing
