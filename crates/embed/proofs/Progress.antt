@@ -203,4 +203,5 @@ module _ (state counts : List ℕ) (l : Lent) (out : List ℕ) (session clock : 
   pub receive-takes : calls.receiveBy state counts l out session clock input .told .code ≤ 2
       → Takes (length input) (getD (calls.receiveBy state counts l out session clock input .told .counts) 0 0)
   unfolding calls.receiveBy
-  receive-takes c = ready-takes (readyOf state (length counts)) (ready-number state (length counts)) c
+  receive-takes c =
+      ready-takes (readyOf (calls.fitsAt state l) state (length counts)) (ready-number (calls.fitsAt state l) state (length counts)) c

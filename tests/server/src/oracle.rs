@@ -207,7 +207,7 @@ pub struct Judged {
     pub refused: Option<u8>,
 }
 
-/// "Order: 33, 35, 34, 32 first"; the words of the state come before the sizes that stand in them (D83).
+/// "Order: 33, 35, 34, 32 first": the sizes in the words and the lengths come before the question whether the words are a state (D83).
 pub fn judge(lent: &Proved) -> Judged {
     let mut broken = Broken::none();
     let answer = |refused: Option<u8>, broken| Judged { broken, refused };
@@ -215,10 +215,9 @@ pub fn judge(lent: &Proved) -> Judged {
         return answer(Some(33), broken);
     }
     words(&lent.state, &mut broken);
-    let is_state = broken.count == 0;
-    let sizes = match Sizes::of(lent) {
+    let sizes = match Sizes::of(lent).filter(|sizes| sizes.all_fit(lent)) {
         Some(sizes) => sizes,
-        None => return answer(Some(if is_state { 33 } else { 35 }), broken),
+        None => return answer(Some(33), broken),
     };
     blocks(lent, sizes, &mut broken);
     let files = Files::of(lent, sizes);
@@ -285,7 +284,7 @@ struct Sizes {
 }
 
 impl Sizes {
-    /// The sizes that the state says, where they are in document 01's table and all memory for them is lent.
+    /// The sizes that the state says, where they are in document 01's table.
     fn of(lent: &Proved) -> Option<Sizes> {
         let size = |at: usize, most: u64| {
             let word = lent.state[at];
@@ -293,19 +292,31 @@ impl Sizes {
         };
         let (blocks, files) = (size(0, 4096)?, size(1, 256)?);
         let (sessions, maxsel) = (size(2, 4)?, size(3, 50)?);
-        let room = 256 * blocks <= lent.disk.len()
-            && (blocks + 63) / 64 <= lent.map.len()
-            && blocks <= lent.owner.len()
-            && 4 * files <= lent.table.len()
-            && sessions * maxsel <= lent.selected.len()
-            && sessions * PART <= lent.held.len();
-        room.then_some(Sizes {
+        Some(Sizes {
             blocks,
             files,
             sessions,
             maxsel,
         })
     }
+
+    fn map_fits(&self, lent: &Proved) -> bool {
+        (self.blocks + 63) / 64 <= lent.map.len()
+    }
+
+    fn all_fit(&self, lent: &Proved) -> bool {
+        256 * self.blocks <= lent.disk.len()
+            && self.map_fits(lent)
+            && self.blocks <= lent.owner.len()
+            && 4 * self.files <= lent.table.len()
+            && self.sessions * self.maxsel <= lent.selected.len()
+            && self.sessions * PART <= lent.held.len()
+    }
+}
+
+/// The sizes are in the table, and the map, which is all that counting the free blocks is lent besides the words, has room for them.
+pub fn map_fits(lent: &Proved) -> bool {
+    Sizes::of(lent).map_or(false, |sizes| sizes.map_fits(lent))
 }
 
 // ---- blocks
