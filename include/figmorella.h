@@ -25,14 +25,14 @@ extern "C" {
 #define FIGMORELLA_NO_OUTPUT 32 /* out is shorter than FIGMORELLA_PACKET */
 #define FIGMORELLA_NO_ROOM 33   /* a size or length outside the table, or a buffer too short */
 #define FIGMORELLA_NO_SESSION 34 /* session number out of range, not open, or already open */
-#define FIGMORELLA_DAMAGED 35   /* the state or the store is not one that the calls made */
+#define FIGMORELLA_DAMAGED 35   /* the state or the store is damaged: a fact of the table is broken */
 
 #define FIGMORELLA_STATE_WORDS 54 /* as figmorella_state_words() */
 #define FIGMORELLA_PACKET 258     /* bytes of the longest packet: the least length of out */
 #define FIGMORELLA_COUNTS 2       /* the least length of counts */
 #define FIGMORELLA_NEEDS 7        /* the least length of need */
 
-/* ---- the proved functions: 32 to 35 change nothing at all */
+/* ---- the proved functions: 32 to 35 change nothing at all; they are tested in the order 33, 35, 34, 32 */
 
 /* The number of 64-bit words of the server's state: 54. */
 size_t figmorella_state_words(void);

@@ -1,9 +1,9 @@
 //! The facts of refusal 35 on this program's own state: "demand 3's facts on
 //! blocks, numbers or upload times are broken, or a length, offset or name
 //! points at what the store lacks", as docs/DECISIONS.md lists them (D29, D36,
-//! D38, D57, D58, D59). The calls do not use them: the state is not handed in,
-//! so nothing can break it. Tests do, and so do measurements beside a server
-//! that makes this test at each call.
+//! D38, D57, D58, D59), and what calls keep besides. The calls do not use them:
+//! the state is not handed in, so nothing can break it. Tests do, and so do
+//! measurements beside a server that makes this test at each call.
 
 use crate::packet::{announced, HEAD, SERVER_MOST};
 use crate::server::{Downlink, Server, Session, Uplink};
@@ -43,13 +43,29 @@ impl Server {
 
     fn sessions_sound(&self) -> Sound {
         let complete = self.store.complete_numbers();
-        let mut uploads: Vec<usize> = Vec::new();
         for session in self.sessions.iter().flatten() {
             self.uplink_sound(session)?;
             self.downlink_sound(session)?;
             packet_sound(session)?;
             self.selection_sound(session, &complete)?;
-            if let Uplink::Receiving { place, .. } = session.uplink {
+        }
+        Ok(())
+    }
+
+    /// What calls keep of the sessions and 35 does not ask.
+    pub fn kept(&self) -> Sound {
+        let mut uploads: Vec<usize> = Vec::new();
+        for session in self.sessions.iter().flatten() {
+            if let Uplink::Receiving {
+                place,
+                offset,
+                received,
+            } = session.uplink
+            {
+                let file = self.named(place).ok_or("an upload names a file")?;
+                let bytes = u64::from(offset) + u64::from(received);
+                let same = bytes == u64::from(file.received);
+                fact("an upload's bytes are the file's", same)?;
                 let other = !uploads.contains(&place);
                 fact("two sessions do not upload one file", other)?;
                 uploads.push(place);
@@ -75,8 +91,8 @@ impl Server {
         let file = self.named(place).ok_or("an upload names a file")?;
         fact("an upload's file is partial", !file.is_complete())?;
         let bytes = u64::from(offset) + u64::from(received);
-        let same = bytes == u64::from(file.received);
-        fact("an upload's bytes are the file's", same)
+        let within = bytes <= u64::from(file.received);
+        fact("an upload's bytes are within the file's", within)
     }
 
     fn downlink_sound(&self, session: &Session) -> Sound {

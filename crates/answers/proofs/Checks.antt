@@ -208,7 +208,7 @@ pub record StateFacts (sv : Server) (l : Lent) : Type 0 where
       (length (l .table)) (length (l .selected)) (length (l .held))
   pub store : Sound (mapPart sv l) (ownerPart sv l) (tablePart sv l) (sv .last .number) (sv .last .time)
   pub store-sizes : Sizes (l .disk) (ownerPart sv l)
-  pub sessions : links.LinksFacts (files (tablePart sv l)) (sv .sessions) (sv .most) (l .selected) (l .held) (sv .links)
+  pub sessions : links.LinksTested (files (tablePart sv l)) (sv .sessions) (sv .most) (l .selected) (l .held) (sv .links)
 
 some-sizes : (b f s m : ℕ) → sizesFit b f s m ≡ true → (1 ≤ b) × (1 ≤ m)
 unfolding sizesFit

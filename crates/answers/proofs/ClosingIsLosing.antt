@@ -23,6 +23,7 @@ use Rattle.server.specs.declared.Server.{Server}
 use Rattle.server.specs.declared.check.Check.the-variants.{Go}
 use Rattle.server.specs.State.{Lent, lent, Outcome, outcome, doneWith, linkOf, withLink, withTurn, part, withPart}
 use Rattle.server.specs.Check.{checkOf}
+use Rattle.server.specs.Turns.{inUse}
 use Rattle.server.specs.Calls.{onLose, loseOf, stepOf, onCheck, receiveOf, receiveBy, loseBy}
 use Rattle.history.specs.Calls.{lose, callOf}
 use Rattle.promises.specs.Closing.{ClosesBy, SameAsLost, ClosingIsLosing, Unwelcome, long, unexpected, ClosesExactly, EveryClosing}
@@ -159,7 +160,7 @@ module _ (sv : Server) (l : Lent) (session clock : ℕ) (input out : List ℕ) (
       ≡ decide.closing (withHeld (linkOf sv i) 0) (answerBy (h .taken) none-held (some (h .event)) .frame)
   unfolding steps.actAt
   act-closes h =
-      decide.decide-closes (withHeld (linkOf sv i) 0) (sv .links) (answerBy (h .taken) none-held (some (h .event)) .frame)
+      decide.decide-closes (withHeld (linkOf sv i) 0) (inUse sv) (answerBy (h .taken) none-held (some (h .event)) .frame)
       (answerBy (h .taken) none-held (some (h .event)) .info) _ _ (steps.framed-facts (h .taken) (h .event) (h .info) .info)
 
   closes-at : Hears (part (i * 258) 258 (l .held)) (linkOf sv i .held) input → ClosesExactly sv l session clock input out i

@@ -30,7 +30,7 @@ use Rattle.server.specs.declared.check.Check.{Check}
 use Rattle.server.specs.declared.check.Check.the-variants.{Go, Refuse}
 use Rattle.server.specs.State.{Lent, lent, outcome, doneWith, linkOf, withLink, withTurn, words, part, withPart}
 use Rattle.server.specs.Check.{checkOf}
-use Rattle.server.specs.Turns.{hearOf, sizeIn, partsOf, putBack, actOf}
+use Rattle.server.specs.Turns.{hearOf, sizeIn, inUse, partsOf, putBack, actOf}
 use Rattle.server.specs.Calls.{answeredBy, heardBy, stepOf, onCheck, receiveOf, receiveBy}
 use Rattle.promises.specs.Parts.{oneOf}
 use Rattle.promises.specs.Demand1.{uploadErrors, downloadErrors, naks, UploadOver}
@@ -164,7 +164,7 @@ module _ (sv : Server) (l : Lent) (session clock : ℕ) (input out : List ℕ) (
   -- what is decided on it
   unfoldable pub actAt : Ended (part (i * 258) 258 (l .held)) (linkOf sv i .held) input → Act
   actAt e =
-      decideOf (withHeld (linkOf sv i) 0) (sv .links) (answerBy (e .taken) none-held (some (e .event)) .frame)
+      decideOf (withHeld (linkOf sv i) 0) (inUse sv) (answerBy (e .taken) none-held (some (e .event)) .frame)
       (answerBy (e .taken) none-held (some (e .event)) .info) (files (take (4 * sv .files) (l .table))) (part (i * sv .most) (sv .most) (l .selected))
 
   carried-at : (e : Ended (part (i * 258) 258 (l .held)) (linkOf sv i .held) input) → closes (actAt e) ≡ false
@@ -176,7 +176,7 @@ module _ (sv : Server) (l : Lent) (session clock : ℕ) (input out : List ℕ) (
       carried.carried (withHeld (linkOf sv i) 0) (sv .last) clock (sv .most) _ _
       (partsOf sv i (mem (l .disk) (l .map) (l .owner) (l .table) (l .selected)))
       (ready (framed-facts (e .taken) (e .event) (e .info))) _
-      (decided.decide-proper (withHeld (linkOf sv i) 0) (sv .links) _ _ _ _) f
+      (decided.decide-proper (withHeld (linkOf sv i) 0) (inUse sv) _ _ _ _) f
     where
       ready : FramedFacts (e .taken) (answerBy (e .taken) none-held (some (e .event)))
           → carried.Ready (withHeld (linkOf sv i) 0) (sv .last) (sv .most) (sizeIn (answerBy (e .taken) none-held (some (e .event)) .frame))

@@ -8,28 +8,18 @@ use lib.Dec.{eqb, ltb}
 use lib.ListN.{length, take}
 use lib.Seq.{getD-set-same, getD-set-other}
 use Rattle.packet.specs.declared.frame.Frame.{Frame}
-use Rattle.packet.specs.declared.frame.Frame.the-variants.{Open, TooLong, Whole, Refused}
 use Rattle.session.specs.declared.state.Session.{Session}
-use Rattle.session.specs.declared.state.Uplink.{Uplink}
-use Rattle.session.specs.declared.reply.Reply.the-variants.{UploadError}
 use Rattle.session.specs.State.{closedSession, withHeld}
-use Rattle.session.specs.Expected.{expected}
-use Rattle.table.specs.declared.File.{File}
-use Rattle.table.specs.declared.Found.{Found}
-use Rattle.table.specs.declared.Found.the-variants.{Nothing, At}
-use Rattle.table.specs.Table.{files, fileAt, findOf}
+use Rattle.table.specs.Table.{files}
 use Rattle.carry.specs.declared.turn.Last.{Last}
 use Rattle.carry.specs.Turn.{Mem}
 use Rattle.carry.specs.Carry.{carryOut}
-use Rattle.decide.specs.Words.{wordAt}
-use Rattle.decide.specs.Uplink.{uploads, uploading, onContinued, onUpload, onData, onEnd, onUplink}
-use Rattle.decide.specs.Downlink.{onDownlink}
-use Rattle.decide.specs.Decide.{onPacket, onFrame, decideOf}
+use Rattle.decide.specs.Uplink.{uploads, uploading}
 use Rattle.decide.specs.declared.act.Act.{Act}
-use Rattle.decide.specs.declared.act.Act.the-variants as act
 use Rattle.server.specs.declared.Server.{Server}
 use Rattle.server.specs.State.{Lent, lent, linkOf, withLink, part, withPart}
-use Rattle.server.specs.Turns.{sizeIn, partsOf, putBack, actOf}
+use Rattle.server.specs.Turns.{sizeIn, usedOf, inUse, partsOf, putBack, actOf}
+use Rattle.history.proofs.InUse.{decide-same, four-same}
 
 -- session i holds n bytes of a packet, which are p
 abbrev pub hold : Server → ℕ → ℕ → Server
@@ -65,66 +55,15 @@ module _ (sv : Server) (i n : ℕ) (h : i < length (sv .links)) where
 
   -- ---- what is decided
 
-  uploading-same : (place : ℕ) → uploading (hold sv i n .links) place ≡ uploading (sv .links) place
-  uploading-same place =
-      ap (λ (b : Bool). cond b true (cond (u′ 1) true (cond (u′ 2) true (u′ 3)))) (e 0)
-      ∙ ap (λ (b : Bool). cond (u 0) true (cond b true (cond (u′ 2) true (u′ 3)))) (e 1)
-      ∙ ap (λ (b : Bool). cond (u 0) true (cond (u 1) true (cond b true (u′ 3)))) (e 2)
-      ∙ ap (λ (b : Bool). cond (u 0) true (cond (u 1) true (cond (u 2) true b))) (e 3)
+  uploading-same : (place : ℕ) → uploading (inUse (hold sv i n)) place ≡ uploading (inUse sv) place
+  uploading-same place = four-same _ _ _ _ _ _ _ _ (e 0) (e 1) (e 2) (e 3)
     where
-      u : ℕ → Bool
-      u k = uploads (linkOf sv k) place
+      by : (b : Bool) (s : Session) (m : ℕ) → uploads (cond b (withHeld s m) closedSession) place ≡ uploads (cond b s closedSession) place
+      by true s m = refl
+      by false s m = refl
 
-      u′ : ℕ → Bool
-      u′ k = uploads (linkOf (hold sv i n) k) place
-
-      e : (k : ℕ) → u′ k ≡ u k
-      e k = hold-seen (λ s. uploads s place) (λ s m. refl) k
-
-  continued-same : (f : Found) (number size : ℕ) (fs : List File)
-      → onContinued f number size (hold sv i n .links) fs ≡ onContinued f number size (sv .links) fs
-  unfolding onContinued
-  continued-same Nothing number size fs = refl
-  continued-same (At place) number size fs =
-      ap
-      (λ (b : Bool).
-      cond (eqb (fileAt fs place .time) 0)
-      (cond (eqb (fileAt fs place .size) size)
-      (cond b (act.Tell (UploadError 2)) (act.Resume place number (fileAt fs place .received)))
-      (act.Tell (UploadError 2)))
-      (act.Tell (UploadError 12)))
-      (uploading-same place)
-
-  upload-same : (size : ℕ) (info : List ℕ) (fs : List File) → onUpload (hold sv i n .links) size info fs ≡ onUpload (sv .links) size info fs
-  unfolding onUpload
-  upload-same size info fs =
-      ap (λ (a : Act). cond (eqb size 8) (cond (eqb (wordAt info 0) 0) (act.Begin (wordAt info 4)) a) (act.Tell (UploadError 1)))
-      (continued-same (findOf fs (wordAt info 0)) (wordAt info 0) (wordAt info 4) fs)
-
-  uplink-same : (u : Uplink) (kind size : ℕ) (info : List ℕ) (fs : List File)
-      → onUplink u (hold sv i n .links) kind size info fs ≡ onUplink u (sv .links) kind size info fs
-  unfolding onUplink
-  uplink-same u kind size info fs =
-      ap (λ (a : Act). cond (eqb kind 0) (onData u size fs) (cond (eqb kind 1) (onEnd u) a)) (upload-same size info fs)
-
-  frame-same : (s : Session) (frame : Frame) (info : List ℕ) (fs : List File) (selected : List ℕ)
-      → onFrame s (hold sv i n .links) frame info fs selected ≡ onFrame s (sv .links) frame info fs selected
-  unfolding onFrame onPacket
-  frame-same s Open info fs selected = refl
-  frame-same s TooLong info fs selected = refl
-  frame-same s (Whole kind size) info fs selected =
-      ap
-      (λ (a : Act).
-      cond (expected (s .up) (s .down) kind size)
-      (cond (ltb kind 8) a (onDownlink (s .down) (s .count) (s .next) kind size info fs selected)) act.Close)
-      (uplink-same (s .up) kind size info fs)
-  frame-same s (Refused k) info fs selected = refl
-
-  decide-same : (s : Session) (frame : Frame) (info : List ℕ) (fs : List File) (selected : List ℕ)
-      → decideOf s (hold sv i n .links) frame info fs selected ≡ decideOf s (sv .links) frame info fs selected
-  unfolding decideOf
-  decide-same s frame info fs selected =
-      ap (λ (a : Act). cond (eqb (length info) 256) a act.Ignore) (frame-same s frame info fs selected)
+      e : (k : ℕ) → uploads (usedOf (sv .sessions) k (linkOf (hold sv i n) k)) place ≡ uploads (usedOf (sv .sessions) k (linkOf sv k)) place
+      e k = hold-seen (λ s. uploads (usedOf (sv .sessions) k s) place) (λ s m. by (ltb k (sv .sessions)) s m) k
 
   -- and carried out, for any session
   pub act-same : (j : ℕ) (s : Session) (frame : Frame) (clock : ℕ) (info : List ℕ) (m : Mem)
@@ -132,4 +71,4 @@ module _ (sv : Server) (i n : ℕ) (h : i < length (sv .links)) where
   unfolding actOf putBack
   act-same j s frame clock info m =
       ap (λ (a : Act). putBack sv j m (carryOut a s (sv .last) clock (sv .most) (sizeIn frame) info (partsOf sv j m)))
-      (decide-same s frame info (files (take (4 * sv .files) (m .table))) (part (j * sv .most) (sv .most) (m .selected)))
+      (decide-same (inUse sv) (inUse (hold sv i n)) uploading-same s frame info (files (take (4 * sv .files) (m .table))) (part (j * sv .most) (sv .most) (m .selected)))

@@ -1,10 +1,10 @@
 -- One call on words that are a state: it is the server's own call on the server that they stand for, or it lacks room for its counts. Assumes nothing.
 use mathlib.Core.Path.{_≡_, refl, sym, ap, _∙_}
-use mathlib.Core.Bool.{true, cond}
+use mathlib.Core.Bool.{Bool, true, cond}
 use mathlib.Core.List.{List}
 use Prim.Native.Nat.{ℕ, _≤_, _<_}
 use native.Mathlib.Omega.{arith}
-use borrow.Author.Tests.{lt-ltb, le-ltb}
+use borrow.Author.Tests.{lt-ltb, le-ltb, le-leb}
 use lib.Dec.{ltb}
 use lib.ListN.{length}
 use Rattle.session.specs.declared.reply.Answer.{Answer}
@@ -18,7 +18,7 @@ use Rattle.server.proofs.Answering.{isRefused}
 use Rattle.server.proofs.CheckLaws.{both-true}
 use Rattle.embed.specs.declared.words.Ready.the-variants.{Go, Refuse}
 use Rattle.embed.specs.Words.{encodeOf, serverAt, isState, readyOf}
-use Rattle.embed.specs.Calls.{told, tellOf, received, receivedBy, onReceive, receiveBy, onOpen, openBy, onRequest, requestBy, onLose, loseBy, filled, withCounts, freeIn, onFree, freeBy}
+use Rattle.embed.specs.Calls.{told, tellOf, received, receivedBy, onReceive, receiveBy, onOpen, openBy, onRequest, requestBy, onLose, loseBy, filled, withCounts, fitsAt, mapFits, onFree, freeBy}
 use Rattle.embed.proofs.Reading.{written-back}
 use Rattle.embed.proofs.Refusals.{Ended, through, refused, receive-ended, login-ended, request-ended, lose-ended}
 use Rattle.history.specs.Calls.{Call, login, receive, request, lose, callOf}
@@ -29,33 +29,39 @@ use Rattle.driver.specs.Driver.{callBy}
 
 -- ---- the driver's own mistake: counts too short
 
-ready-is : (w : List ℕ) (counts : ℕ) → 54 ≤ length w → isState w ≡ true → readyOf w counts ≡ cond (ltb counts 2) (Refuse 33) Go
+ready-is : (fit : Bool) (w : List ℕ) (counts : ℕ) → 54 ≤ length w → isState w ≡ true
+    → readyOf fit w counts ≡ cond (ltb counts 2) (Refuse 33) (cond fit Go (Refuse 33))
 unfolding readyOf
-ready-is w counts h e = rw (le-ltb (length w) 54 h, e)
+ready-is fit w counts h e = rw (le-ltb (length w) 54 h, e)
 
 module _ (w : List ℕ) (l : Lent) (room : 54 ≤ length w) (words-are : isState w ≡ true) where
   pub call-short : (c : Call) (counts : List ℕ) → length counts < 2 → callBy w l c counts ≡ received (told 33 w counts) l (outIn c)
   unfolding callBy openBy onOpen receiveBy onReceive requestBy onRequest loseBy onLose
-  call-short (login session clock out) counts h = rw (ready-is w (length counts) room words-are, lt-ltb (length counts) 2 h)
-  call-short (receive session clock input out) counts h = rw (ready-is w (length counts) room words-are, lt-ltb (length counts) 2 h)
-  call-short (request session out) counts h = rw (ready-is w (length counts) room words-are, lt-ltb (length counts) 2 h)
-  call-short (lose session) counts h = rw (ready-is w (length counts) room words-are, lt-ltb (length counts) 2 h)
+  call-short (login session clock out) counts h = rw (ready-is (fitsAt w l) w (length counts) room words-are, lt-ltb (length counts) 2 h)
+  call-short (receive session clock input out) counts h = rw (ready-is (fitsAt w l) w (length counts) room words-are, lt-ltb (length counts) 2 h)
+  call-short (request session out) counts h = rw (ready-is (fitsAt w l) w (length counts) room words-are, lt-ltb (length counts) 2 h)
+  call-short (lose session) counts h = rw (ready-is (fitsAt w l) w (length counts) room words-are, lt-ltb (length counts) 2 h)
 
-  pub call-own : (c : Call) (counts : List ℕ) → 2 ≤ length counts → callBy w l c counts ≡ receivedBy w counts (callOf (serverAt w) l c)
+  pub call-own : fitsAt w l ≡ true → (c : Call) (counts : List ℕ) → 2 ≤ length counts → callBy w l c counts ≡ receivedBy w counts (callOf (serverAt w) l c)
   unfolding callBy openBy onOpen receiveBy onReceive requestBy onRequest loseBy onLose
-  call-own (login session clock out) counts h = rw (ready-is w (length counts) room words-are, le-ltb (length counts) 2 h)
-  call-own (receive session clock input out) counts h = rw (ready-is w (length counts) room words-are, le-ltb (length counts) 2 h)
-  call-own (request session out) counts h = rw (ready-is w (length counts) room words-are, le-ltb (length counts) 2 h)
-  call-own (lose session) counts h = rw (ready-is w (length counts) room words-are, le-ltb (length counts) 2 h)
+  call-own fit (login session clock out) counts h = rw (ready-is (fitsAt w l) w (length counts) room words-are, le-ltb (length counts) 2 h, fit)
+  call-own fit (receive session clock input out) counts h = rw (ready-is (fitsAt w l) w (length counts) room words-are, le-ltb (length counts) 2 h, fit)
+  call-own fit (request session out) counts h = rw (ready-is (fitsAt w l) w (length counts) room words-are, le-ltb (length counts) 2 h, fit)
+  call-own fit (lose session) counts h = rw (ready-is (fitsAt w l) w (length counts) room words-are, le-ltb (length counts) 2 h, fit)
 
   pub free-own : (counts : List ℕ) → 2 ≤ length counts → Good (serverAt w) l
       → freeBy w (l .map) counts ≡ filled 0 (withCounts (freeCount (mapPart (serverAt w) l)) (serverAt w .blocks) counts)
-  unfolding freeBy onFree freeIn
+  unfolding freeBy onFree mapFits
   free-own counts h g =
       let sv = serverAt w in
       let sizes = both-true (sizesFit (sv .blocks) (sv .files) (sv .sessions) (sv .most)) _ (g .fits) .0 in
       let maps = good-facts sv l g .room .map in
-      rw (ready-is w (length counts) room words-are, le-ltb (length counts) 2 h, sizes, le-ltb (length (l .map)) (words (sv .blocks)) maps)
+      rw (
+        ready-is (mapFits sv (length (l .map))) w (length counts) room words-are,
+        le-ltb (length counts) 2 h,
+        sizes,
+        le-leb (words (sv .blocks)) (length (l .map)) maps,
+      )
 
 -- ---- a refused call leaves the server
 

@@ -71,7 +71,7 @@ module _ (w : List ℕ) (l : Lent) (a : Asked) (h : Holds (memory w l) (state (s
   own-holds two c =
       let o = callOf (serverAt w) l (a .call) in
       let e : memory (answered (memory w l) a .told .state) (answered (memory w l) a .lent) ≡ memory (encodeOf (o .done .server) w) (o .lent) =
-      ap (λ (r : Received). memory (r .told .state) (r .lent)) (call-own w l (h .room) (h .words) (a .call) (a .counts) two)
+      ap (λ (r : Received). memory (r .told .state) (r .lent)) (call-own w l (h .room) (h .words) (h .good .fits) (a .call) (a .counts) two)
       ∙ ap (λ (x : List ℕ). memory x (o .lent)) (call-words w (a .counts) l (a .call) (h .words)) in
       subst (λ (x : Memory). Holds x (next (state (serverAt w) l) (a .call))) (sym e)
       (encoded-holds (o .done .server) (o .lent) w (good-kept (serverAt w) l (h .good) (a .call)) (call-kept (serverAt w) l (h .good) (h .kept) (a .call) c))
@@ -162,7 +162,7 @@ module _ (s : Start) (words : List ℕ) where
 module _ (m : Memory) (t : State) (h : Holds m t) where
   own : (a : Asked) → 2 ≤ length (a .counts) → answered m a ≡ receivedBy (m .words) (a .counts) (callOf (t .server) (t .lent) (a .call))
   own a two =
-      call-own (m .words) (m .lent) (h .room) (h .words) (a .call) (a .counts) two
+      call-own (m .words) (m .lent) (h .room) (h .words) (own-state m t h .good .fits) (a .call) (a .counts) two
       ∙ ap (λ (x : State). receivedBy (m .words) (a .counts) (callOf (x .server) (x .lent) (a .call))) (h .is)
 
   -- a refusal by a number is that of the server's call, or 33 for the counts

@@ -9,39 +9,55 @@ use lib.Seq.{sets, sets-eq, take-all}
 use lib.ListN.{length-take}
 use native.Mathlib.Nat.{min-le-left}
 use Rattle.blocks.specs.FreeMap.{freeCount}
+use Rattle.server.specs.declared.Server.{Server}
 use Rattle.server.specs.State.{words}
+use Rattle.server.specs.Check.{sizesFit}
+use Rattle.server.proofs.CheckLaws.{sizes-true, both-true}
 use lib.Dec.{ltb}
-use borrow.Author.Tests.{ltb-false}
+use borrow.Author.Tests.{ltb-false, leb-true}
 use Rattle.embed.specs.declared.words.Ready.{Ready}
 use Rattle.embed.specs.declared.words.Ready.the-variants.{Go, Refuse}
 use Rattle.embed.specs.Words.{isState, readyOf}
-use Rattle.embed.specs.Calls.{withCounts}
+use Rattle.embed.specs.Calls.{withCounts, mapFits}
 
--- room for the words and for the counts, and words that are a state
-pub record GoesThrough (state : List ℕ) (counts : ℕ) : Type 0 where
+-- room for the words, for the counts and for all else, and words that are a state
+pub record GoesThrough (fit : Bool) (state : List ℕ) (counts : ℕ) : Type 0 where
   pub room : 54 ≤ length state
   pub two : 2 ≤ counts
+  pub fits : fit ≡ true
   pub words : isState state ≡ true
 
 abbrev refused : Ready → ℕ
 refused Go = 0
 refused (Refuse n) = 1
 
-pub ready-go : (state : List ℕ) (counts : ℕ) → readyOf state counts ≡ Go → GoesThrough state counts
+pub ready-go : (fit : Bool) (state : List ℕ) (counts : ℕ) → readyOf fit state counts ≡ Go → GoesThrough fit state counts
 unfolding readyOf
-ready-go state counts e = go (ltb (length state) 54) refl (ltb counts 2) refl (isState state) refl e
+ready-go fit state counts e = go (ltb (length state) 54) refl (ltb counts 2) refl fit refl (isState state) refl e
   where
     clash : {n : ℕ} → Refuse n ≡ Go → ⊥
     clash e = let z : _≡_ {A = ℕ} 1 0 = ap refused e in omega arith
 
-    go : (a : Bool) → ltb (length state) 54 ≡ a → (b : Bool) → ltb counts 2 ≡ b → (d : Bool) → isState state ≡ d
-        → cond a (Refuse 33) (cond b (Refuse 33) (cond d Go (Refuse 35))) ≡ Go
-        → GoesThrough state counts
-    go true p b q d r e = absurd (clash e)
-    go false p true q d r e = absurd (clash e)
-    go false p false q false r e = absurd (clash e)
-    go false p false q true r e =
-        record { room = ltb-false (length state) 54 p; two = ltb-false counts 2 q; words = r }
+    go : (a : Bool) → ltb (length state) 54 ≡ a → (b : Bool) → ltb counts 2 ≡ b → (f : Bool) → fit ≡ f → (d : Bool) → isState state ≡ d
+        → cond a (Refuse 33) (cond b (Refuse 33) (cond f (cond d Go (Refuse 35)) (Refuse 33))) ≡ Go
+        → GoesThrough fit state counts
+    go true p b q f o d r e = absurd (clash e)
+    go false p true q f o d r e = absurd (clash e)
+    go false p false q false o d r e = absurd (clash e)
+    go false p false q true o false r e = absurd (clash e)
+    go false p false q true o true r e =
+        record { room = ltb-false (length state) 54 p; two = ltb-false counts 2 q; fits = o; words = r }
+
+-- a server whose map fits: its sizes are in the table, and the map has room
+pub record MapRoom (sv : Server) (map : ℕ) : Type 0 where
+  pub blocks : sv .blocks ≤ 4096
+  pub room : words (sv .blocks) ≤ map
+
+pub map-fits : (sv : Server) (map : ℕ) → mapFits sv map ≡ true → MapRoom sv map
+unfolding mapFits
+map-fits sv map e =
+    let b = both-true (sizesFit (sv .blocks) (sv .files) (sv .sessions) (sv .most)) _ e in
+    record { blocks = sizes-true _ _ _ _ (b .0) .blocks; room = leb-true _ _ (b .1) }
 
 -- numbers written at the front
 front : (vs l : List ℕ) → length vs ≤ length l → sets l 0 vs ≡ vs ++ drop (length vs) l

@@ -130,10 +130,10 @@ tell-bound (answer.Closed taken) sv state counts k h e = omega arith
 tell-bound (answer.Refused n) sv state counts (open-way p) h e = absurd (let z : _≡_ {A = ℕ} 0 1 = cc in omega arith)
 tell-bound (answer.Refused n) sv state counts (shut-way m q p) h e = let z : n ≡ m = cc in absurd (omega (arith, z, q .0, e))
 
-by-ready : {R : Type 0} (codeOf sizeIn : R → ℕ) (state : List ℕ) (counts : ℕ) (f : Ready → R) → ((n : ℕ) → codeOf (f (ready.Refuse n)) ≡ n)
+by-ready : {R : Type 0} (codeOf sizeIn : R → ℕ) (fit : Bool) (state : List ℕ) (counts : ℕ) (f : Ready → R) → ((n : ℕ) → codeOf (f (ready.Refuse n)) ≡ n)
     → (codeOf (f ready.Go) ≤ 2 → sizeIn (f ready.Go) ≤ 258)
-    → codeOf (f (readyOf state counts)) ≤ 2 → sizeIn (f (readyOf state counts)) ≤ 258
-by-ready codeOf sizeIn state counts f kept gone = go (readyOf state counts) (ready-number state counts)
+    → codeOf (f (readyOf fit state counts)) ≤ 2 → sizeIn (f (readyOf fit state counts)) ≤ 258
+by-ready codeOf sizeIn fit state counts f kept gone = go (readyOf fit state counts) (ready-number fit state counts)
   where
     go : (k : Ready) → Local (readyNumber k) → codeOf (f k) ≤ 2 → sizeIn (f k) ≤ 258
     go (ready.Refuse n) h c = absurd (omega (arith, kept n, h .0, c))
@@ -144,7 +144,7 @@ module _ (state counts : List ℕ) (l : Lent) (session : ℕ) (out : List ℕ) w
       → getD (calls.receiveBy state counts l out session clock input .told .counts) 1 0 ≤ 258
   unfolding calls.receiveBy calls.onReceive receiveOf receiveBy
   receive-length clock input =
-      by-ready (λ (r : calls.Received). r .told .code) (λ (r : calls.Received). getD (r .told .counts) 1 0) state (length counts)
+      by-ready (λ (r : calls.Received). r .told .code) (λ (r : calls.Received). getD (r .told .counts) 1 0) (calls.fitsAt state l) state (length counts)
       (λ (k : Ready). calls.onReceive k state counts l out session clock input) (λ n. refl)
       (tell-bound _ _ state counts (known (λ (o : Outcome). o .done .answer) _ _ (λ n. refl)
       (receive-ended (serverAt state) l session out clock input))
@@ -154,7 +154,7 @@ module _ (state counts : List ℕ) (l : Lent) (session : ℕ) (out : List ℕ) w
       → getD (calls.openBy state counts l out session clock .told .counts) 1 0 ≤ 258
   unfolding calls.openBy calls.onOpen loginOf loginBy
   open-length clock =
-      by-ready (λ (r : calls.Sent). r .told .code) (λ (r : calls.Sent). getD (r .told .counts) 1 0) state (length counts)
+      by-ready (λ (r : calls.Sent). r .told .code) (λ (r : calls.Sent). getD (r .told .counts) 1 0) (calls.fitsAt state l) state (length counts)
       (λ (k : Ready). calls.onOpen k state counts l out session clock) (λ n. refl)
       (tell-bound _ _ state counts (known (λ (o : Opened). o .done .answer) _ _ (λ n. refl) (login-ended (serverAt state) l session out clock))
       (on-login (serverAt state) l out (checkOf (serverAt state) l session false (length out)) clock))
@@ -163,7 +163,7 @@ module _ (state counts : List ℕ) (l : Lent) (session : ℕ) (out : List ℕ) w
       → getD (calls.requestBy state counts l out session .told .counts) 1 0 ≤ 258
   unfolding calls.requestBy calls.onRequest requestOf requestBy
   request-length =
-      by-ready (λ (r : calls.Sent). r .told .code) (λ (r : calls.Sent). getD (r .told .counts) 1 0) state (length counts)
+      by-ready (λ (r : calls.Sent). r .told .code) (λ (r : calls.Sent). getD (r .told .counts) 1 0) (calls.fitsAt state l) state (length counts)
       (λ (k : Ready). calls.onRequest k state counts l out session) (λ n. refl)
       (tell-bound _ _ state counts (known (λ (o : Opened). o .done .answer) _ _ (λ n. refl) (request-ended (serverAt state) l session out))
       (on-request (serverAt state) l out (checkOf (serverAt state) l session true (length out))))

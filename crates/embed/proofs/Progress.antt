@@ -18,7 +18,7 @@ use Rattle.session.specs.declared.reply.Reply.{Reply}
 use Rattle.session.specs.declared.reply.Reply.the-variants as reply
 use Rattle.session.specs.Reply as replies
 use Rattle.links.specs.Sound.{linksSound}
-use Rattle.links.proofs.Facts.{LinkFacts, selectionOf, packetOf, sound-facts, part-end}
+use Rattle.links.proofs.Facts.{LinkTested, selectionOf, packetOf, sound-facts, part-end}
 use Rattle.table.specs.Table.{files}
 use Rattle.files.specs.Sound.{soundTest}
 use Rattle.server.specs.declared.Server.{Server}
@@ -142,7 +142,7 @@ links-sound sv l e =
 held-below : (sv : Server) (l : Lent) (i : ℕ) → Seen sv l i → i < sv .sessions → linkOf sv i .held < 258
 held-below sv l i s h = go (ltb (linkOf sv i .held) 2) refl
   where
-    facts : LinkFacts (files (take (4 * sv .files) (l .table))) (sv .most) (selectionOf (sv .most) (l .selected) i) (packetOf (l .held) i)
+    facts : LinkTested (files (take (4 * sv .files) (l .table))) (sv .most) (selectionOf (sv .most) (l .selected) i) (packetOf (l .held) i)
         (linkOf sv i)
     facts = sound-facts _ _ _ _ _ _ (links-sound sv l (s .sound)) .each i h (s .linked)
 
@@ -203,4 +203,5 @@ module _ (state counts : List ℕ) (l : Lent) (out : List ℕ) (session clock : 
   pub receive-takes : calls.receiveBy state counts l out session clock input .told .code ≤ 2
       → Takes (length input) (getD (calls.receiveBy state counts l out session clock input .told .counts) 0 0)
   unfolding calls.receiveBy
-  receive-takes c = ready-takes (readyOf state (length counts)) (ready-number state (length counts)) c
+  receive-takes c =
+      ready-takes (readyOf (calls.fitsAt state l) state (length counts)) (ready-number (calls.fitsAt state l) state (length counts)) c

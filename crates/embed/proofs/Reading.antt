@@ -232,7 +232,7 @@ written-back state e =
     ap (λ (l : List ℕ). l ++ drop 54 state) (sym (same-eq (take 54 state) (wordsOf (serverAt state)) e)) ∙ take-append-drop 54 state
 
 pub ready-again : (sv : Server) (state : List ℕ) (counts : ℕ) → ServerFits sv → 54 ≤ length state → 2 ≤ counts
-    → readyOf (encodeOf sv state) counts ≡ Go
+    → readyOf true (encodeOf sv state) counts ≡ Go
 unfolding readyOf
 ready-again sv state counts f h k =
     rw (le-ltb (length (encodeOf sv state)) 54 (omega (arith, length-encoded sv state h, h)), le-ltb counts 2 k, encoded-state sv state f)

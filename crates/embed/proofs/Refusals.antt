@@ -6,17 +6,16 @@ use mathlib.Core.List.{List, _++_}
 use Prim.Native.Nat.{ℕ, _+_, _-_, _≤_}
 use native.Mathlib.Omega.{arith}
 use lib.Dec.{eqb, ltb}
-use lib.ListN.{length, take, drop}
+use lib.ListN.{length, drop}
 use Rattle.session.specs.declared.state.Downlink.the-variants as down
 use Rattle.session.specs.declared.reply.Answer.{Answer}
 use Rattle.session.specs.declared.reply.Answer.the-variants as answer
 use Rattle.session.specs.declared.reply.Reply.the-variants as reply
 use Rattle.session.specs.Reply as replies
-use Rattle.blocks.specs.FreeMap.{freeCount}
 use Rattle.server.specs.declared.Server.{Server}
 use Rattle.server.specs.declared.check.Check.{Check}
 use Rattle.server.specs.declared.check.Check.the-variants as check
-use Rattle.server.specs.State.{Lent, words, linkOf, Outcome, outcome, doneWith}
+use Rattle.server.specs.State.{Lent, linkOf, Outcome, outcome, doneWith}
 use Rattle.server.specs.Check.{sizesFit, soundIn, fits, inState, sessionCheck, checkBy, checkOf}
 use Rattle.server.specs.Calls.{onCheck, receiveBy, receiveOf, Opened, opened, onLogin}
 use Rattle.server.specs.Calls.{loginBy, loginOf, Lost, lost, onLose, loseBy, loseOf, dueAs, onRequest, requestBy, requestOf}
@@ -63,15 +62,17 @@ abbrev pub readyNumber : Ready → ℕ
 readyNumber ready.Go = 33
 readyNumber (ready.Refuse n) = n
 
-pub ready-number : (state : List ℕ) (counts : ℕ) → Local (readyNumber (readyOf state counts))
+pub ready-number : (fit : Bool) (state : List ℕ) (counts : ℕ) → Local (readyNumber (readyOf fit state counts))
 unfolding readyOf
-ready-number state counts = go (ltb (length state) 54) (ltb counts 2) (isState state)
+ready-number fit state counts = go (ltb (length state) 54) (ltb counts 2) fit (isState state)
   where
-    go : (a b c : Bool) → Local (readyNumber (cond a (ready.Refuse 33) (cond b (ready.Refuse 33) (cond c ready.Go (ready.Refuse 35)))))
-    go true b c = (omega arith, omega arith)
-    go false true c = (omega arith, omega arith)
-    go false false true = (omega arith, omega arith)
-    go false false false = (omega arith, omega arith)
+    go : (a b f c : Bool)
+        → Local (readyNumber (cond a (ready.Refuse 33) (cond b (ready.Refuse 33) (cond f (cond c ready.Go (ready.Refuse 35)) (ready.Refuse 33)))))
+    go true b f c = (omega arith, omega arith)
+    go false true f c = (omega arith, omega arith)
+    go false false false c = (omega arith, omega arith)
+    go false false true true = (omega arith, omega arith)
+    go false false true false = (omega arith, omega arith)
 
 -- ---- the server's calls: not refused, or refused by a number of the table with all as it was
 
@@ -126,9 +127,9 @@ tell-code (answer.Sent taken size) sv state counts e = omega arith
 tell-code (answer.Closed taken) sv state counts e = omega arith
 tell-code (answer.Refused n) sv state counts e = absurd (let z : _≡_ {A = ℕ} 0 1 = cc in omega arith)
 
-by-ready : {R : Type 0} (codeOf : R → ℕ) (same : ℕ → R) (state : List ℕ) (counts : ℕ) (f : Ready → R)
-    → ((n : ℕ) → f (ready.Refuse n) ≡ same n) → Ends codeOf same (f ready.Go) → Ends codeOf same (f (readyOf state counts))
-by-ready codeOf same state counts f kept gone = go (readyOf state counts) (ready-number state counts)
+by-ready : {R : Type 0} (codeOf : R → ℕ) (same : ℕ → R) (fit : Bool) (state : List ℕ) (counts : ℕ) (f : Ready → R)
+    → ((n : ℕ) → f (ready.Refuse n) ≡ same n) → Ends codeOf same (f ready.Go) → Ends codeOf same (f (readyOf fit state counts))
+by-ready codeOf same fit state counts f kept gone = go (readyOf fit state counts) (ready-number fit state counts)
   where
     go : (k : Ready) → Local (readyNumber k) → Ends codeOf same (f k)
     go (ready.Refuse n) h = unchanged n h (kept n)
@@ -147,7 +148,7 @@ module _ (state counts : List ℕ) (l : Lent) (session : ℕ) where
       (calls.receiveBy state counts l out session clock input)
   unfolding calls.receiveBy calls.onReceive
   receive-ends out clock input =
-      by-ready _ _ state (length counts) (λ (k : Ready). calls.onReceive k state counts l out session clock input) (λ n. refl)
+      by-ready _ _ (calls.fitsAt state l) state (length counts) (λ (k : Ready). calls.onReceive k state counts l out session clock input) (λ n. refl)
       (receive-go out _ (receive-ended (serverAt state) l session out clock input))
 
   sent-go : (out : List ℕ) (o : Opened)
@@ -162,14 +163,14 @@ module _ (state counts : List ℕ) (l : Lent) (session : ℕ) where
       (calls.openBy state counts l out session clock)
   unfolding calls.openBy calls.onOpen
   open-ends out clock =
-      by-ready _ _ state (length counts) (λ (k : Ready). calls.onOpen k state counts l out session clock) (λ n. refl)
+      by-ready _ _ (calls.fitsAt state l) state (length counts) (λ (k : Ready). calls.onOpen k state counts l out session clock) (λ n. refl)
       (sent-go out _ (login-ended (serverAt state) l session out clock))
 
   pub request-ends : (out : List ℕ)
       → Ends (λ (r : calls.Sent). r .told .code) (λ (n : ℕ). calls.sent (calls.told n state counts) out) (calls.requestBy state counts l out session)
   unfolding calls.requestBy calls.onRequest
   request-ends out =
-      by-ready _ _ state (length counts) (λ (k : Ready). calls.onRequest k state counts l out session) (λ n. refl)
+      by-ready _ _ (calls.fitsAt state l) state (length counts) (λ (k : Ready). calls.onRequest k state counts l out session) (λ n. refl)
       (sent-go out _ (request-ended (serverAt state) l session out))
 
   lose-go : (o : Lost)
@@ -185,7 +186,7 @@ module _ (state counts : List ℕ) (l : Lent) (session : ℕ) where
       (calls.loseBy state counts l session)
   unfolding calls.loseBy calls.onLose
   lose-ends =
-      by-ready _ _ state (length counts) (λ (k : Ready). calls.onLose k state counts l session) (λ n. refl)
+      by-ready _ _ (calls.fitsAt state l) state (length counts) (λ (k : Ready). calls.onLose k state counts l session) (λ n. refl)
       (lose-go _ (lose-ended (serverAt state) l session))
 
 -- making a server answers 0, or 33 with all as it was
@@ -222,21 +223,8 @@ module _ (blocks files sessions most : ℕ) (need : List ℕ) where
       go false false = unchanged 33 (omega arith, omega arith) refl
 
 module _ (map counts : List ℕ) where
-  free-in-ends : (sv : Server) → Ends (λ (r : calls.Filled). r .code) (λ (n : ℕ). calls.filled n counts) (calls.freeIn sv map counts)
-  unfolding calls.freeIn
-  free-in-ends sv = go (sizesFit (sv .blocks) (sv .files) (sv .sessions) (sv .most)) (ltb (length map) (words (sv .blocks)))
-    where
-      go : (a b : Bool)
-          → Ends (λ (r : calls.Filled). r .code) (λ (n : ℕ). calls.filled n counts)
-          (cond a
-          (cond b (calls.filled 33 counts)
-          (calls.filled 0 (calls.withCounts (freeCount (take (words (sv .blocks)) map)) (sv .blocks) counts)))
-          (calls.filled 33 counts))
-      go false b = unchanged 33 (omega arith, omega arith) refl
-      go true true = unchanged 33 (omega arith, omega arith) refl
-      go true false = answered (omega arith)
-
   pub free-ends : (state : List ℕ) → Ends (λ (r : calls.Filled). r .code) (λ (n : ℕ). calls.filled n counts) (calls.freeBy state map counts)
   unfolding calls.freeBy calls.onFree
   free-ends state =
-      by-ready _ _ state (length counts) (λ (k : Ready). calls.onFree k state map counts) (λ n. refl) (free-in-ends (serverAt state))
+      by-ready _ _ (calls.mapFits (serverAt state) (length map)) state (length counts) (λ (k : Ready). calls.onFree k state map counts) (λ n. refl)
+      (answered (omega arith))

@@ -1,9 +1,9 @@
 -- The calls for programs in other languages. Each is the server's call on the state that the words are read as; the answer is a number, and the
 -- words and the counts are written only where the call is not refused. Assumes nothing.
-use mathlib.Core.Bool.{cond}
+use mathlib.Core.Bool.{Bool, false, cond}
 use mathlib.Core.List.{List, [], _∷_, _++_}
 use Prim.Native.Nat.{ℕ, _+_, _*_}
-use lib.Dec.{eqb, ltb}
+use lib.Dec.{eqb, leb, ltb}
 use lib.ListN.{length, take, drop}
 use Rattle.session.specs.declared.reply.Answer.{Answer}
 use Rattle.session.specs.declared.reply.Answer.the-variants as answer
@@ -12,7 +12,7 @@ use Rattle.server.specs.declared.Server.{Server}
 use Rattle.server.specs.declared.Done.{Done}
 use Rattle.server.specs.declared.Made.{Made}
 use Rattle.server.specs.State.{Lent, lent, Outcome, words}
-use Rattle.server.specs.Check.{sizesFit}
+use Rattle.server.specs.Check.{sizesFit, fits}
 use Rattle.server.specs.Making.{Emptied, Makes, makeOf}
 use Rattle.server.specs.Calls.{receiveOf, Opened, loginOf, requestOf, Lost, loseOf}
 use Rattle.embed.specs.declared.words.Ready.{Ready}
@@ -44,6 +44,15 @@ tellOf (answer.Refused n) sv state counts = told n state counts
 abbrev pub doneOf : Done → List ℕ → List ℕ → Told
 doneOf d state counts = tellOf (d .answer) (d .server) state counts
 
+-- ---- whether a call comes to the server
+
+-- the sizes and the lengths of what is lent to each call
+abbrev pub fitsAt : List ℕ → Lent → Bool
+fitsAt state l = fits (serverAt state) (length (l .disk)) (l .map) (l .owner) (l .table) (l .selected) (l .held)
+
+abbrev pub readyFor : List ℕ → List ℕ → Lent → Ready
+readyFor state counts l = readyOf (fitsAt state l) state (length counts)
+
 -- ---- receive
 
 -- all that a call leaves
@@ -64,7 +73,7 @@ onReceive Go state counts l out session clock input = receivedBy state counts (r
 
 unfoldable pub receiveBy : List ℕ → List ℕ → Lent → List ℕ → ℕ → ℕ → List ℕ → Received
 receiveBy state counts l out session clock input =
-    onReceive (readyOf state (length counts)) state counts l out session clock input
+    onReceive (readyFor state counts l) state counts l out session clock input
 
 -- ---- open and request
 
@@ -84,14 +93,14 @@ onOpen (Refuse n) state counts l out session clock = sent (told n state counts) 
 onOpen Go state counts l out session clock = sentBy state counts (loginOf (serverAt state) l out session clock)
 
 unfoldable pub openBy : List ℕ → List ℕ → Lent → List ℕ → ℕ → ℕ → Sent
-openBy state counts l out session clock = onOpen (readyOf state (length counts)) state counts l out session clock
+openBy state counts l out session clock = onOpen (readyFor state counts l) state counts l out session clock
 
 unfoldable pub onRequest : Ready → List ℕ → List ℕ → Lent → List ℕ → ℕ → Sent
 onRequest (Refuse n) state counts l out session = sent (told n state counts) out
 onRequest Go state counts l out session = sentBy state counts (requestOf (serverAt state) l out session)
 
 unfoldable pub requestBy : List ℕ → List ℕ → Lent → List ℕ → ℕ → Sent
-requestBy state counts l out session = onRequest (readyOf state (length counts)) state counts l out session
+requestBy state counts l out session = onRequest (readyFor state counts l) state counts l out session
 
 -- ---- lose
 
@@ -112,7 +121,7 @@ onLose (Refuse n) state counts l session = gone (told n state counts) (l .select
 onLose Go state counts l session = goneBy state counts (loseOf (serverAt state) l session)
 
 unfoldable pub loseBy : List ℕ → List ℕ → Lent → ℕ → Gone
-loseBy state counts l session = onLose (readyOf state (length counts)) state counts l session
+loseBy state counts l session = onLose (readyFor state counts l) state counts l session
 
 -- ---- make
 
@@ -160,17 +169,17 @@ memoryBy blocks files sessions most need =
 
 -- ---- free blocks
 
+-- the sizes, and the length of the map, which is all that is lent besides the words and the counts
+unfoldable pub mapFits : Server → ℕ → Bool
+mapFits sv map = cond (sizesFit (sv .blocks) (sv .files) (sv .sessions) (sv .most)) (leb (words (sv .blocks)) map) false
+
 -- "the number free is the count of its one bits", beside the number of all blocks
-unfoldable pub freeIn : Server → List ℕ → List ℕ → Filled
-freeIn sv map counts =
-    cond (sizesFit (sv .blocks) (sv .files) (sv .sessions) (sv .most))
-    (cond (ltb (length map) (words (sv .blocks))) (filled 33 counts)
-    (filled 0 (withCounts (freeCount (take (words (sv .blocks)) map)) (sv .blocks) counts)))
-    (filled 33 counts)
+abbrev pub freeIn : Server → List ℕ → List ℕ → List ℕ
+freeIn sv map counts = withCounts (freeCount (take (words (sv .blocks)) map)) (sv .blocks) counts
 
 unfoldable pub onFree : Ready → List ℕ → List ℕ → List ℕ → Filled
 onFree (Refuse n) state map counts = filled n counts
-onFree Go state map counts = freeIn (serverAt state) map counts
+onFree Go state map counts = filled 0 (freeIn (serverAt state) map counts)
 
 unfoldable pub freeBy : List ℕ → List ℕ → List ℕ → Filled
-freeBy state map counts = onFree (readyOf state (length counts)) state map counts
+freeBy state map counts = onFree (readyOf (mapFits (serverAt state) (length map)) state (length counts)) state map counts

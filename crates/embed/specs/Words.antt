@@ -97,8 +97,10 @@ sameWords (x ∷ xs) (y ∷ ys) = cond (eqb x y) (sameWords xs ys) false
 unfoldable pub isState : List ℕ → Bool
 isState state = sameWords (take 54 state) (wordsOf (serverAt state))
 
--- "33 local: .. a lent buffer too short", "35 local: in the state handed in, .. facts .. are broken": words that are no state are refused by 35.
--- `counts` is the length of what is lent for the counts.
-unfoldable pub readyOf : List ℕ → ℕ → Ready
-readyOf state counts =
-    cond (ltb (length state) 54) (Refuse 33) (cond (ltb counts 2) (Refuse 33) (cond (isState state) Go (Refuse 35)))
+-- "33 local: a size or length outside the table .. or a lent buffer too short", "35 local: in the state handed in, .. facts .. are broken":
+-- "Order: 33, 35". Words that are no state are refused by 35, where nothing is to be refused by 33. `counts` is the length of what is lent for
+-- the counts; `fit`: the sizes in words 0 to 3 are in the table, and all else that is lent has room for them.
+unfoldable pub readyOf : Bool → List ℕ → ℕ → Ready
+readyOf fit state counts =
+    cond (ltb (length state) 54) (Refuse 33)
+    (cond (ltb counts 2) (Refuse 33) (cond fit (cond (isState state) Go (Refuse 35)) (Refuse 33)))

@@ -16,7 +16,7 @@ ghost use lib.ListN.{length};
 ghost use Rattle.server.specs.State.{lent};
 ghost use Rattle.server.specs.Making.{emptied};
 ghost use Rattle.embed.specs.Words.{isState};
-ghost use Rattle.embed.specs.Calls.{told, tellOf, received, receiveBy, sent, openBy, requestBy, gone, loseBy, begun, keepOf, makeBy, filled, memoryBy, withCounts, freeIn, freeBy};
+ghost use Rattle.embed.specs.Calls.{told, tellOf, received, receiveBy, sent, openBy, requestBy, gone, loseBy, begun, keepOf, makeBy, filled, memoryBy, withCounts, mapFits, freeIn, freeBy};
 
 // ---- memory
 
@@ -163,7 +163,16 @@ pub extern "C" fn figmorella_open(
         ≡ openBy (now (state .entry)) (now (counts .entry)) (lent (now (disk .entry)) (now (map .entry)) (now (owner .entry)) (now (table .entry)) (now (selected .entry)) (now (held .entry))) (now (out .entry)) session clock ⌝ }
     ensures { λ _. ⌜ (isState (now (state .entry)) ≡ true → isState (now (state .exit)) ≡ true) ⌝ }
 {
-    let k = words::check(&*state, counts.len());
+    let k = words::check(
+        &*state,
+        counts.len(),
+        disk.len(),
+        map.len(),
+        owner.len(),
+        table.len(),
+        selected.len(),
+        held.len(),
+    );
     match k {
         Ready::Refuse(n) => n,
         Ready::Go => {
@@ -207,7 +216,16 @@ pub extern "C" fn figmorella_receive(
         ≡ receiveBy (now (state .entry)) (now (counts .entry)) (lent (now (disk .entry)) (now (map .entry)) (now (owner .entry)) (now (table .entry)) (now (selected .entry)) (now (held .entry))) (now (out .entry)) session clock (now (input .entry)) ⌝ }
     ensures { λ _. ⌜ (isState (now (state .entry)) ≡ true → isState (now (state .exit)) ≡ true) ⌝ }
 {
-    let k = words::check(&*state, counts.len());
+    let k = words::check(
+        &*state,
+        counts.len(),
+        disk.len(),
+        map.len(),
+        owner.len(),
+        table.len(),
+        selected.len(),
+        held.len(),
+    );
     match k {
         Ready::Refuse(n) => n,
         Ready::Go => {
@@ -250,7 +268,16 @@ pub extern "C" fn figmorella_request(
         ≡ requestBy (now (state .entry)) (now (counts .entry)) (lent (now (disk .entry)) (now (map .entry)) (now (owner .entry)) (now (table .entry)) (now (selected .entry)) (now (held .entry))) (now (out .entry)) session ⌝ }
     ensures { λ _. ⌜ (isState (now (state .entry)) ≡ true → isState (now (state .exit)) ≡ true) ⌝ }
 {
-    let k = words::check(&*state, counts.len());
+    let k = words::check(
+        &*state,
+        counts.len(),
+        disk.len(),
+        map.len(),
+        owner.len(),
+        table.len(),
+        selected.len(),
+        held.len(),
+    );
     match k {
         Ready::Refuse(n) => n,
         Ready::Go => {
@@ -290,7 +317,16 @@ pub extern "C" fn figmorella_lose(
         ≡ loseBy (now (state .entry)) (now (counts .entry)) (lent (now (disk .entry)) (now (map .entry)) (now (owner .entry)) (now (table .entry)) (now (selected .entry)) (now (held .entry))) session ⌝ }
     ensures { λ _. ⌜ (isState (now (state .entry)) ≡ true → isState (now (state .exit)) ≡ true) ⌝ }
 {
-    let k = words::check(&*state, counts.len());
+    let k = words::check(
+        &*state,
+        counts.len(),
+        disk.len(),
+        map.len(),
+        owner.len(),
+        table.len(),
+        selected.len(),
+        held.len(),
+    );
     match k {
         Ready::Refuse(n) => n,
         Ready::Go => {
@@ -306,21 +342,14 @@ pub extern "C" fn figmorella_lose(
 // ---- free blocks
 
 // The free blocks of a server's map, and all its blocks.
-fn free_in(server: Server, map: &[u64], counts: &mut [usize]) -> u8
-    requires { ⌜ 2 ≤ length (now counts) ⌝ }
-    ensures { λ r. ⌜ filled r (now (counts .exit)) ≡ freeIn server (now (map .entry)) (now (counts .entry)) ⌝ }
+fn free_in(server: Server, map: &[u64], counts: &mut [usize])
+    requires { ⌜ (mapFits server (length (now map)) ≡ true) × (2 ≤ length (now counts)) ⌝ }
+    ensures { λ _. ⌜ now (counts .exit) ≡ freeIn server (now (map .entry)) (now (counts .entry)) ⌝ }
 {
     let b = server.blocks;
-    if server::check::sizes_fit(b, server.files, server.sessions, server.most) {
-        let w = (b + 63) / 64;
-        if map.len() < w {
-            return 33;
-        }
-        let free = blocks::free_count(&map[..w]);
-        write_counts(counts, free, b);
-        return 0;
-    }
-    33
+    let w = (b + 63) / 64;
+    let free = blocks::free_count(&map[..w]);
+    write_counts(counts, free, b);
 }
 
 // The number of free blocks and the number of all blocks, as two counts.
@@ -328,9 +357,12 @@ fn free_in(server: Server, map: &[u64], counts: &mut [usize]) -> u8
 pub extern "C" fn figmorella_free(state: &[u64], map: &[u64], counts: &mut [usize]) -> u8
     ensures { λ r. ⌜ filled r (now (counts .exit)) ≡ freeBy (now (state .entry)) (now (map .entry)) (now (counts .entry)) ⌝ }
 {
-    let k = words::check(state, counts.len());
+    let k = words::check_map(state, counts.len(), map.len());
     match k {
         Ready::Refuse(n) => n,
-        Ready::Go => free_in(words::server_at(state), map, counts),
+        Ready::Go => {
+            free_in(words::server_at(state), map, counts);
+            0
+        }
     }
 }

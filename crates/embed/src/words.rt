@@ -1,17 +1,21 @@
 // The server's state as 64-bit words in the caller's memory. `server_at` and `encode` alone know where a word stands.
 use carry::turn::Last;
 use server::Server;
+use server::check::Lengths;
 use session::state::Downlink;
 use session::state::Session;
 use session::state::Uplink;
 ghost use mathlib.Core.Path.{_≡_};
 ghost use mathlib.Core.List.{[], _∷_};
-ghost use mathlib.Core.Bool.{true};
+ghost use mathlib.Core.Bool.{true, cond};
 ghost use Prim.Native.Nat.{_+_, _≤_, _<_};
 ghost use lib.ListN.{length};
 ghost use lib.Seq.{sets};
+ghost use Rattle.server.specs.Check.{fitsIn};
+ghost use Rattle.embed.specs.declared.words.Ready.the-variants as ready;
 ghost use Rattle.embed.specs.Fit.{UpFits, DownFits, SessionFits, LastFits};
 ghost use Rattle.embed.specs.Words.{flag, upWords, downWords, sessionWords, headWords, encodeOf, low, upOf, downOf, sessionAt, serverAt, sameWords, isState, readyOf};
+ghost use Rattle.embed.specs.Calls.{mapFits};
 
 // The words are a state, or the call is refused.
 pub enum Ready {
@@ -261,9 +265,32 @@ fn is_state(state: &[u64]) -> bool
     same(&state[..n], &words)
 }
 
-// The room for the words and for the counts, 33; the words, 35.
-pub(crate) fn check(state: &[u64], counts: usize) -> Ready
-    ensures { λ r. ⌜ r ≡ readyOf (now (state .entry)) counts ⌝ }
+// What is lent fits the sizes in the words, or 33; the words are a state, or 35.
+fn judge(state: &[u64], fit: bool) -> Ready
+    requires { ⌜ 54 ≤ length (now state) ⌝ }
+    ensures { λ r. ⌜ r ≡ cond fit (cond (isState (now (state .entry))) ready.Go (ready.Refuse 35)) (ready.Refuse 33) ⌝ }
+{
+    if fit {
+        if is_state(state) {
+            return Ready::Go;
+        }
+        return Ready::Refuse(35);
+    }
+    Ready::Refuse(33)
+}
+
+// The room for the words and for the counts, the sizes and the lengths of all else that is lent, 33; the words, 35.
+pub(crate) fn check(
+    state: &[u64],
+    counts: usize,
+    disk: usize,
+    map: usize,
+    owner: usize,
+    table: usize,
+    selected: usize,
+    held: usize,
+) -> Ready
+    ensures { λ r. ⌜ r ≡ readyOf (fitsIn (serverAt (now (state .entry))) disk map owner table selected held) (now (state .entry)) counts ⌝ }
 {
     if state.len() < 54 {
         return Ready::Refuse(33);
@@ -271,8 +298,38 @@ pub(crate) fn check(state: &[u64], counts: usize) -> Ready
     if counts < 2 {
         return Ready::Refuse(33);
     }
-    if is_state(state) {
-        return Ready::Go;
+    let n = Lengths {
+        disk: disk,
+        map: map,
+        owner: owner,
+        table: table,
+        selected: selected,
+        held: held,
+    };
+    let server = server_at(state);
+    judge(state, server::check::fits_all(server, n))
+}
+
+// The sizes, and a map that is long enough for them.
+fn map_fits(server: Server, map: usize) -> bool
+    ensures { λ r. ⌜ r ≡ mapFits server map ⌝ }
+{
+    if server::check::sizes_fit(server.blocks, server.files, server.sessions, server.most) {
+        return (server.blocks + 63) / 64 <= map;
     }
-    Ready::Refuse(35)
+    false
+}
+
+// The same where the map alone is lent besides.
+pub(crate) fn check_map(state: &[u64], counts: usize, map: usize) -> Ready
+    ensures { λ r. ⌜ r ≡ readyOf (mapFits (serverAt (now (state .entry))) map) (now (state .entry)) counts ⌝ }
+{
+    if state.len() < 54 {
+        return Ready::Refuse(33);
+    }
+    if counts < 2 {
+        return Ready::Refuse(33);
+    }
+    let server = server_at(state);
+    judge(state, map_fits(server, map))
 }

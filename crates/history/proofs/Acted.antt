@@ -38,7 +38,8 @@ use Rattle.files.proofs.Soundness.{file-room}
 use Rattle.files.proofs.Choice.{chosen-most}
 use Rattle.files.proofs.Selected as choice
 use Rattle.links.specs.Sound.{link}
-use Rattle.links.proofs.Facts.{CompleteAt, PartialAt, SendingAt, Selectable, Uploads}
+use Rattle.links.specs.Kept.{Uploads}
+use Rattle.links.proofs.Facts.{CompleteAt, PartialAt, SendingAt, Selectable}
 use Rattle.decide.specs.declared.act.Act.{Act}
 use Rattle.decide.specs.declared.act.Act.the-variants as act
 use Rattle.carry.specs.declared.turn.Last.{Last}

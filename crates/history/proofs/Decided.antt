@@ -23,7 +23,8 @@ use Rattle.table.specs.declared.Found.the-variants.{Nothing, At}
 use Rattle.table.specs.Table.{fileAt, findOf}
 use Rattle.table.proofs.Finding.{find-found, find-number}
 use Rattle.links.specs.Sound.{link}
-use Rattle.links.proofs.Facts.{CompleteAt, PartialAt, SendingAt, Uploads}
+use Rattle.links.specs.Kept.{Uploads}
+use Rattle.links.proofs.Facts.{CompleteAt, PartialAt, SendingAt}
 use Rattle.decide.specs.Words.{wordAt}
 use Rattle.decide.specs.Uplink.{uploads, uploading, onContinued, onUpload, onData, onEnd, onUplink}
 use Rattle.decide.specs.Downlink.{onFound, onNumbered, onDownload, onAck, onNak, onDownlink}

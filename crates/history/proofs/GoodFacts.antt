@@ -1,4 +1,4 @@
--- A good state as facts: the sizes and the room, the store's soundness and the sessions', and back.
+-- A good state as facts: the sizes and the room, the store's soundness and the sessions', with what calls keep of them, and back.
 use mathlib.Core.Path.{_≡_, refl}
 use mathlib.Core.Bool.{Bool, true, false, cond}
 use Prim.Native.Nat.{ℕ, _-_, _≤_, _<_}
@@ -75,7 +75,8 @@ module _ (sv : Server) (l : Lent) where
             room = r;
             store = store.sound-facts (mapPart sv l) (ownerPart sv l) (tablePart sv l) (sv .last .number) (sv .last .time) (t .store);
             disk = record { some = omega arith; most = omega (arith, s .blocks); bytes = omega (arith, r .disk) };
-            sessions = links.sound-facts (files (tablePart sv l)) (sv .sessions) (sv .most) (l .selected) (l .held) (sv .links) (t .sessions);
+            sessions = links.kept-facts (files (tablePart sv l)) (sv .sessions) (sv .most) (l .selected) (l .held) (sv .links)
+                (links.sound-facts (files (tablePart sv l)) (sv .sessions) (sv .most) (l .selected) (l .held) (sv .links) (t .sessions)) (g .kept);
             links = g .links;
           }
 
@@ -90,7 +91,9 @@ module _ (sv : Server) (l : Lent) where
       record {
         fits = f;
         sound = rw (store.facts-sound (mapPart sv l) (ownerPart sv l) (tablePart sv l) (sv .last .number) (sv .last .time) s)
-            (links.facts-sound (files (tablePart sv l)) (sv .sessions) (sv .most) (l .selected) (l .held) (sv .links) k);
+            (links.facts-sound (files (tablePart sv l)) (sv .sessions) (sv .most) (l .selected) (l .held) (sv .links)
+            (links.facts-tested (files (tablePart sv l)) (sv .sessions) (sv .most) (l .selected) (l .held) (sv .links) k));
+        kept = links.facts-kept (files (tablePart sv l)) (sv .sessions) (sv .most) (l .selected) (l .held) (sv .links) k;
         links = n;
       }
 

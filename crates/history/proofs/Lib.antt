@@ -9,6 +9,7 @@ pub mod Acted
 pub mod Sessions
 pub mod Parts
 pub mod GoodFacts
+pub mod InUse
 pub mod Hearing
 pub mod Made
 pub mod Leaves

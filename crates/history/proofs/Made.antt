@@ -13,8 +13,7 @@ use Rattle.blocks.specs.Answers.{makeMap, makeOwner}
 use Rattle.blocks.proofs.Agreement.{length-map}
 use Rattle.table.specs.Table.{files}
 use Rattle.files.proofs.Empty.{empty-sound}
-use Rattle.links.proofs.Facts.{closed-sound}
-use Rattle.links.proofs.Facts as links
+use Rattle.links.proofs.Facts.{closed-facts}
 use Rattle.server.specs.declared.Server.{Server}
 use Rattle.server.specs.State.{Lent, lent, words, tablePart}
 use Rattle.server.specs.Check.{sizesFit}
@@ -84,9 +83,8 @@ module _ (s : Start) where
       facts-good server left
       (rw (front-length (words (s .blocks)) m (s .lent .map) (z .room .map) k, o .1, t .1, x .1, h .1) e)
       (rw (front-back (words (s .blocks)) m (s .lent .map) (z .room .map) k, o .0, t .0) (empty-sound (s .blocks) (s .files) 0 0 (z .sizes .files)))
-      (links.sound-facts (files (tablePart server left)) (s .sessions) (s .most) (left .selected) (left .held) (server .links)
-      (closed-sound (files (tablePart server left)) (s .sessions) (s .most) (left .selected) (left .held) (z .sizes .sessions) (z .sizes .most)
-      (omega (arith, x .1, z .room .selected)) (omega (arith, h .1, z .room .held))))
+      (closed-facts (files (tablePart server left)) (s .sessions) (s .most) (left .selected) (left .held) (z .sizes .sessions) (z .sizes .most)
+      (omega (arith, x .1, z .room .selected)) (omega (arith, h .1, z .room .held)))
       refl
 
   pub made-good : legal s ≡ true → Good (made s .server) (made s .lent)

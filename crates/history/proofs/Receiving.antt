@@ -10,13 +10,14 @@ use Rattle.links.proofs.Facts.{LinkFacts, Unfinished, selectionOf, packetOf}
 use Rattle.carry.specs.Turn.{Mem, Turned}
 use Rattle.server.specs.declared.Server.{Server}
 use Rattle.server.specs.State.{Lent, linkOf, tablePart}
-use Rattle.server.specs.Turns.{HeardIn, hearOf, partsOf, putBack, actOf}
+use Rattle.server.specs.Turns.{HeardIn, hearOf, partsOf, putBack}
 use Rattle.server.specs.Calls.{answeredBy, heardBy, stepOf}
 use Rattle.history.specs.Good.{Good}
 use Rattle.history.proofs.Interface.{Kept}
 use Rattle.history.proofs.Acts.{act-kept, turnAfter}
 use Rattle.history.proofs.Sessions.{turn-acted, turn-links}
 use Rattle.history.proofs.GoodFacts.{Facts, good-facts}
+use Rattle.history.proofs.InUse.{act-in-use}
 use Rattle.history.proofs.Hearing.{HeardOf, hear-well}
 use Rattle.history.proofs.Leaves.{Leaves, memOf, stored-parts, leaves-turn}
 
@@ -53,12 +54,13 @@ module _ (sv : Server) (l : Lent) (g : Good sv l) (i : ℕ) (inside : i < sv .se
     -- what was heard is acted on
     heard-leaves : (out : List ℕ) → HeardOf (l .held) i h
         → Leaves sv l (heardBy sv i clock l out h .done .server) (heardBy sv i clock l out h .lent)
-    unfolding heardBy answeredBy actOf putBack
+    unfolding heardBy answeredBy putBack
     heard-leaves out w =
-        leaves-turn sv l g i inside turned kept (h .held) (w .lengths)
+        rw (act-in-use sv (facts .sessions .beyond) i session (h .framed .frame) clock (h .framed .info) (memOf l))
+        (leaves-turn sv l g i inside turned kept (h .held) (w .lengths)
         (turn-links (sv .sessions) (sv .most) (l .selected) (l .held) (h .held) (sv .links) i (h .framed .held) parts (sv .last) clock
         (h .framed .frame) (h .framed .info) (facts .sessions) inside linked (facts .links) (stored-parts sv l g i) kept refl (w .lengths)
-        (w .others) (packet-left w))
+        (w .others) (packet-left w)))
 
   pub step-leaves : (clock : ℕ) (input out : List ℕ)
       → Leaves sv l (stepOf sv i clock input l out .done .server) (stepOf sv i clock input l out .lent)

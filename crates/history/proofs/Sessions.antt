@@ -1,5 +1,6 @@
 -- The sessions' facts after each call: what refusal 35 says of the sessions ("a length, offset or name points at what the store lacks") never
--- comes to hold. One session moves; the others keep theirs, since no file but the session's own upload changes.
+-- comes to hold, and what calls keep besides stays. One session moves; the others keep theirs, since no file but the session's own upload
+-- changes.
 use mathlib.Core.Path.{_≡_, refl, sym, ap, _∙_, subst}
 use mathlib.Core.Bool.{Bool, true, false}
 use mathlib.Core.List.{List, _++_}
@@ -21,7 +22,8 @@ use Rattle.table.specs.Fit.{Distinct}
 use Rattle.table.proofs.Finding.{by-equal}
 use Rattle.files.proofs.Choice.{take-le}
 use Rattle.links.specs.Sound.{link}
-use Rattle.links.proofs.Facts.{CompleteAt, SendingAt, Unfinished, LinkFacts, Uploads, selectionOf, packetOf, LinksFacts, part-end}
+use Rattle.links.specs.Kept.{Uploads}
+use Rattle.links.proofs.Facts.{CompleteAt, SendingAt, Unfinished, LinkFacts, selectionOf, packetOf, LinksFacts, part-end}
 use Rattle.decide.specs.Decide.{decideOf}
 use Rattle.carry.specs.declared.turn.Last.{Last}
 use Rattle.carry.specs.Turn.{Mem, Turned}
@@ -298,9 +300,9 @@ module _ (sessions most : ℕ) (selected held : List ℕ) (links : List Session)
       (decideOf acting links frame info (files (m .table)) (m .selected)) clock (sizeIn frame) info
       (decide-fit (files (m .table)) links acting most (m .selected) r frame info)
 
--- The hypotheses follow from a sound state: LinksFacts and Stored are what refusal 35 tests, Kept is what an act leaves of a sound store, m has
--- the session's part of the selections, and hearing leaves the other sessions' packets (`packet-stays`). The last one is about the bytes held
--- that were heard, since an act leaves them or forgets them (`turn-acted`, field held).
+-- The hypotheses follow from a good state: LinksFacts and Stored are what refusal 35 tests and what calls keep, Kept is what an act leaves of a
+-- sound store, m has the session's part of the selections, and hearing leaves the other sessions' packets (`packet-stays`). The last one is about
+-- the bytes held that were heard, since an act leaves them or forgets them (`turn-acted`, field held).
 pub turn-links : (sessions most : ℕ) (selected held held′ : List ℕ) (links : List Session) (i n : ℕ) (m : Mem) (last : Last) (clock : ℕ)
     (frame : Frame) (info : List ℕ)
     → let s = withHeld (link links i) n in

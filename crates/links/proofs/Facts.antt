@@ -1,6 +1,7 @@
 -- What refusal 35 says of the sessions ("a length, offset or name points at what the store lacks"), as facts, and that `linksSound` is true
--- exactly where they hold. Four closed sessions have them, whatever the store. Assumes nothing.
-use mathlib.Core.Path.{_≡_, refl, ap}
+-- exactly where they hold. With what calls keep besides (`LinksKept`) they are the facts of every state that calls made. Four closed sessions
+-- have them, whatever the store. Assumes nothing.
+use mathlib.Core.Path.{_≡_, refl, sym, _∙_}
 use mathlib.Core.Bool.{Bool, true, false, cond, not}
 use mathlib.Core.List.{List, [], _∷_}
 use Prim.Native.Nat.{ℕ, zero, suc, _+_, _*_, _≤_, _<_}
@@ -22,7 +23,8 @@ use Rattle.table.specs.declared.File.{File}
 use Rattle.table.specs.declared.Found.{Found}
 use Rattle.table.specs.declared.Found.the-variants.{Nothing, At}
 use Rattle.table.specs.Table.{fileAt, findOf}
-use Rattle.links.specs.Sound.{completeAt, uplinkSound, downlinkSound, namedAt, namedSound, namesSound, selectionSound, packetSound, linkSound, linkIn, linkAt, apartIn, apartFrom, link, allApart, linksSound}
+use Rattle.links.specs.Sound.{completeAt, uplinkSound, downlinkSound, namedAt, namedSound, namesSound, selectionSound, packetSound, linkSound, linkIn, linkAt, link, linksSound}
+use Rattle.links.specs.Kept.{Uploads, LinksKept}
 
 -- ---- the facts
 
@@ -31,11 +33,15 @@ pub record CompleteAt (fs : List File) (place : ℕ) : Type 0 where
   pub number : fileAt fs place .number ≡ 0 → ⊥
   pub time : fileAt fs place .time ≡ 0 → ⊥
 
--- a partial file stands at the place, a number and no upload time, and has this many bytes
-pub record PartialAt (fs : List File) (place received : ℕ) : Type 0 where
+-- a partial file stands at the place, a number and no upload time, and so many bytes are to the file's bytes as R says
+pub record PartialBy (R : ℕ → ℕ → Type 0) (fs : List File) (place received : ℕ) : Type 0 where
   pub number : fileAt fs place .number ≡ 0 → ⊥
   pub time : fileAt fs place .time ≡ 0
-  pub agree : received ≡ fileAt fs place .received
+  pub agree : R received (fileAt fs place .received)
+
+-- they are all of the file's bytes
+abbrev pub PartialAt : List File → ℕ → ℕ → Type 0
+PartialAt = PartialBy _≡_
 
 -- a download has a complete file, and has not passed its end
 pub record SendingAt (fs : List File) (place sent : ℕ) : Type 0 where
@@ -53,9 +59,9 @@ pub record Unfinished (held : ℕ) (part : List ℕ) : Type 0 where
   pub announces : announcedIn part ≤ 256
   pub fewer : held < 2 + announcedIn part
 
--- an open session, its part of the selections and of the unfinished packets
-pub record LinkFacts (fs : List File) (most : ℕ) (selected part : List ℕ) (s : Session) : Type 0 where
-  pub receiving : (place offset received : ℕ) → s .up ≡ up.Receiving place offset received → PartialAt fs place (offset + received)
+-- an open session, its part of the selections and of the unfinished packets; R is as above
+pub record LinkBy (R : ℕ → ℕ → Type 0) (fs : List File) (most : ℕ) (selected part : List ℕ) (s : Session) : Type 0 where
+  pub receiving : (place offset received : ℕ) → s .up ≡ up.Receiving place offset received → PartialBy R fs place (offset + received)
   pub sending : (place offset sent : ℕ) → s .down ≡ down.Sending place offset sent → SendingAt fs place (offset + sent)
   pub ended : (place : ℕ) → s .down ≡ down.Ended place → CompleteAt fs place
   pub aborting : (place : ℕ) → s .down ≡ down.Aborting place → CompleteAt fs place
@@ -64,12 +70,12 @@ pub record LinkFacts (fs : List File) (most : ℕ) (selected part : List ℕ) (s
   pub names : (k : ℕ) → k < s .count → Selectable fs (getD selected k 0)
   pub packet : 2 ≤ s .held → Unfinished (s .held) part
 
--- the session is open and uploads the file at the place
-pub record Uploads (s : Session) (place : ℕ) : Type 0 where
-  pub linked : s .linked ≡ true
-  pub offset : ℕ
-  pub received : ℕ
-  pub receiving : s .up ≡ up.Receiving place offset received
+-- as refusal 35 tests it, and as calls keep it
+abbrev pub LinkTested : List File → ℕ → List ℕ → List ℕ → Session → Type 0
+LinkTested = LinkBy _≤_
+
+abbrev pub LinkFacts : List File → ℕ → List ℕ → List ℕ → Session → Type 0
+LinkFacts = LinkBy _≡_
 
 -- session i's part of the selections, MAXSEL numbers, and of the unfinished packets, 258 bytes
 abbrev pub selectionOf : ℕ → List ℕ → ℕ → List ℕ
@@ -78,8 +84,16 @@ selectionOf most selected i = take most (drop (i * most) selected)
 abbrev pub packetOf : List ℕ → ℕ → List ℕ
 packetOf held i = take 258 (drop (i * 258) held)
 
--- all sessions: at most 4 and MAXSEL at most 50, what they lend is long enough, each open one has its facts, one beyond their number is
--- closed, and no two upload the same file
+-- all sessions, as refusal 35 tests them: at most 4 and MAXSEL at most 50, what they lend is long enough, and each open one has its facts
+pub record LinksTested (fs : List File) (sessions most : ℕ) (selected held : List ℕ) (links : List Session) : Type 0 where
+  pub number : sessions ≤ 4
+  pub maxsel : most ≤ 50
+  pub selections : sessions * most ≤ length selected
+  pub packets : sessions * 258 ≤ length held
+  pub each : (i : ℕ) → i < sessions → link links i .linked ≡ true
+      → LinkTested fs most (selectionOf most selected i) (packetOf held i) (link links i)
+
+-- all sessions, as calls keep them: also, one beyond their number is closed, and no two upload the same file
 pub record LinksFacts (fs : List File) (sessions most : ℕ) (selected held : List ℕ) (links : List Session) : Type 0 where
   pub number : sessions ≤ 4
   pub maxsel : most ≤ 50
@@ -128,20 +142,20 @@ complete-fact fs place e = go (eqb (fileAt fs place .number) 0) refl e
 pub complete-test : (fs : List File) (place : ℕ) → CompleteAt fs place → completeAt fs place ≡ true
 complete-test fs place h = rw (ne-eqb (fileAt fs place .number) 0 (h .number), ne-eqb (fileAt fs place .time) 0 (h .time))
 
-pub partial-fact : (fs : List File) (place offset received : ℕ) → uplinkSound fs (up.Receiving place offset received) ≡ true → PartialAt fs place (offset + received)
+pub partial-fact : (fs : List File) (place offset received : ℕ) → uplinkSound fs (up.Receiving place offset received) ≡ true → PartialBy _≤_ fs place (offset + received)
 unfolding uplinkSound
 partial-fact fs place offset received e =
     record {
       number = eqb-false _ _ (not-first (eqb (fileAt fs place .number) 0) _ e);
       time = eqb-true _ _ (first (eqb (fileAt fs place .time) 0) _ (not-rest (eqb (fileAt fs place .number) 0) _ e));
-      agree = eqb-true _ _ (rest (eqb (fileAt fs place .time) 0) _ (not-rest (eqb (fileAt fs place .number) 0) _ e));
+      agree = leb-true _ _ (rest (eqb (fileAt fs place .time) 0) _ (not-rest (eqb (fileAt fs place .number) 0) _ e));
     }
 
-pub partial-test : (fs : List File) (place offset received : ℕ) → PartialAt fs place (offset + received) → uplinkSound fs (up.Receiving place offset received) ≡ true
+pub partial-test : (fs : List File) (place offset received : ℕ) → PartialBy _≤_ fs place (offset + received) → uplinkSound fs (up.Receiving place offset received) ≡ true
 unfolding uplinkSound
 partial-test fs place offset received h =
     rw (ne-eqb (fileAt fs place .number) 0 (h .number), eq-eqb (fileAt fs place .time) 0 (h .time))
-    (eq-eqb (offset + received) (fileAt fs place .received) (h .agree))
+    (le-leb (offset + received) (fileAt fs place .received) (h .agree))
 
 pub sending-fact : (fs : List File) (place offset sent : ℕ) → downlinkSound fs (down.Sending place offset sent) ≡ true → SendingAt fs place (offset + sent)
 unfolding downlinkSound
@@ -162,7 +176,7 @@ aborting-fact fs place e = complete-fact fs place e
 
 -- the two sides of a session
 uplink-test : (fs : List File) (u : Uplink)
-    → ((place offset received : ℕ) → u ≡ up.Receiving place offset received → PartialAt fs place (offset + received))
+    → ((place offset received : ℕ) → u ≡ up.Receiving place offset received → PartialBy _≤_ fs place (offset + received))
     → uplinkSound fs u ≡ true
 unfolding uplinkSound
 uplink-test fs up.Idle f = refl
@@ -244,7 +258,7 @@ unfinished-test held part f = go (ltb held 2) refl
 -- ---- a session
 
 module _ (fs : List File) (most : ℕ) (selected part : List ℕ) (s : Session) (size : length selected ≡ most) where
-  pub link-fact : linkSound fs most selected part s ≡ true → s .linked ≡ true → LinkFacts fs most selected part s
+  pub link-fact : linkSound fs most selected part s ≡ true → s .linked ≡ true → LinkTested fs most selected part s
   unfolding linkSound selectionSound
   link-fact e l = go (rw l at e)
     where
@@ -252,7 +266,7 @@ module _ (fs : List File) (most : ℕ) (selected part : List ℕ) (s : Session) 
           → uplinkSound fs (s .up) ≡ true
           → downlinkSound fs (s .down) ≡ true
           → packetSound (s .held) part ≡ true
-          → LinkFacts fs most selected part s
+          → LinkTested fs most selected part s
       chosen c u d p =
           let m : s .count ≤ most = leb-true _ _ (first (leb (s .count) most) _ c) in
           let n = rest (leb (s .count) most) _ c in
@@ -268,18 +282,18 @@ module _ (fs : List File) (most : ℕ) (selected part : List ℕ) (s : Session) 
           }
 
       go : cond (uplinkSound fs (s .up)) (cond (downlinkSound fs (s .down)) (cond (selectionSound fs most selected (s .count) (s .next)) (packetSound (s .held) part) false) false) false ≡ true
-          → LinkFacts fs most selected part s
+          → LinkTested fs most selected part s
       go e =
           let e₁ = rest (uplinkSound fs (s .up)) _ e in
           let e₂ = rest (downlinkSound fs (s .down)) _ e₁ in
           let selection = selectionSound fs most selected (s .count) (s .next) in
           chosen (first selection _ e₂) (first (uplinkSound fs (s .up)) _ e) (first (downlinkSound fs (s .down)) _ e₁) (rest selection _ e₂)
 
-  pub link-test : (s .linked ≡ true → LinkFacts fs most selected part s) → linkSound fs most selected part s ≡ true
+  pub link-test : (s .linked ≡ true → LinkTested fs most selected part s) → linkSound fs most selected part s ≡ true
   unfolding linkSound selectionSound
   link-test f = go (s .linked) refl
     where
-      opened : LinkFacts fs most selected part s
+      opened : LinkTested fs most selected part s
           → cond (uplinkSound fs (s .up)) (cond (downlinkSound fs (s .down)) (cond (selectionSound fs most selected (s .count) (s .next)) (packetSound (s .held) part) false) false) false ≡ true
       opened h =
           let m : s .count ≤ length selected = omega (arith, h .at-most) in
@@ -293,34 +307,6 @@ module _ (fs : List File) (most : ℕ) (selected part : List ℕ) (s : Session) 
           → cond b (cond (uplinkSound fs (s .up)) (cond (downlinkSound fs (s .down)) (cond (selectionSound fs most selected (s .count) (s .next)) (packetSound (s .held) part) false) false) false) true ≡ true
       go true l = opened (f l)
       go false l = refl
-
--- ---- two sessions
-
-pub apart-fact : (a b : Session) → apartFrom a b ≡ true → (place : ℕ) → Uploads a place → Uploads b place → ⊥
-unfolding apartFrom
-apart-fact a b e place u v =
-    eqb-false place place
-    (not-true _ (rw (u .linked, v .linked, u .receiving, v .receiving) at e))
-    refl
-
-pub apart-test : (a b : Session) → ((place : ℕ) → Uploads a place → Uploads b place → ⊥) → apartFrom a b ≡ true
-unfolding apartFrom
-apart-test a b f = go (a .linked) (b .linked) (a .up) (b .up) refl refl refl refl
-  where
-    go : (l m : Bool) (u v : Uplink) → a .linked ≡ l → b .linked ≡ m → a .up ≡ u → b .up ≡ v → cond l (cond m (apartIn u v) true) true ≡ true
-    go false m u v l k p q = refl
-    go true false u v l k p q = refl
-    go true true up.Idle v l k p q = refl
-    go true true up.Ignoring v l k p q = refl
-    go true true (up.Receiving place offset received) up.Idle l k p q = refl
-    go true true (up.Receiving place offset received) up.Ignoring l k p q = refl
-    go true true (up.Receiving place offset received) (up.Receiving place₂ offset₂ received₂) l k p q =
-        ap not
-        (ne-eqb place₂ place
-        (λ e.
-        f place
-        (record { linked = l; offset = offset; received = received; receiving = p })
-        (record { linked = k; offset = offset₂; received = received₂; receiving = rw (← e) q })))
 
 -- ---- all sessions
 
@@ -339,28 +325,23 @@ part-size most selected sessions i h l =
 
 module _ (fs : List File) (sessions most : ℕ) (selected held : List ℕ) where
   in-fact : (s : Session) (i : ℕ) → sessions * most ≤ length selected → linkIn fs sessions most selected held s i ≡ true
-      → i < sessions → s .linked ≡ true → LinkFacts fs most (selectionOf most selected i) (packetOf held i) s
+      → i < sessions → s .linked ≡ true → LinkTested fs most (selectionOf most selected i) (packetOf held i) s
   unfolding linkIn
   in-fact s i h e l o =
       link-fact fs most (selectionOf most selected i) (packetOf held i) s (part-size most selected sessions i h l) (rw (lt-ltb i sessions l) at e) o
 
-  in-closed : (s : Session) (i : ℕ) → linkIn fs sessions most selected held s i ≡ true → sessions ≤ i → s .linked ≡ false
-  unfolding linkIn
-  in-closed s i e l = not-true _ (rw (le-ltb i sessions l) at e)
-
   in-test : (s : Session) (i : ℕ) → sessions * most ≤ length selected
-      → (i < sessions → s .linked ≡ true → LinkFacts fs most (selectionOf most selected i) (packetOf held i) s)
-      → (sessions ≤ i → s .linked ≡ false)
+      → (i < sessions → s .linked ≡ true → LinkTested fs most (selectionOf most selected i) (packetOf held i) s)
       → linkIn fs sessions most selected held s i ≡ true
   unfolding linkIn
-  in-test s i h f g = go (ltb i sessions) refl
+  in-test s i h f = go (ltb i sessions) refl
     where
       go : (b : Bool) → ltb i sessions ≡ b
-          → cond b (linkSound fs most (selectionOf most selected i) (packetOf held i) s) (not (s .linked)) ≡ true
+          → cond b (linkSound fs most (selectionOf most selected i) (packetOf held i) s) true ≡ true
       go true e =
           let l : i < sessions = ltb-true _ _ e in
           link-test fs most (selectionOf most selected i) (packetOf held i) s (part-size most selected sessions i h l) (f l)
-      go false e = ap not (g (ltb-false _ _ e))
+      go false e = refl
 
 module _ (fs : List File) (sessions most : ℕ) (selected held : List ℕ) (links : List Session) where
   record Tests : Type 0 where
@@ -369,26 +350,9 @@ module _ (fs : List File) (sessions most : ℕ) (selected held : List ℕ) (link
     selections : leb (sessions * most) (length selected) ≡ true
     packets : leb (sessions * 258) (length held) ≡ true
     each : (i : ℕ) → i < 4 → linkAt fs sessions most selected held links i ≡ true
-    apart : (j : ℕ) → j < 4 → (i : ℕ) → i < j → apartFrom (link links i) (link links j) ≡ true
-
-  apart-pairs : allApart links ≡ true → (j : ℕ) → j < 4 → (i : ℕ) → i < j → apartFrom (link links i) (link links j) ≡ true
-  unfolding allApart
-  apart-pairs e =
-      let P : ℕ → ℕ → Type 0 = λ j i. apartFrom (link links i) (link links j) ≡ true in
-      let p : ℕ → ℕ → Bool = λ i j. apartFrom (link links i) (link links j) in
-      let e₁ = rest (p 0 1) _ e in
-      let e₂ = rest (p 0 2) _ e₁ in
-      let e₃ = rest (p 0 3) _ e₂ in
-      let e₄ = rest (p 1 2) _ e₃ in
-      let e₅ = rest (p 1 3) _ e₄ in
-      four (λ j. (i : ℕ) → i < j → P j i)
-      (below-none (P 0))
-      (below-more (P 1) 0 (below-none (P 1)) (first (p 0 1) _ e))
-      (below-more (P 2) 1 (below-more (P 2) 0 (below-none (P 2)) (first (p 0 2) _ e₁)) (first (p 1 2) _ e₃))
-      (below-more (P 3) 2 (below-more (P 3) 1 (below-more (P 3) 0 (below-none (P 3)) (first (p 0 3) _ e₂)) (first (p 1 3) _ e₄)) e₅)
 
   -- `linksSound` is true: the facts hold
-  pub sound-facts : linksSound fs sessions most selected held links ≡ true → LinksFacts fs sessions most selected held links
+  pub sound-facts : linksSound fs sessions most selected held links ≡ true → LinksTested fs sessions most selected held links
   unfolding linksSound
   sound-facts e =
       let linked-at : ℕ → Bool = linkAt fs sessions most selected held links in
@@ -398,18 +362,16 @@ module _ (fs : List File) (sessions most : ℕ) (selected held : List ℕ) (link
       let e₄ = rest (leb (sessions * 258) (length held)) _ e₃ in
       let e₅ = rest (linked-at 0) _ e₄ in
       let e₆ = rest (linked-at 1) _ e₅ in
-      let e₇ = rest (linked-at 2) _ e₆ in
       facts
       (record {
         number = first (leb sessions 4) _ e;
         maxsel = first (leb most 50) _ e₁;
         selections = first (leb (sessions * most) (length selected)) _ e₂;
         packets = first (leb (sessions * 258) (length held)) _ e₃;
-        each = four (λ i. linked-at i ≡ true) (first (linked-at 0) _ e₄) (first (linked-at 1) _ e₅) (first (linked-at 2) _ e₆) (first (linked-at 3) _ e₇);
-        apart = apart-pairs (rest (linked-at 3) _ e₇);
+        each = four (λ i. linked-at i ≡ true) (first (linked-at 0) _ e₄) (first (linked-at 1) _ e₅) (first (linked-at 2) _ e₆) (rest (linked-at 2) _ e₆);
       })
     where
-      facts : Tests → LinksFacts fs sessions most selected held links
+      facts : Tests → LinksTested fs sessions most selected held links
       facts t =
           let n : sessions * most ≤ length selected = leb-true _ _ (t .selections) in
           let m : sessions ≤ 4 = leb-true _ _ (t .number) in
@@ -419,27 +381,76 @@ module _ (fs : List File) (sessions most : ℕ) (selected held : List ℕ) (link
             selections = n;
             packets = leb-true _ _ (t .packets);
             each = λ i l. in-fact fs sessions most selected held (link links i) i n (t .each i (omega arith)) l;
-            beyond = λ i l h. in-closed fs sessions most selected held (link links i) i (t .each i h) l;
-            apart = λ i j l h. apart-fact (link links i) (link links j) (t .apart j h i l);
           }
 
   -- the facts hold: `linksSound` is true
-  pub facts-sound : LinksFacts fs sessions most selected held links → linksSound fs sessions most selected held links ≡ true
-  unfolding linksSound allApart
+  pub facts-sound : LinksTested fs sessions most selected held links → linksSound fs sessions most selected held links ≡ true
+  unfolding linksSound
   facts-sound f =
       both _ _ (le-leb _ _ (f .number))
       (both _ _ (le-leb _ _ (f .maxsel))
       (both _ _ (le-leb _ _ (f .selections))
       (both _ _ (le-leb _ _ (f .packets))
-      (both _ _ (one 0 (omega arith)) (both _ _ (one 1 (omega arith)) (both _ _ (one 2 (omega arith)) (both _ _ (one 3 (omega arith))
-      (both _ _ (two 0 1 (omega arith) (omega arith)) (both _ _ (two 0 2 (omega arith) (omega arith)) (both _ _ (two 0 3 (omega arith) (omega arith))
-      (both _ _ (two 1 2 (omega arith) (omega arith)) (both _ _ (two 1 3 (omega arith) (omega arith)) (two 2 3 (omega arith) (omega arith))))))))))))))
+      (both _ _ (one 0) (both _ _ (one 1) (both _ _ (one 2) (one 3)))))))
     where
-      one : (i : ℕ) → i < 4 → linkAt fs sessions most selected held links i ≡ true
-      one i h = in-test fs sessions most selected held (link links i) i (f .selections) (f .each i) (λ l. f .beyond i l h)
+      one : (i : ℕ) → linkAt fs sessions most selected held links i ≡ true
+      one i = in-test fs sessions most selected held (link links i) i (f .selections) (f .each i)
 
-      two : (i j : ℕ) → i < j → j < 4 → apartFrom (link links i) (link links j) ≡ true
-      two i j l h = apart-test (link links i) (link links j) (f .apart i j l h)
+-- ---- what calls keep
+
+-- a session's facts by one relation, from those by another and what its upload's bytes are
+with-bytes : (R Q : ℕ → ℕ → Type 0) (fs : List File) (most : ℕ) (selected part : List ℕ) (s : Session) → LinkBy R fs most selected part s
+    → ((place offset received : ℕ) → s .up ≡ up.Receiving place offset received → Q (offset + received) (fileAt fs place .received))
+    → LinkBy Q fs most selected part s
+with-bytes R Q fs most selected part s f q =
+    record {
+      receiving = λ place offset received e.
+          let p = f .receiving place offset received e in
+          record { number = p .number; time = p .time; agree = q place offset received e };
+      sending = f .sending;
+      ended = f .ended;
+      aborting = f .aborting;
+      at-most = f .at-most;
+      next = f .next;
+      names = f .names;
+      packet = f .packet;
+    }
+
+module _ (fs : List File) (sessions most : ℕ) (selected held : List ℕ) (links : List Session) where
+  -- what 35 tests and what calls keep are the facts of a state that calls made
+  pub kept-facts : LinksTested fs sessions most selected held links → LinksKept fs sessions links → LinksFacts fs sessions most selected held links
+  kept-facts t k =
+      record {
+        number = t .number;
+        maxsel = t .maxsel;
+        selections = t .selections;
+        packets = t .packets;
+        each = λ i l o.
+            with-bytes _≤_ _≡_ fs most (selectionOf most selected i) (packetOf held i) (link links i) (t .each i l o)
+            (λ place offset received e. k .bytes i place l (record { linked = o; offset = offset; received = received; receiving = e }));
+        beyond = k .beyond;
+        apart = k .apart;
+      }
+
+  pub facts-tested : LinksFacts fs sessions most selected held links → LinksTested fs sessions most selected held links
+  facts-tested f =
+      record {
+        number = f .number;
+        maxsel = f .maxsel;
+        selections = f .selections;
+        packets = f .packets;
+        each = λ i l o.
+            with-bytes _≡_ _≤_ fs most (selectionOf most selected i) (packetOf held i) (link links i) (f .each i l o)
+            (λ place offset received e. omega (arith, f .each i l o .receiving place offset received e .agree));
+      }
+
+  pub facts-kept : LinksFacts fs sessions most selected held links → LinksKept fs sessions links
+  facts-kept f =
+      record {
+        bytes = λ i place l u. f .each i l (u .linked) .receiving place (u .offset) (u .received) (u .receiving) .agree;
+        beyond = f .beyond;
+        apart = f .apart;
+      }
 
 -- ---- the state at making
 
@@ -452,19 +463,46 @@ closed-in fs sessions most selected held i = either (ltb i sessions)
     either false = refl
 
 -- four closed sessions are sound, whatever the store: no session names anything before its link is made
-pub closed-sound : (fs : List File) (sessions most : ℕ) (selected held : List ℕ)
+closed-sound : (fs : List File) (sessions most : ℕ) (selected held : List ℕ)
     → sessions ≤ 4
     → most ≤ 50
     → sessions * most ≤ length selected
     → sessions * 258 ≤ length held
     → linksSound fs sessions most selected held (closedSession ∷ closedSession ∷ closedSession ∷ closedSession ∷ []) ≡ true
-unfolding linksSound allApart apartFrom
+unfolding linksSound
 closed-sound fs sessions most selected held n m l k =
     both _ _ (le-leb _ _ n)
     (both _ _ (le-leb _ _ m)
     (both _ _ (le-leb _ _ l)
     (both _ _ (le-leb _ _ k)
-    (both _ _ (closed 0) (both _ _ (closed 1) (both _ _ (closed 2) (both _ _ (closed 3) refl)))))))
+    (both _ _ (closed 0) (both _ _ (closed 1) (both _ _ (closed 2) (closed 3)))))))
   where
     closed : (i : ℕ) → linkIn fs sessions most selected held closedSession i ≡ true
     closed = closed-in fs sessions most selected held
+
+-- and nothing is uploaded
+closed-kept : (fs : List File) (sessions : ℕ) → LinksKept fs sessions (closedSession ∷ closedSession ∷ closedSession ∷ closedSession ∷ [])
+closed-kept fs sessions =
+    record {
+      bytes = λ i place l u. absurd (clash (sym (closed i) ∙ u .linked));
+      beyond = λ i l h. closed i;
+      apart = λ i j l h place u v. clash (sym (closed i) ∙ u .linked);
+    }
+  where
+    closed : (i : ℕ) → link (closedSession ∷ closedSession ∷ closedSession ∷ closedSession ∷ []) i .linked ≡ false
+    closed zero = refl
+    closed (suc zero) = refl
+    closed (suc (suc zero)) = refl
+    closed (suc (suc (suc zero))) = refl
+    closed (suc (suc (suc (suc i)))) = refl
+
+pub closed-facts : (fs : List File) (sessions most : ℕ) (selected held : List ℕ)
+    → sessions ≤ 4
+    → most ≤ 50
+    → sessions * most ≤ length selected
+    → sessions * 258 ≤ length held
+    → LinksFacts fs sessions most selected held (closedSession ∷ closedSession ∷ closedSession ∷ closedSession ∷ [])
+closed-facts fs sessions most selected held n m l k =
+    let links = closedSession ∷ closedSession ∷ closedSession ∷ closedSession ∷ [] in
+    kept-facts fs sessions most selected held links
+    (sound-facts fs sessions most selected held links (closed-sound fs sessions most selected held n m l k)) (closed-kept fs sessions)

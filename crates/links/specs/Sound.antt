@@ -1,5 +1,5 @@
 -- The facts of refusal 35 that concern the sessions (document 01, "Refusals by number"): "a length, offset or name points at what the store
--- lacks". Assumes nothing.
+-- lacks", and no others: what calls keep besides stands in Kept.antt. Assumes nothing.
 use mathlib.Core.Bool.{Bool, true, false, cond, not}
 use mathlib.Core.List.{List, [], _∷_}
 use Prim.Native.Nat.{ℕ, _+_, _*_}
@@ -20,12 +20,12 @@ use Rattle.table.specs.Table.{fileAt, findOf, uploaded}
 abbrev pub completeAt : List File → ℕ → Bool
 completeAt fs place = not (eqb (uploaded (fileAt fs place)) 0)
 
--- an upload names a partial file, and has received what the file has beyond the offset
+-- an upload names a partial file, and its offset with the bytes received since is within what the file has
 unfoldable pub uplinkSound : List File → Uplink → Bool
 uplinkSound fs up.Idle = true
 uplinkSound fs (up.Receiving place offset received) =
     cond (eqb (fileAt fs place .number) 0) false
-    (cond (eqb (fileAt fs place .time) 0) (eqb (offset + received) (fileAt fs place .received)) false)
+    (cond (eqb (fileAt fs place .time) 0) (leb (offset + received) (fileAt fs place .received)) false)
 uplinkSound fs up.Ignoring = true
 
 -- a download names a complete file, and an offset within it
@@ -64,42 +64,22 @@ linkSound fs most selected part s =
     (cond (selectionSound fs most selected (s .count) (s .next)) (packetSound (s .held) part) false) false) false)
     true
 
--- the session of number i, counted from 0, of so many; those beyond them are closed
+-- the session of number i, counted from 0, of so many; those beyond them are no sessions of the server and are not looked at
 unfoldable pub linkIn : List File → ℕ → ℕ → List ℕ → List ℕ → Session → ℕ → Bool
 linkIn fs sessions most selected held s i =
-    cond (ltb i sessions) (linkSound fs most (take most (drop (i * most) selected)) (take 258 (drop (i * 258) held)) s) (not (s .linked))
-
-abbrev pub linkAt : List File → ℕ → ℕ → List ℕ → List ℕ → List Session → ℕ → Bool
-linkAt fs sessions most selected held links i = linkIn fs sessions most selected held (getD links i closedSession) i
-
--- two open sessions do not upload the same file
-abbrev pub notReceiving : Uplink → ℕ → Bool
-notReceiving up.Idle place = true
-notReceiving (up.Receiving p offset received) place = not (eqb p place)
-notReceiving up.Ignoring place = true
-
-abbrev pub apartIn : Uplink → Uplink → Bool
-apartIn up.Idle u = true
-apartIn (up.Receiving place offset received) u = notReceiving u place
-apartIn up.Ignoring u = true
-
-unfoldable pub apartFrom : Session → Session → Bool
-apartFrom a b = cond (a .linked) (cond (b .linked) (apartIn (a .up) (b .up)) true) true
+    cond (ltb i sessions) (linkSound fs most (take most (drop (i * most) selected)) (take 258 (drop (i * 258) held)) s) true
 
 -- session i of the four
 abbrev pub link : List Session → ℕ → Session
 link links i = getD links i closedSession
 
-unfoldable pub allApart : List Session → Bool
-allApart links =
-    cond (apartFrom (link links 0) (link links 1)) (cond (apartFrom (link links 0) (link links 2)) (cond (apartFrom (link links 0) (link links 3))
-    (cond (apartFrom (link links 1) (link links 2)) (cond (apartFrom (link links 1) (link links 3)) (apartFrom (link links 2) (link links 3))
-    false) false) false) false) false
+abbrev pub linkAt : List File → ℕ → ℕ → List ℕ → List ℕ → List Session → ℕ → Bool
+linkAt fs sessions most selected held links i = linkIn fs sessions most selected held (link links i) i
 
 -- the selections and the unfinished packets of all sessions are lent, MAXSEL numbers and 258 bytes a session
 unfoldable pub linksSound : List File → ℕ → ℕ → List ℕ → List ℕ → List Session → Bool
 linksSound fs sessions most selected held links =
     cond (leb sessions 4) (cond (leb most 50) (cond (leb (sessions * most) (length selected)) (cond (leb (sessions * 258) (length held))
     (cond (linkAt fs sessions most selected held links 0) (cond (linkAt fs sessions most selected held links 1)
-    (cond (linkAt fs sessions most selected held links 2) (cond (linkAt fs sessions most selected held links 3) (allApart links)
-    false) false) false) false) false) false) false) false
+    (cond (linkAt fs sessions most selected held links 2) (linkAt fs sessions most selected held links 3)
+    false) false) false) false) false) false) false

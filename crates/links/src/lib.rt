@@ -1,8 +1,9 @@
 // The sessions against the store: whether what their states name is there (refusal 35).
 //
-// `links_sound` takes any sessions, any numbers and slices of any length, and changes nothing. It is true exactly where each open session's
-// upload is of a partial file, its download and its selection of complete ones, and its unfinished packet is unfinished, where the sessions
-// beyond the number in use are closed, and where no two upload the same file. `Facts` in proofs/ has these facts one by one.
+// `links_sound` takes any sessions, any numbers and slices of any length, and changes nothing. It is true exactly where each open session of
+// those in use has an upload of a partial file, within the bytes that the file has, a download and a selection of complete ones, and an
+// unfinished packet that is unfinished. `Facts` in proofs/ has these facts one by one; what calls keep besides, and refusal 35 does not ask,
+// stands in specs/Kept.antt.
 use session::state::Downlink;
 use session::state::Session;
 use session::state::Uplink;
@@ -12,7 +13,7 @@ ghost use Prim.Native.Nat.{_+_, _*_, _≤_};
 ghost use lib.ListN.{length, take, drop};
 ghost use Rattle.table.specs.Table.{files, numbers, findOf};
 ghost use Rattle.table.specs.Fit.{Distinct};
-ghost use Rattle.links.specs.Sound.{completeAt, uplinkSound, downlinkSound, namedSound, namesSound, selectionSound, packetSound, linkSound, linkIn, notReceiving, apartFrom, allApart, linksSound};
+ghost use Rattle.links.specs.Sound.{completeAt, uplinkSound, downlinkSound, namedSound, namesSound, selectionSound, packetSound, linkSound, linkIn, linksSound};
 
 // The file at a place is complete.
 fn complete_at(table: &[u32], place: usize) -> bool
@@ -40,7 +41,7 @@ fn uplink_sound(up: Uplink, table: &[u32]) -> bool
             if f.time != 0 {
                 return false;
             }
-            offset as u64 + received as u64 == f.received as u64
+            offset as u64 + received as u64 <= f.received as u64
         }
         Uplink::Ignoring => true,
     }
@@ -200,7 +201,7 @@ fn link_sound(table: &[u32], most: usize, selected: &[u32], part: &[u8], s: Sess
     true
 }
 
-// Session i, counted from 0; one beyond the number of sessions is closed.
+// Session i, counted from 0; one beyond the number of sessions is not looked at.
 fn link_at(
     table: &[u32],
     sessions: usize,
@@ -218,75 +219,10 @@ fn link_at(
         let b = i * 258;
         return link_sound(table, most, &selected[a..a + most], &held[b..b + 258], s);
     }
-    if s.linked {
-        return false;
-    }
     true
 }
 
-// Two sessions do not upload the same file.
-fn apart_from(a: Session, b: Session) -> bool
-    ensures { λ r. ⌜ r ≡ apartFrom a b ⌝ }
-{
-    if a.linked {
-        if b.linked {
-            let up = a.up;
-            match up {
-                Uplink::Idle => true,
-                Uplink::Receiving {
-                    place,
-                    offset: _,
-                    received: _,
-                } => not_receiving(b, place),
-                Uplink::Ignoring => true,
-            }
-        } else {
-            true
-        }
-    } else {
-        true
-    }
-}
-
-// The session is not uploading the file at a place.
-fn not_receiving(s: Session, place: usize) -> bool
-    ensures { λ r. ⌜ r ≡ notReceiving (s .up) place ⌝ }
-{
-    let up = s.up;
-    match up {
-        Uplink::Idle => true,
-        Uplink::Receiving {
-            place: p,
-            offset: _,
-            received: _,
-        } => p != place,
-        Uplink::Ignoring => true,
-    }
-}
-
-// No two sessions upload the same file.
-fn all_apart(links: [Session; 4]) -> bool
-    ensures { λ r. ⌜ r ≡ allApart links ⌝ }
-{
-    let a = links[0];
-    let b = links[1];
-    let c = links[2];
-    let d = links[3];
-    if apart_from(a, b) {
-        if apart_from(a, c) {
-            if apart_from(a, d) {
-                if apart_from(b, c) {
-                    if apart_from(b, d) {
-                        return apart_from(c, d);
-                    }
-                }
-            }
-        }
-    }
-    false
-}
-
-// The sessions name nothing that the store lacks, and no two of them the same upload. Lent slices that are too short are no sessions'.
+// The sessions name nothing that the store lacks. Lent slices that are too short are no sessions'.
 pub fn links_sound(
     links: [Session; 4],
     sessions: usize,
@@ -312,9 +248,7 @@ pub fn links_sound(
     if link_at(table, sessions, most, selected, held, links[0], 0) {
         if link_at(table, sessions, most, selected, held, links[1], 1) {
             if link_at(table, sessions, most, selected, held, links[2], 2) {
-                if link_at(table, sessions, most, selected, held, links[3], 3) {
-                    return all_apart(links);
-                }
+                return link_at(table, sessions, most, selected, held, links[3], 3);
             }
         }
     }

@@ -36,12 +36,13 @@ use Rattle.carry.specs.Carry.{onChooses, carryOut}
 use Rattle.server.specs.declared.Server.{Server}
 use Rattle.server.specs.declared.check.Check.{Check}
 use Rattle.server.specs.State.{Lent, linkOf, withPart, part}
-use Rattle.server.specs.Turns.{HeardIn, heardIn, hearOf, sizeIn, putBack, actOf}
+use Rattle.server.specs.Turns.{HeardIn, heardIn, hearOf, sizeIn, putBack}
 use Rattle.server.specs.Calls.{answeredBy, heardBy, stepOf, onCheck, receiveOf, receiveBy}
 use Rattle.history.specs.Good.{Good}
 use Rattle.history.specs.Stored.{filesOf}
 use Rattle.history.specs.Calls as history
 use Rattle.history.proofs.Parts.{part-size}
+use Rattle.history.proofs.InUse.{act-in-use}
 use Rattle.history.proofs.Sessions.{packet-own, packet-stays}
 use Rattle.model.specs.State as model
 use Rattle.model.specs.State.{Model, inSession, Turn, turn, Stepped, stepped, closing}
@@ -190,12 +191,14 @@ module _ (sv : Server) (l : Lent) (g : Good sv l) (i : ℕ) (inside : i < sv .se
       → (t : Turn)
       → turnView sv l i (packetOf (h .held) i) (turned sv l g i inside linked (h .framed .held) clock (h .framed .frame) (h .framed .info)) ≡ t
       → seen (heardBy sv i clock l out h) ≡ stepped (tell (t .reply) (h .framed .taken) out) (t .after)
-  unfolding heardBy answeredBy actOf putBack
+  unfolding heardBy answeredBy putBack
   heard-view h others t e =
-      ap₂ stepped
+      rw (act-in-use sv (facts sv l g .sessions .beyond) i (withHeld (linkOf sv i) (h .framed .held)) (h .framed .frame) clock (h .framed .info)
+      (carry.mem (l .disk) (l .map) (l .owner) (l .table) (l .selected)))
+      (ap₂ stepped
       (ap (λ (x : Told). told (x .answer) (x .out)) (told-room _ (h .framed .taken) out room))
       (turn-view sv l g i inside linked (h .framed .held) clock (h .framed .frame) (h .framed .info) (h .held) others)
-      ∙ ap (λ (x : Turn). stepped (tell (x .reply) (h .framed .taken) out) (x .after)) e
+      ∙ ap (λ (x : Turn). stepped (tell (x .reply) (h .framed .taken) out) (x .after)) e)
 
   -- ---- the bytes
 

@@ -24,7 +24,7 @@ use Rattle.blocks.proofs.Owners.{blocks-le}
 use Rattle.files.specs.Sound.{soundTest}
 use Rattle.files.proofs.Soundness.{sound-facts, file-room}
 use Rattle.links.specs.Sound.{linksSound}
-use Rattle.links.proofs.Facts.{LinkFacts}
+use Rattle.links.proofs.Facts.{LinkTested}
 use Rattle.links.proofs.Facts as links
 use Rattle.server.specs.declared.Server.{Server}
 use Rattle.server.specs.declared.check.Check.{Check}
@@ -82,7 +82,7 @@ sound-both false b e = let z : _≡_ {A = ℕ} 0 1 = cc in absurd (omega arith)
 -- an open session of a sound state has its facts
 pub link-facts : (sv : Server) (l : Lent) (i : ℕ) → soundParts sv (l .map) (l .owner) (l .table) (l .selected) (l .held) ≡ true
     → i < sv .sessions → linkOf sv i .linked ≡ true
-    → LinkFacts (files (tablePart sv l)) (sv .most) (links.selectionOf (sv .most) (l .selected) i) (links.packetOf (l .held) i) (linkOf sv i)
+    → LinkTested (files (tablePart sv l)) (sv .most) (links.selectionOf (sv .most) (l .selected) i) (links.packetOf (l .held) i) (linkOf sv i)
 unfolding soundParts
 link-facts sv l i e p q =
     links.sound-facts (files (tablePart sv l)) (sv .sessions) (sv .most) (l .selected) (l .held) (sv .links)

@@ -1,18 +1,21 @@
 -- What the bytes of a link bring about: heard, decided on, carried out. Assumes nothing.
-use mathlib.Core.List.{List, _++_}
+use mathlib.Core.Bool.{cond}
+use mathlib.Core.List.{List, [], _∷_, _++_}
 use Prim.Native.Nat.{ℕ, _+_, _*_, _≤_}
+use lib.Dec.{ltb}
 use lib.ListN.{length, take, drop}
 use Rattle.packet.specs.declared.frame.Frame.{Frame}
 use Rattle.packet.specs.declared.frame.Frame.the-variants.{Open, TooLong, Whole, Refused}
 use Rattle.packet.specs.declared.frame.Framed.{Framed}
 use Rattle.packet.specs.Frame.{receiveOf}
 use Rattle.session.specs.declared.state.Session.{Session}
+use Rattle.session.specs.State.{closedSession}
 use Rattle.table.specs.Table.{files}
 use Rattle.decide.specs.Decide.{decideOf}
 use Rattle.carry.specs.Turn.{Mem, mem, Turned, turned}
 use Rattle.carry.specs.Carry.{carryOut}
 use Rattle.server.specs.declared.Server.{Server}
-use Rattle.server.specs.State.{words, part, withPart}
+use Rattle.server.specs.State.{linkOf, words, part, withPart}
 
 -- ---- hearing
 
@@ -44,6 +47,15 @@ partsOf sv i m =
     mem (m .disk) (take (words (sv .blocks)) (m .map)) (take (sv .blocks) (m .owner)) (take (4 * sv .files) (m .table))
     (part (i * sv .most) (sv .most) (m .selected))
 
+abbrev pub usedOf : ℕ → ℕ → Session → Session
+usedOf sessions i s = cond (ltb i sessions) s closedSession
+
+-- the sessions in use: one beyond them is none of the server's, so it uploads nothing, whatever it holds
+abbrev pub inUse : Server → List Session
+inUse sv =
+    usedOf (sv .sessions) 0 (linkOf sv 0) ∷ usedOf (sv .sessions) 1 (linkOf sv 1) ∷ usedOf (sv .sessions) 2 (linkOf sv 2)
+    ∷ usedOf (sv .sessions) 3 (linkOf sv 3) ∷ []
+
 -- put back into what was lent
 unfoldable pub putBack : Server → ℕ → Mem → Turned → Turned
 putBack sv i m t =
@@ -55,7 +67,7 @@ unfoldable pub actOf : Server → ℕ → Session → Frame → ℕ → List ℕ
 actOf sv i s frame clock info m =
     putBack sv i m
     (carryOut
-    (decideOf s (sv .links) frame info (files (take (4 * sv .files) (m .table))) (part (i * sv .most) (sv .most) (m .selected)))
+    (decideOf s (inUse sv) frame info (files (take (4 * sv .files) (m .table))) (part (i * sv .most) (sv .most) (m .selected)))
     s (sv .last) clock (sv .most) (sizeIn frame) info (partsOf sv i m))
 
 -- what the slices must have room for

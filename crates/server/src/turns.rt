@@ -10,7 +10,7 @@ ghost use Prim.Native.Nat.{_+_, _*_, _≤_};
 ghost use lib.ListN.{length, replicate};
 ghost use Rattle.carry.specs.Turn.{mem, turned};
 ghost use Rattle.server.specs.State.{words, withLink, withTurn, part, withPart};
-ghost use Rattle.server.specs.Turns.{heardIn, hearOf, sizeIn, ActPre, actOf};
+ghost use Rattle.server.specs.Turns.{heardIn, hearOf, sizeIn, usedOf, inUse, ActPre, actOf};
 
 // Bytes go into a session's part of the unfinished packets.
 pub(crate) fn hear(held: &mut [u8], i: usize, count: usize, input: &[u8]) -> Framed
@@ -32,6 +32,28 @@ fn size_in(frame: Frame) -> usize
         Frame::Whole(_, size) => size,
         Frame::Refused(_) => 0,
     }
+}
+
+// Session i, counted from 0, or a closed one where it is beyond those in use.
+fn used(sessions: usize, i: usize, s: Session) -> Session
+    ensures { λ r. ⌜ r ≡ usedOf sessions i s ⌝ }
+{
+    if i < sessions {
+        return s;
+    }
+    session::state::closed()
+}
+
+// The sessions in use: what one beyond them holds counts for nothing.
+fn in_use(server: Server) -> [Session; 4]
+    ensures { λ r. ⌜ r ≡ inUse server ⌝ }
+{
+    let n = server.sessions;
+    let a = used(n, 0, server.links[0]);
+    let b = used(n, 1, server.links[1]);
+    let c = used(n, 2, server.links[2]);
+    let d = used(n, 3, server.links[3]);
+    [a, b, c, d]
 }
 
 // The store's parts and the session's selection are handed to the act that is decided on.
@@ -58,7 +80,7 @@ pub(crate) fn act_on(
     let most = server.most;
     let a = i * most;
     let e = a + most;
-    let links = server.links;
+    let links = in_use(server);
     let last = server.last;
     let size = size_in(frame);
     let what = decide::decide(s, links, frame, info, &table[..x], &selected[a..e]);

@@ -273,7 +273,7 @@ unfolding
     carry-upload.storedAs carry-upload.appendedAs carry-upload.storeTurn carry-upload.discardTurn carry-upload.timed carry-upload.judgedAt
     carry-upload.acceptedAs carry-upload.acceptTurn carry-upload.withDisk carry-upload.withBlocks carry-upload.finishAs carry-carry.onFrees
     carry-carry.onWrites carry-carry.onMoves carry-carry.carryOut links-sound.uplinkSound links-sound.namesSound links-sound.selectionSound
-    links-sound.packetSound links-sound.linkSound links-sound.linkIn links-sound.apartFrom links-sound.allApart links-sound.linksSound
+    links-sound.packetSound links-sound.linkSound links-sound.linkIn links-sound.linksSound
     server-check.sizesFit server-check.roomFits server-check.soundParts server-check.inState server-check.sessionCheck server-check.checkBy
     server-calls.answeredBy server-calls.heardBy server-calls.stepOf server-calls.onCheck server-calls.receiveOf server-calls.receiveBy server-calls.onLogin
     server-calls.loginOf server-calls.loginBy server-calls.onLose server-calls.loseOf server-calls.loseBy server-turns.hearOf server-turns.sizeIn server-turns.putBack server-turns.actOf

@@ -10,9 +10,9 @@ use std::fmt;
 /// The words of the state, for four sessions however many are in use.
 const STATE: usize = HEAD + 4 * SESSION;
 /// The most facts of one kind.
-pub const MOST: usize = 6;
+pub const MOST: usize = 4;
 
-/// A fact; those of sessions are one for each session or pair of sessions.
+/// A fact; those of sessions are one for each session.
 #[derive(Clone, Copy, Debug, PartialEq, Eq)]
 pub enum Fact {
     GivenFits,
@@ -46,15 +46,11 @@ pub enum Fact {
     Selected,
     Announced,
     Held,
-    Beyond,
-    Apart,
 }
 
 const ONE: &[&str] = &[""];
 const GIVEN: &[&str] = &["number", "time"];
 const SESSIONS: &[&str] = &["1", "2", "3", "4"];
-const BEYOND: &[&str] = &["2", "3", "4"];
-const PAIRS: &[&str] = &["1+2", "1+3", "1+4", "2+3", "2+4", "3+4"];
 
 /// Each fact in words, and what it is one of.
 const TABLE: [(Fact, &str, &[&str]); FACTS] = [
@@ -101,7 +97,7 @@ const TABLE: [(Fact, &str, &[&str]); FACTS] = [
     (Fact::UploadPartial, "an upload's file is partial", SESSIONS),
     (
         Fact::UploadBytes,
-        "an upload's bytes are the file's",
+        "an upload's bytes are within the file's",
         SESSIONS,
     ),
     (Fact::SendingFile, "a file being sent is complete", SESSIONS),
@@ -133,11 +129,9 @@ const TABLE: [(Fact, &str, &[&str]); FACTS] = [
         SESSIONS,
     ),
     (Fact::Held, "a packet begun is not at its end", SESSIONS),
-    (Fact::Beyond, "a session beyond the last is closed", BEYOND),
-    (Fact::Apart, "two sessions do not upload one file", PAIRS),
 ];
 
-pub const FACTS: usize = Fact::Apart as usize + 1;
+pub const FACTS: usize = Fact::Held as usize + 1;
 
 impl Fact {
     pub fn all() -> impl Iterator<Item = Fact> {
@@ -213,7 +207,7 @@ pub struct Judged {
     pub refused: Option<u8>,
 }
 
-/// "Order: 33, 35, 34, 32 first"; the words of the state come before the sizes that stand in them (D83).
+/// "Order: 33, 35, 34, 32 first": the sizes in the words and the lengths come before the question whether the words are a state (D83).
 pub fn judge(lent: &Proved) -> Judged {
     let mut broken = Broken::none();
     let answer = |refused: Option<u8>, broken| Judged { broken, refused };
@@ -221,10 +215,9 @@ pub fn judge(lent: &Proved) -> Judged {
         return answer(Some(33), broken);
     }
     words(&lent.state, &mut broken);
-    let is_state = broken.count == 0;
-    let sizes = match Sizes::of(lent) {
+    let sizes = match Sizes::of(lent).filter(|sizes| sizes.all_fit(lent)) {
         Some(sizes) => sizes,
-        None => return answer(Some(if is_state { 33 } else { 35 }), broken),
+        None => return answer(Some(33), broken),
     };
     blocks(lent, sizes, &mut broken);
     let files = Files::of(lent, sizes);
@@ -291,7 +284,7 @@ struct Sizes {
 }
 
 impl Sizes {
-    /// The sizes that the state says, where they are in document 01's table and all memory for them is lent.
+    /// The sizes that the state says, where they are in document 01's table.
     fn of(lent: &Proved) -> Option<Sizes> {
         let size = |at: usize, most: u64| {
             let word = lent.state[at];
@@ -299,19 +292,31 @@ impl Sizes {
         };
         let (blocks, files) = (size(0, 4096)?, size(1, 256)?);
         let (sessions, maxsel) = (size(2, 4)?, size(3, 50)?);
-        let room = 256 * blocks <= lent.disk.len()
-            && (blocks + 63) / 64 <= lent.map.len()
-            && blocks <= lent.owner.len()
-            && 4 * files <= lent.table.len()
-            && sessions * maxsel <= lent.selected.len()
-            && sessions * PART <= lent.held.len();
-        room.then_some(Sizes {
+        Some(Sizes {
             blocks,
             files,
             sessions,
             maxsel,
         })
     }
+
+    fn map_fits(&self, lent: &Proved) -> bool {
+        (self.blocks + 63) / 64 <= lent.map.len()
+    }
+
+    fn all_fit(&self, lent: &Proved) -> bool {
+        256 * self.blocks <= lent.disk.len()
+            && self.map_fits(lent)
+            && self.blocks <= lent.owner.len()
+            && 4 * self.files <= lent.table.len()
+            && self.sessions * self.maxsel <= lent.selected.len()
+            && self.sessions * PART <= lent.held.len()
+    }
+}
+
+/// The sizes are in the table, and the map, which is all that counting the free blocks is lent besides the words, has room for them.
+pub fn map_fits(lent: &Proved) -> bool {
+    Sizes::of(lent).map_or(false, |sizes| sizes.map_fits(lent))
 }
 
 // ---- blocks
@@ -416,19 +421,11 @@ impl Files {
 
 // ---- sessions
 
-/// The facts on the open sessions; of a closed one nothing is looked at (D57).
+/// The facts on the open sessions; of a closed one (D57), and of one beyond those in use (D58), nothing is looked at.
 fn sessions(lent: &Proved, sizes: Sizes, files: &Files, broken: &mut Broken) {
-    let mut uploads = [None; 4];
-    for (index, upload) in uploads.iter_mut().enumerate() {
+    for index in 0..sizes.sessions {
         let words = session_words(&lent.state, index);
         if words[0] != 1 {
-            continue;
-        }
-        if words[1] == 1 {
-            *upload = Some(words[2]);
-        }
-        if sizes.sessions <= index {
-            broken.unless(false, Fact::Beyond, index - 1);
             continue;
         }
         uplink(&words[1..5], files, index, broken);
@@ -436,11 +433,6 @@ fn sessions(lent: &Proved, sizes: Sizes, files: &Files, broken: &mut Broken) {
         packet(words[9], &lent.held[PART * index..][..PART], index, broken);
         let selected = &lent.selected[sizes.maxsel * index..][..sizes.maxsel];
         selection(words[10], words[11], selected, files, index, broken);
-    }
-    let pairs = [(0, 1), (0, 2), (0, 3), (1, 2), (1, 3), (2, 3)];
-    for (pair, (one, other)) in pairs.into_iter().enumerate() {
-        let same = uploads[one].is_some() && uploads[one] == uploads[other];
-        broken.unless(!same, Fact::Apart, pair);
     }
 }
 
@@ -454,7 +446,7 @@ fn uplink(words: &[u64], files: &Files, index: usize, broken: &mut Broken) {
     };
     let bytes = low(words[2]) + low(words[3]);
     broken.unless(file.time == 0, Fact::UploadPartial, index);
-    broken.unless(bytes == file.received.into(), Fact::UploadBytes, index);
+    broken.unless(bytes <= file.received.into(), Fact::UploadBytes, index);
 }
 
 fn downlink(words: &[u64], files: &Files, index: usize, broken: &mut Broken) {
@@ -495,4 +487,32 @@ fn selection(
     let count = usize::try_from(count).map_or(most, |count| count.min(most));
     let named = |number: &u32| files.complete.binary_search(number).is_ok();
     broken.unless(selected[..count].iter().all(named), Fact::Selected, index);
+}
+
+// ---- what calls keep
+
+/// What holds of the sessions in every state that calls made and is no fact of 35 (D58, D59): the first that is broken in memory with no
+/// broken fact.
+pub fn kept(lent: &Proved) -> Result<(), &'static str> {
+    let sizes = Sizes::of(lent).ok_or("the sizes are in the table")?;
+    let files = Files::of(lent, sizes);
+    let mut uploads = Vec::new();
+    for index in 0..4 {
+        let words = session_words(&lent.state, index);
+        if words[0] == 1 && sizes.sessions <= index {
+            return Err("a session beyond the last is closed");
+        }
+        if words[0] != 1 || words[1] != 1 {
+            continue;
+        }
+        let file = files.named(words[2]).ok_or("an upload names a file")?;
+        if words[3] + words[4] != file.received.into() {
+            return Err("an upload's bytes are the file's");
+        }
+        if uploads.contains(&words[2]) {
+            return Err("two sessions do not upload one file");
+        }
+        uploads.push(words[2]);
+    }
+    Ok(())
 }

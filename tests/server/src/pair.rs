@@ -2,7 +2,7 @@
 use crate::call::{Act, Call};
 use crate::coverage::Coverage;
 use crate::image::{same_bytes, same_words};
-use crate::oracle::judge;
+use crate::oracle::{judge, kept};
 use crate::proved::{empty, memory, Answer, Proved};
 use reference::server::{Answer as Second, Server, Sizes};
 
@@ -113,7 +113,10 @@ impl Pair {
         if judged.refused.is_some() {
             return Err(format!("a fact of 35 is broken: {}", judged.broken));
         }
-        if let Err(fact) = self.second.sound() {
+        if let Err(fact) = kept(&self.proved) {
+            return Err(format!("calls do not keep: {fact}"));
+        }
+        if let Err(fact) = self.second.sound().and(self.second.kept()) {
             return Err(format!("a fact is broken in the second program: {fact}"));
         }
         if beyond(&self.proved, self.second.sizes) != self.beyond {

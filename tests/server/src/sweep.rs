@@ -1,6 +1,6 @@
 //! Every word of the lent memory with other values, one at a time: the proved server's answer must be the oracle's, and nothing may change.
 use crate::call::{Act, Call};
-use crate::oracle::{judge, Fact, Judged, FACTS, MOST};
+use crate::oracle::{judge, map_fits, Fact, Judged, FACTS, MOST};
 use crate::pair::on_proved;
 use crate::proved::{Answer, Proved};
 use crate::words::{Part, Word};
@@ -279,7 +279,7 @@ fn refusal(lent: &mut Proved, judged: &Judged, random: &mut Random) -> (Call, An
     (call, answer)
 }
 
-/// "The number free is the count of its one bits": the words of the state and the number of blocks are judged, and no fact of the store.
+/// "The number free is the count of its one bits": the sizes and the map's length are judged, then the words, and no fact of the store.
 fn counts_free_blocks(lent: &mut Proved, judged: &Judged) -> bool {
     let counts = lent.counts.clone();
     let counted = lent.free();
@@ -287,12 +287,12 @@ fn counts_free_blocks(lent: &mut Proved, judged: &Judged) -> bool {
     let mut of_words = Fact::all().take_while(|fact| *fact != Fact::Owner);
     let is_state = !of_words.any(|fact| judged.broken.has(fact));
     match counted {
-        Err(35) => !is_state,
-        Err(number) => is_state && number == 33 && judged.refused == Some(33),
+        Err(33) => !map_fits(lent),
+        Err(number) => map_fits(lent) && !is_state && number == 35,
         Ok((free, all)) => {
             let words = &lent.map[..(all + 63) / 64];
             let ones: u32 = words.iter().map(|word| word.count_ones()).sum();
-            is_state && all as u64 == lent.state[0] && free == ones as usize
+            map_fits(lent) && is_state && all as u64 == lent.state[0] && free == ones as usize
         }
     }
 }

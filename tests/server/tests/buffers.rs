@@ -77,6 +77,13 @@ fn shortened(proved: &Proved) -> Vec<(&'static str, Proved)> {
     all
 }
 
+/// Words that are no state: the flag of a session is neither 0 nor 1. The sizes stand in other words.
+fn no_state(proved: &Proved) -> Proved {
+    let mut copy = proved.clone();
+    copy.state[6] = 2;
+    copy
+}
+
 /// Every length of the output: below 258 bytes a call that would be answered is 32, and from there on the length makes no difference.
 fn every_output(proved: &Proved, what: &str) -> usize {
     const FILL: u8 = 0xee;
@@ -153,6 +160,11 @@ fn each_slice_one_element_short_is_33() {
         for (name, short) in shortened(&proved) {
             all_refused(&short, 33, name);
         }
+        let damaged = no_state(&proved);
+        all_refused(&damaged, 35, "no state");
+        for (name, short) in shortened(&damaged) {
+            all_refused(&short, 33, name);
+        }
     }
 }
 
@@ -189,6 +201,11 @@ fn the_order_of_local_refusals() {
     all_refused(&proved, 35, "the map is wrong");
     proved.held.pop();
     all_refused(&proved, 33, "the map is wrong and a slice is short");
+    let mut damaged = no_state(&program());
+    damaged.out = vec![0; 257];
+    all_refused(&damaged, 35, "the words are no state");
+    damaged.state[1] = 257;
+    all_refused(&damaged, 33, "and the number of files is outside the table");
 }
 
 #[test]
@@ -246,6 +263,13 @@ fn free_blocks_are_not_counted_in_short_slices() {
         match name {
             "state" | "map" | "counts" => assert_eq!(counted, Err(33), "{name}"),
             _ => assert_eq!(counted, Ok((128, 128)), "{name}"),
+        }
+    }
+    for (name, mut short) in shortened(&no_state(&program())) {
+        let counted = short.free();
+        match name {
+            "state" | "map" | "counts" => assert_eq!(counted, Err(33), "{name}"),
+            _ => assert_eq!(counted, Err(35), "{name}"),
         }
     }
 }

@@ -50,11 +50,7 @@ returns c = simp (lt-ltb _ _ (c .before .before .before .if1 .taken), c .link-so
 
 returns-2 : tie.Need-returns-2
 unfolding linkIn
-returns-2 c = rw (le-ltb _ _ (c .before .if1 .left), c .if2 .taken)
-
-returns-3 : tie.Need-returns-3
-unfolding linkIn
-returns-3 c = rw (le-ltb _ _ (c .before .if1 .left), c .if2 .left)
+returns-2 c = rw (le-ltb _ _ (c .if1 .left))
 
 pub link-at-spec : {M : Type 1} → statement M
 link-at-spec =
@@ -73,5 +69,4 @@ link-at-spec =
     part-link-sound-end-2
     link-sound-requires
     returns
-    returns-2
-    returns-3)
+    returns-2)

@@ -53,28 +53,21 @@ array-copy-out-link-at-4 c = search needs
 link-at-requires-4 : tie.Need-link-at-requires-4
 link-at-requires-4 c κs = search needs
 
-all-apart-requires : tie.Need-all-apart-requires
-all-apart-requires c κs = search needs
-
 returns-5 : tie.Need-returns-5
 unfolding linksSound
-returns-5 c = rw (le-leb _ _ (c .before .before .before .before .before .before .before .before .before .before .before .before .before .before .before .before .if1 .left), le-leb _ _ (c .before .before .before .before .before .before .before .before .before .before .before .before .before .before .before .if2 .left), le-leb _ _ (c .before .before .before .before .before .before .before .before .before .before .before .before .before .before .if3 .left), le-leb _ _ (c .before .before .before .before .before .before .before .before .before .before .before .before .before .if4 .left), ← c .before .before .before .before .before .before .before .before .before .before .before .link-at .ensures, c .before .before .before .before .before .before .before .before .before .before .if5 .taken, ← c .before .before .before .before .before .before .before .before .link-at2 .ensures, c .before .before .before .before .before .before .before .if6 .taken, ← c .before .before .before .before .before .link-at3 .ensures, c .before .before .before .before .if7 .taken, ← c .before .before .link-at4 .ensures, c .before .if8 .taken) (c .all-apart .ensures)
+returns-5 c = rw (le-leb _ _ (c .before .before .before .before .before .before .before .before .before .before .before .before .before .before .if1 .left), le-leb _ _ (c .before .before .before .before .before .before .before .before .before .before .before .before .before .if2 .left), le-leb _ _ (c .before .before .before .before .before .before .before .before .before .before .before .before .if3 .left), le-leb _ _ (c .before .before .before .before .before .before .before .before .before .before .before .if4 .left), ← c .before .before .before .before .before .before .before .before .before .link-at .ensures, c .before .before .before .before .before .before .before .before .if5 .taken, ← c .before .before .before .before .before .before .link-at2 .ensures, c .before .before .before .before .before .if6 .taken, ← c .before .before .before .link-at3 .ensures, c .before .before .if7 .taken) (c .link-at4 .ensures)
 
 returns-6 : tie.Need-returns-6
 unfolding linksSound
-returns-6 c = rw (le-leb _ _ (c .before .before .before .before .before .before .before .before .before .before .before .before .before .before .before .if1 .left), le-leb _ _ (c .before .before .before .before .before .before .before .before .before .before .before .before .before .before .if2 .left), le-leb _ _ (c .before .before .before .before .before .before .before .before .before .before .before .before .before .if3 .left), le-leb _ _ (c .before .before .before .before .before .before .before .before .before .before .before .before .if4 .left), ← c .before .before .before .before .before .before .before .before .before .before .link-at .ensures, c .before .before .before .before .before .before .before .before .before .if5 .taken, ← c .before .before .before .before .before .before .before .link-at2 .ensures, c .before .before .before .before .before .before .if6 .taken, ← c .before .before .before .before .link-at3 .ensures, c .before .before .before .if7 .taken, ← c .before .link-at4 .ensures, c .if8 .left)
+returns-6 c = rw (le-leb _ _ (c .before .before .before .before .before .before .before .before .before .before .before .before .if1 .left), le-leb _ _ (c .before .before .before .before .before .before .before .before .before .before .before .if2 .left), le-leb _ _ (c .before .before .before .before .before .before .before .before .before .before .if3 .left), le-leb _ _ (c .before .before .before .before .before .before .before .before .before .if4 .left), ← c .before .before .before .before .before .before .before .link-at .ensures, c .before .before .before .before .before .before .if5 .taken, ← c .before .before .before .before .link-at2 .ensures, c .before .before .before .if6 .taken, ← c .before .link-at3 .ensures, c .if7 .left)
 
 returns-7 : tie.Need-returns-7
 unfolding linksSound
-returns-7 c = rw (le-leb _ _ (c .before .before .before .before .before .before .before .before .before .before .before .before .if1 .left), le-leb _ _ (c .before .before .before .before .before .before .before .before .before .before .before .if2 .left), le-leb _ _ (c .before .before .before .before .before .before .before .before .before .before .if3 .left), le-leb _ _ (c .before .before .before .before .before .before .before .before .before .if4 .left), ← c .before .before .before .before .before .before .before .link-at .ensures, c .before .before .before .before .before .before .if5 .taken, ← c .before .before .before .before .link-at2 .ensures, c .before .before .before .if6 .taken, ← c .before .link-at3 .ensures, c .if7 .left)
+returns-7 c = rw (le-leb _ _ (c .before .before .before .before .before .before .before .before .before .if1 .left), le-leb _ _ (c .before .before .before .before .before .before .before .before .if2 .left), le-leb _ _ (c .before .before .before .before .before .before .before .if3 .left), le-leb _ _ (c .before .before .before .before .before .before .if4 .left), ← c .before .before .before .before .link-at .ensures, c .before .before .before .if5 .taken, ← c .before .link-at2 .ensures, c .if6 .left)
 
 returns-8 : tie.Need-returns-8
 unfolding linksSound
-returns-8 c = rw (le-leb _ _ (c .before .before .before .before .before .before .before .before .before .if1 .left), le-leb _ _ (c .before .before .before .before .before .before .before .before .if2 .left), le-leb _ _ (c .before .before .before .before .before .before .before .if3 .left), le-leb _ _ (c .before .before .before .before .before .before .if4 .left), ← c .before .before .before .before .link-at .ensures, c .before .before .before .if5 .taken, ← c .before .link-at2 .ensures, c .if6 .left)
-
-returns-9 : tie.Need-returns-9
-unfolding linksSound
-returns-9 c = rw (le-leb _ _ (c .before .before .before .before .before .before .if1 .left), le-leb _ _ (c .before .before .before .before .before .if2 .left), le-leb _ _ (c .before .before .before .before .if3 .left), le-leb _ _ (c .before .before .before .if4 .left), ← c .before .link-at .ensures, c .if5 .left)
+returns-8 c = rw (le-leb _ _ (c .before .before .before .before .before .before .if1 .left), le-leb _ _ (c .before .before .before .before .before .if2 .left), le-leb _ _ (c .before .before .before .before .if3 .left), le-leb _ _ (c .before .before .before .if4 .left), ← c .before .link-at .ensures, c .if5 .left)
 
 pub links-sound-spec : {M : Type 1} → statement M
 links-sound-spec =
@@ -94,9 +87,7 @@ links-sound-spec =
     link-at-requires-3
     array-copy-out-link-at-4
     link-at-requires-4
-    all-apart-requires
     returns-5
     returns-6
     returns-7
-    returns-8
-    returns-9)
+    returns-8)

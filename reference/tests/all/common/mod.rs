@@ -133,6 +133,7 @@ impl Desk {
         let mut output = [POISON; 300];
         let answer = call(&mut self.server, &mut output);
         assert_eq!(self.server.sound(), Ok(()));
+        assert_eq!(self.server.kept(), Ok(()));
         let mut expected = [POISON; 300];
         match &answer {
             Answer::Refused(_) => assert_eq!(self.server, before),

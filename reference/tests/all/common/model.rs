@@ -127,6 +127,7 @@ impl Watch for Onlooker {
 
     fn after(&mut self, server: &Server, call: Call, answer: &Answer) {
         assert_eq!(server.sound(), Ok(()));
+        assert_eq!(server.kept(), Ok(()));
         match (call, &self.framed, answer) {
             (_, _, Answer::Refused(_)) => {}
             (Call::Receive(session, _), Some(framed), _) => {

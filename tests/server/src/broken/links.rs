@@ -29,21 +29,29 @@ pub(super) fn upload_of_a_complete_file(s: &State) -> Vec<Change> {
     changes
 }
 
+/// More bytes than the file has.
 pub(super) fn upload_bytes(s: &State) -> Vec<Change> {
     let mut changes = Vec::new();
     for link in s.uplinks(1) {
-        let received = s.record(s.word(link.at + 2)).received;
+        let file = s.record(s.word(link.at + 2));
         changes.extend(each([
-            Word::state(link.at + 3, s.word(link.at + 3) ^ 1),
-            Word::state(link.at + 4, s.word(link.at + 4) ^ 1),
+            Word::state(link.at + 3, s.word(link.at + 3) + 1),
+            Word::state(link.at + 4, s.word(link.at + 4) + 1),
             Word::state(link.at + 4, u32::MAX.into()),
         ]));
-        if 0 < received {
-            let at = s.record(s.word(link.at + 2)).word(2);
-            changes.push(vec![Word::table(at, received - 1)]);
+        if 0 < file.received {
+            changes.push(vec![Word::table(file.word(2), file.received - 1)]);
         }
     }
     changes
+}
+
+/// Fewer bytes than the file has: they point at bytes that are there.
+pub(super) fn upload_fewer_bytes(s: &State) -> Vec<Change> {
+    let words = s.uplinks(1).into_iter();
+    let words = words.flat_map(|link| [link.at + 3, link.at + 4]);
+    let words = words.filter(|at| 0 < s.word(*at));
+    each(words.flat_map(|at| [0, s.word(at) - 1].map(|fewer| Word::state(at, fewer))))
 }
 
 /// 32-bit sums of these are the file's bytes.
@@ -184,8 +192,21 @@ pub(super) fn held_too_long(s: &State) -> Vec<Change> {
 
 // ---- words
 
+/// A session beyond those in use is open: at rest, or uploading a partial, or what no file is.
 pub(super) fn session_beyond(s: &State) -> Vec<Change> {
-    each((s.sessions..4).map(|index| Word::state(HEAD + SESSION * index, 1)))
+    let mut places = vec![None, Some(s.files as u64)];
+    places.extend(s.partial().iter().map(|file| Some(file.place as u64)));
+    let mut changes = Vec::new();
+    for at in (s.sessions..4).map(|index| HEAD + SESSION * index) {
+        for place in &places {
+            let mut change = vec![Word::state(at, 1)];
+            if let Some(place) = place {
+                change.extend([Word::state(at + 1, 1), Word::state(at + 2, *place)]);
+            }
+            changes.push(change);
+        }
+    }
+    changes
 }
 
 pub(super) fn no_such_case(s: &State) -> Vec<Change> {

@@ -17,7 +17,7 @@ pub fn apply(proved: &mut Proved, change: &[Word]) {
 /// A fact by its name, and the changes that break it.
 pub type Fact = (&'static str, fn(&State) -> Vec<Change>);
 
-pub const FACTS: [Fact; 31] = [
+pub const FACTS: [Fact; 29] = [
     // crates/blocks/specs/Check.antt
     ("an owner is a place", store::owner_beyond),
     ("the map's bit of each block", store::map_bit),
@@ -52,7 +52,7 @@ pub const FACTS: [Fact; 31] = [
         links::upload_of_a_complete_file,
     ),
     (
-        "an upload's offset and bytes are the file's",
+        "an upload's offset and bytes are within the file's",
         links::upload_bytes,
     ),
     ("an upload's bytes do not wrap", links::upload_bytes_wrapped),
@@ -87,11 +87,19 @@ pub const FACTS: [Fact; 31] = [
         "an unfinished packet announces at most 256",
         links::held_too_long,
     ),
-    ("a session beyond the last is closed", links::session_beyond),
-    ("two sessions do not upload one file", links::upload_twice),
     // crates/embed/specs/Words.antt
     ("a word is one that the state can have", links::no_such_case),
     ("a word that a case does not use is 0", links::unused_word),
+];
+
+/// What calls keep besides, and refusal 35 does not ask (crates/links/specs/Kept.antt), by the oracle's names.
+pub const KEPT: [Fact; 3] = [
+    (
+        "an upload's bytes are the file's",
+        links::upload_fewer_bytes,
+    ),
+    ("a session beyond the last is closed", links::session_beyond),
+    ("two sessions do not upload one file", links::upload_twice),
 ];
 
 /// A record of the file table.

@@ -1,5 +1,5 @@
 use native.Mathlib.Omega.{arith}
-use mathlib.Core.Path.{_≡_, sym}
+use mathlib.Core.Path.{_≡_, sym, ap, _∙_}
 use mathlib.Core.List.{List, _++_}
 use Prim.Native.Nat.{ℕ, _+_, _*_, _-_}
 use native.Mathlib.Nat.{add-sub-cancel-left, mul-le-mul}
@@ -15,7 +15,7 @@ use Rattle.carry.specs.Turn.{mem, turned}
 use Rattle.carry.specs.Carry.{carryOut}
 use Rattle.server.specs.declared.Server.{Server}
 use Rattle.server.specs.State.{words}
-use Rattle.server.specs.Turns.{sizeIn, actOf, putBack}
+use Rattle.server.specs.Turns.{sizeIn, inUse, actOf, putBack}
 use borrow.Author.Needs.{needs}
 use Rattle.server.proofs.turns.act_on.Statement.{statement}
 use Rattle.server.proofs.turns.act_on.Tie as tie
@@ -23,6 +23,7 @@ use Rattle.server.proofs.turns.act_on.Reads as reads
 use Rattle.server.proofs.turns.act_on.Lts as lts
 use Rattle.carry.proofs.carry_out.Reads as carry-out-reads
 use Rattle.decide.proofs.decide.Reads as decide-reads
+use Rattle.server.proofs.turns.in_use.Reads as in-use-reads
 use Rattle.server.proofs.turns.size_in.Reads as size-in-reads
 
 add-w : tie.Need-add-w
@@ -36,6 +37,9 @@ mul-a c = search needs
 
 add-e : tie.Need-add-e
 add-e c = search needs
+
+in-use-requires : tie.Need-in-use-requires
+in-use-requires c κs = search needs
 
 size-in-requires : tie.Need-size-in-requires
 size-in-requires c κs = tt
@@ -114,7 +118,7 @@ acted : (sv : Server) (i : ℕ) (s : Session) (frame : Frame) (clock : ℕ) (inf
     (disk′ map′ owner′ table′ selected′ : List ℕ)
     → size ≡ sizeIn frame
     → what
-    ≡ decideOf s (sv .links) frame info (files (take (4 * sv .files) table))
+    ≡ decideOf s (inUse sv) frame info (files (take (4 * sv .files) table))
     (take (i * sv .most + sv .most - i * sv .most) (drop (i * sv .most) selected))
     → turned t (mem disk′ map′ owner′ table′ selected′)
     ≡ carryOut what s (sv .last) clock (sv .most) size info
@@ -130,8 +134,30 @@ acted sv i s frame clock info disk map owner table selected size what t disk′ 
     let d : i * sv .most + sv .most - i * sv .most ≡ sv .most = add-sub-cancel-left (i * sv .most) (sv .most) in
     rw (d, ← sized, ← rw d at decided, ← rw d at carried)
 
+acted-by : (sv : Server) (i : ℕ) (s : Session) (frame : Frame) (clock : ℕ) (info disk map owner table selected : List ℕ) (size : ℕ) (what : Act) (t : Turn)
+    (disk′ map′ owner′ table′ selected′ : List ℕ) (links : List Session)
+    → size ≡ sizeIn frame
+    → links ≡ inUse sv
+    → what
+    ≡ decideOf s links frame info (files (take (4 * sv .files) table))
+    (take (i * sv .most + sv .most - i * sv .most) (drop (i * sv .most) selected))
+    → turned t (mem disk′ map′ owner′ table′ selected′)
+    ≡ carryOut what s (sv .last) clock (sv .most) size info
+    (mem disk (take (words (sv .blocks)) map) (take (sv .blocks) owner) (take (4 * sv .files) table)
+    (take (i * sv .most + sv .most - i * sv .most) (drop (i * sv .most) selected)))
+    → turned t
+    (mem disk′ (map′ ++ drop (words (sv .blocks)) map) (owner′ ++ drop (sv .blocks) owner) (table′ ++ drop (4 * sv .files) table)
+    (take (i * sv .most) selected
+    ++ (selected′ ++ drop (i * sv .most + sv .most - i * sv .most) (drop (i * sv .most) selected))))
+    ≡ actOf sv i s frame clock info (mem disk map owner table selected)
+acted-by sv i s frame clock info disk map owner table selected size what t disk′ map′ owner′ table′ selected′ links sized used decided carried =
+    acted sv i s frame clock info disk map owner table selected size what t disk′ map′ owner′ table′ selected′ sized
+    (decided
+    ∙ ap (λ (ls : List Session). decideOf s ls frame info (files (take (4 * sv .files) table))
+    (take (i * sv .most + sv .most - i * sv .most) (drop (i * sv .most) selected))) used) carried
+
 returns : tie.Need-returns
-returns c = acted _ _ _ _ _ _ _ _ _ _ _ _ _ _ _ _ _ _ _ (c .before .before .before .before .before .before .before .before .before .before .before .before .before .before .before .before .before .before .before .before .size-in .ensures) (c .before .before .before .before .before .before .before .before .before .before .before .before .before .before .before .before .decide .ensures) (c .before .before .before .before .before .before .before .before .before .before .carry-out .ensures)
+returns c = acted-by _ _ _ _ _ _ _ _ _ _ _ _ _ _ _ _ _ _ _ _ (c .before .before .before .before .before .before .before .before .before .before .before .before .before .before .before .before .before .before .before .before .size-in .ensures) (c .before .before .before .before .before .before .before .before .before .before .before .before .before .before .before .before .before .before .before .before .before .before .in-use .ensures) (c .before .before .before .before .before .before .before .before .before .before .before .before .before .before .before .before .decide .ensures) (c .before .before .before .before .before .before .before .before .before .before .carry-out .ensures)
 
 pub act-on-spec : {M : Type 1} → statement M
 act-on-spec =
@@ -141,6 +167,7 @@ act-on-spec =
     mul-x
     mul-a
     add-e
+    in-use-requires
     size-in-requires
     slice-reshare-prefix-decide
     slice-aggregate-decide

@@ -1,0 +1,164 @@
+//! States that no calls made and that 35 accepts all the same: an upload that counts fewer bytes than its file has, two sessions that upload one
+//! file, an open session beyond those in use (D58, D59); a header that has another upload time than its record (D43). Each call there is made on
+//! the second program in the same state, and compared.
+use reference::draft::Draft;
+use reference::random::Random;
+use reference::server::{Server, Sizes, Uplink};
+use server::broken::{apply, Change, State, KEPT};
+use server::call::{Act, Call};
+use server::history::run_same;
+use server::image::{same_bytes, same_words, HEAD, SESSION};
+use server::oracle::{judge, kept};
+use server::packets::{data, data_end, download, select, upload, whole_upload};
+use server::pair::{on_proved, on_second, Pair, Start};
+use server::proved::{Answer, Proved};
+
+/// How many changes of one kind are tried in one state.
+const TRIED: usize = 4;
+
+/// The second program's uplinks as the words of the sessions in use say.
+fn follow(second: &mut Server, proved: &Proved) {
+    for (index, session) in second.sessions.iter_mut().enumerate() {
+        let words = &proved.state[HEAD + SESSION * index..][..SESSION];
+        if let (Some(session), 1) = (session, words[1]) {
+            session.uplink = Uplink::Receiving {
+                place: words[2] as usize,
+                offset: words[3] as u32,
+                received: words[4] as u32,
+            };
+        }
+    }
+}
+
+/// What a client or the driver can do with an upload, and some of the rest.
+fn calls(second: &Server) -> Vec<Call> {
+    let mut acts = vec![
+        Act::Open,
+        Act::Request,
+        Act::Lose,
+        Act::Receive(Vec::new()),
+        Act::Receive(data(&[1])),
+        Act::Receive(data(&[2; 256])),
+        Act::Receive(data_end()),
+        Act::Receive(upload(0, 300)),
+        Act::Receive(select(&[0x90, 0x12, 0, 4, 0, 0, 0, 0])),
+        Act::Receive(download(0, 0, 0)),
+    ];
+    for file in second.store.places.iter().flatten() {
+        acts.push(Act::Receive(upload(file.number, file.length)));
+    }
+    let sessions = 1..=second.sizes.sessions;
+    let call = |act: &Act, session| Call {
+        session,
+        clock: 3000,
+        room: 258,
+        act: act.clone(),
+    };
+    sessions
+        .flat_map(|session| acts.iter().map(move |act| call(act, session)))
+        .collect()
+}
+
+/// The words of the sessions beyond those in use.
+fn beyond<'a>(proved: &'a mut Proved, second: &Server) -> &'a mut [u64] {
+    &mut proved.state[HEAD + SESSION * second.sizes.sessions..HEAD + SESSION * 4]
+}
+
+/// Makes the call on both; the words of sessions beyond those in use stay, and are none of the second program's.
+fn same(proved: &Proved, second: &Server, call: &Call) -> Answer {
+    let (mut proved, mut second) = (proved.clone(), second.clone());
+    let mut output = vec![0xee; call.room];
+    proved.out.clone_from(&output);
+    let ghosts = beyond(&mut proved, &second).to_vec();
+    let got = on_proved(&mut proved, call);
+    let want = on_second(&mut second, call, &mut output);
+    assert_eq!(got, want, "{call}");
+    assert_eq!(proved.out, output, "{call}");
+    assert_eq!(*beyond(&mut proved, &second), ghosts, "{call}");
+    beyond(&mut proved, &second).fill(0);
+    same_words(&proved, &second).unwrap_or_else(|what| panic!("{call}: {what}"));
+    same_bytes(&proved, &second).unwrap_or_else(|what| panic!("{call}: {what}"));
+    got
+}
+
+/// A packet that says 2, to UPLOAD_CMD.
+fn is_2(answer: &Answer) -> bool {
+    matches!(answer, Answer::Sent(_, packet) if packet[..] == [1, 5, 2])
+}
+
+/// 35 accepts the changed state, and names no broken fact; the oracle says what calls would have kept.
+fn accepted(whole: &Proved, change: &Change, name: &str) -> Proved {
+    let mut proved = whole.clone();
+    apply(&mut proved, change);
+    let judged = judge(&proved);
+    assert_eq!(judged.refused, None, "{name}: {}", judged.broken);
+    assert_eq!(kept(&proved), Err(name));
+    proved
+}
+
+#[test]
+fn a_state_that_calls_would_not_make_is_answered_as_its_words_say() {
+    let mut tried = [0; KEPT.len()];
+    let mut refused_by_2 = 0;
+    for seed in 2_400_000..2_400_120 {
+        let mut random = Random::new(seed);
+        let pair = run_same(seed).pair;
+        for (at, (name, changes)) in KEPT.iter().enumerate() {
+            let changes = changes(&State::of(&pair.proved));
+            for _ in 0..TRIED.min(changes.len()) {
+                let proved = accepted(&pair.proved, random.pick(&changes), name);
+                let mut second = pair.second.clone();
+                follow(&mut second, &proved);
+                for call in calls(&second) {
+                    refused_by_2 += usize::from(is_2(&same(&proved, &second, &call)));
+                }
+                tried[at] += 1;
+            }
+        }
+    }
+    for ((name, _), count) in KEPT.iter().zip(tried) {
+        assert!(20 <= count, "{name}: broken in {count} states only");
+    }
+    assert!(
+        20 <= refused_by_2,
+        "another session uploads: {refused_by_2}"
+    );
+}
+
+/// Two complete files of 80 bytes, in the first two blocks.
+fn two_files() -> Pair {
+    let mut pair = Pair::new(Start::new(Sizes::PROGRAM));
+    let packets = whole_upload(&Draft::new().bytes());
+    let mut acts = vec![Act::Open];
+    acts.extend(packets.iter().chain(&packets).cloned().map(Act::Receive));
+    for act in acts {
+        let call = Call {
+            session: 1,
+            clock: 100,
+            room: 258,
+            act,
+        };
+        pair.call(&call)
+            .unwrap_or_else(|what| panic!("{call}: {what}"));
+    }
+    pair
+}
+
+/// Where the upload time stands in a header with only the mandatory items.
+const UPLOAD_TIME: std::ops::Range<usize> = 73..77;
+
+#[test]
+fn a_header_with_another_upload_time_is_answered_as_it_stands() {
+    let pair = two_files();
+    assert_eq!(pair.proved.disk[UPLOAD_TIME], 100u32.to_le_bytes());
+    // none, the other file's, above the last one given
+    for time in [0, 101, u32::MAX] {
+        let (mut proved, mut second) = (pair.proved.clone(), pair.second.clone());
+        proved.disk[UPLOAD_TIME].copy_from_slice(&time.to_le_bytes());
+        second.store.disk[UPLOAD_TIME].copy_from_slice(&time.to_le_bytes());
+        assert_eq!(judge(&proved).refused, None);
+        for call in calls(&second) {
+            same(&proved, &second, &call);
+        }
+    }
+}
