@@ -69,7 +69,8 @@ module _ (bytes steps out : List ℕ) (w : Accepted bytes steps) (h : length byt
       let s = sets-eq (textOf (w .formula)) zeros (r .n) (omega (arith, the-text .place)) in
       let k : length (take (r .n) zeros) ≡ r .n = length-take-le (r .n) zeros (omega (arith, start-within)) in
       let d : drop (r .n) text ≡ textOf (w .formula) ++ drop (r .n + length (textOf (w .formula))) zeros =
-      ap (drop (r .n)) (the-text .bytes ∙ s ∙ append-assoc (take (r .n) zeros) (textOf (w .formula)) (drop (r .n + length (textOf (w .formula))) zeros)) ∙ drop-at (take (r .n) zeros) (textOf (w .formula) ++ drop (r .n + length (textOf (w .formula))) zeros) (r .n) k in
+      ap (drop (r .n)) (the-text .bytes ∙ s ∙ append-assoc (take (r .n) zeros) (textOf (w .formula)) (drop (r .n + length (textOf (w .formula))) zeros))
+      ∙ drop-at (take (r .n) zeros) (textOf (w .formula) ++ drop (r .n + length (textOf (w .formula))) zeros) (r .n) k in
       ap (take (2560 - r .n)) d ∙ take-at (textOf (w .formula)) (drop (r .n + length (textOf (w .formula))) zeros) (2560 - r .n) (sym size-is)
 
   pub deliver-short : length out < 2560 - r .n → answers (answer.Refused 33) out ≡ delivered (textOf (w .formula)) out
@@ -141,7 +142,8 @@ module _ (bytes steps : List ℕ) (p : Parsed) (small : (k : ℕ) → getD bytes
 
   pub refused-answer : (p .refused ≡ 0 → ⊥) → (out : List ℕ) → answers (answer.Refused (p .refused)) out ≡ writtenOf bytes out
   unfolding writtenOf writtenBy validityOf refusal
-  refused-answer z out = by (ltb 2047 (length bytes)) refl (parse bytes) refl (judged bytes (replicate 2047 0) steps p e (λ h. omega (arith, length-replicate {A = ℕ} 2047 0)))
+  refused-answer z out =
+      by (ltb 2047 (length bytes)) refl (parse bytes) refl (judged bytes (replicate 2047 0) steps p e (λ h. omega (arith, length-replicate {A = ℕ} 2047 0)))
     where
       by : (x : Bool) → ltb 2047 (length bytes) ≡ x → (o : Option Tree) → parse bytes ≡ o → p .refused ≡ cond x 33 (refusal o)
           → answers (answer.Refused (p .refused)) out ≡ cond x (answers (answer.Refused 33) out) (writtenBy o (length bytes) (length (unmarked bytes)) out)

@@ -17,7 +17,8 @@ use Rattle.names.specs.Names.{items, widthIn, nameIn}
 use Rattle.names.specs.Kinds.{isPrinted}
 use Rattle.grammar.specs.Meaning.{leastWidth}
 use Rattle.grammar.specs.Grammar.{itemText, operatorText, characterText, charactersText, constantText, writtenText}
-use Rattle.writing.specs.Text.{itemBy, characterFor, numberFor, constantFor, comparisonFor, textOf, productText, factorText, nesting, productNesting, factorNesting}
+use Rattle.writing.specs.Text.{itemBy, characterFor, numberFor, constantFor, comparisonFor, textOf, productText, factorText, nesting, productNesting}
+use Rattle.writing.specs.Text.{factorNesting}
 use Rattle.writing.specs.Places.{formulaOf}
 use Rattle.back.specs.Answer.{delivered, written, writtenBy}
 
@@ -93,5 +94,8 @@ rows =
     ∷ []
 
 computed : map said rows ≡ map want rows
-unfolding want said rows row roomy short none more right rightText quoted bytesOf number digitsWithin decimalOf hexDigit width starsIn goodText goodNumber good connectiveOf relationAt tokenOf follow symbolsPast pushed joined result bind run parse beforeMark unmarkedPast items widthIn nameIn isPrinted leastWidth itemText operatorText characterText charactersText constantText writtenText itemBy characterFor numberFor constantFor comparisonFor textOf productText factorText nesting productNesting factorNesting formulaOf delivered written writtenBy writtenOf
+unfolding want said rows row roomy short none more right rightText quoted bytesOf number digitsWithin decimalOf hexDigit width starsIn goodText goodNumber good
+    connectiveOf relationAt tokenOf follow symbolsPast pushed joined result bind run parse beforeMark unmarkedPast items widthIn nameIn isPrinted leastWidth
+    itemText operatorText characterText charactersText constantText writtenText itemBy characterFor numberFor constantFor comparisonFor textOf productText
+    factorText nesting productNesting factorNesting formulaOf delivered written writtenBy writtenOf
 computed = refl

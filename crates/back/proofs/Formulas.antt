@@ -10,10 +10,11 @@ use lib.Seq.{length-take-le, take-suc, take-take, take-at, take-length}
 use borrow.Author.Tests.{lt-ltb, le-ltb}
 use Rattle.equation.specs.Symbols.{Symbol}
 use Rattle.equation.specs.Parsed.{relationFrom, symbolAt, symbolsBy}
-use Rattle.grammar.specs.Formula.{Formula, relation}
+use Rattle.grammar.specs.Formula.{Formula, relation, symbolsOf}
 use Rattle.writing.specs.Text.{relationText}
-use Rattle.writing.specs.Places.{symbolsOf, textAt, nestingAt, connectiveText, opening, closing, Stands}
-use Rattle.writing.proofs.Operands.{binds, join-text, join-nesting, connective-length, relation-text, relation-nesting, few-at, lastOf, initOf, split, snoc-same, is-relation, Joined, is-join, join-init}
+use Rattle.writing.specs.Places.{textAt, nestingAt, connectiveText, opening, closing, Stands}
+use Rattle.writing.proofs.Operands.{binds, join-text, join-nesting, connective-length, relation-text, relation-nesting, few-at, lastOf, initOf, split}
+use Rattle.writing.proofs.Operands.{snoc-same, is-relation, Joined, is-join, join-init}
 use Rattle.back.specs.Steps.{bindingOf, Piece, Ready, Room, Wrote, Measured, Accepted}
 use Rattle.back.specs.declared.Place.{Place}
 use Rattle.back.specs.declared.Nesting.{Nesting}
@@ -35,12 +36,14 @@ record Last (bytes steps : List ℕ) (e : ℕ) (xs : List Symbol) (s : Symbol) :
   is : symbolAt bytes (getD steps (e - 1) 0) ≡ s
   rest : symbolsBy bytes (take (e - 1) steps) ≡ xs
 
-last-step : (bytes steps : List ℕ) (e : ℕ) (xs : List Symbol) (s : Symbol) → e ≤ length steps → symbolsBy bytes (take e steps) ≡ xs ++ s ∷ [] → Last bytes steps e xs s
+last-step : (bytes steps : List ℕ) (e : ℕ) (xs : List Symbol) (s : Symbol) → e ≤ length steps → symbolsBy bytes (take e steps) ≡ xs ++ s ∷ []
+    → Last bytes steps e xs s
 last-step bytes steps e xs s h z =
     let l : e ≡ length xs + 1 = sym (length-take-le e steps h) ∙ sym (length-map (take e steps) (symbolAt bytes)) ∙ ap length z ∙ length-append xs (s ∷ []) in
     let k : e ≡ suc (e - 1) = omega arith in
     let t : take e steps ≡ take (e - 1) steps ++ getD steps (e - 1) 0 ∷ [] = ap (λ (i : ℕ). take i steps) k ∙ take-suc steps (e - 1) 0 (omega arith) in
-    let p = snoc-same (symbolsBy bytes (take (e - 1) steps)) xs (symbolAt bytes (getD steps (e - 1) 0)) s (sym (map-snoc bytes (take (e - 1) steps) (getD steps (e - 1) 0)) ∙ sym (ap (symbolsBy bytes) t) ∙ z) in
+    let p = snoc-same (symbolsBy bytes (take (e - 1) steps)) xs (symbolAt bytes (getD steps (e - 1) 0)) s
+    (sym (map-snoc bytes (take (e - 1) steps) (getD steps (e - 1) 0)) ∙ sym (ap (symbolsBy bytes) t) ∙ z) in
     record { at = omega arith; is = p .1; rest = p .0 }
 
 module _ (bytes steps : List ℕ) (e : ℕ) (w : Ready bytes steps e) where
@@ -140,17 +143,29 @@ module _ (bytes steps : List ℕ) (e : ℕ) (w : Ready bytes steps e) (s : ℕ) 
       pub deep-small : (most : ℕ) → most ≡ max (ra .deep) (rb .deep) → most ≤ 2 * length steps
       deep-small most hm =
           let o = operands bytes steps e w s hs h in
-          omega (arith, hm, left-deep, right-deep, few-at p (o .a), few-at (p + 1) (o .b), both-length bytes steps e w s hs h, length-append (w .before) (symbolsOf (o .a)), w .fits)
+          omega (
+            arith,
+            hm,
+            left-deep,
+            right-deep,
+            few-at p (o .a),
+            few-at (p + 1) (o .b),
+            both-length bytes steps e w s hs h,
+            length-append (w .before) (symbolsOf (o .a)),
+            w .fits,
+          )
 
       both-deep : (level : ℕ) → nestingAt level (w .formula) ≡ cond (ltb p level) (max (ra .deep) (rb .deep) + 1) (max (ra .deep) (rb .deep))
       both-deep level =
           let o = operands bytes steps e w s hs h in
           ap (nestingAt level) (o .is) ∙ join-nesting (eqb s 2048) level (o .a) (o .b) ∙ rw (← binding-is, ← left-deep, ← right-deep)
 
-      pub deeper : (level most : ℕ) → most ≡ max (ra .deep) (rb .deep) → p < level → Measured (nestingAt level (w .formula)) (w .before) (record { at = ra .at; deep = most + 1 })
+      pub deeper : (level most : ℕ) → most ≡ max (ra .deep) (rb .deep) → p < level
+          → Measured (nestingAt level (w .formula)) (w .before) (record { at = ra .at; deep = most + 1 })
       deeper level most hm l = record { at = both-at; deep = sym (both-deep level ∙ rw (lt-ltb p level l, ← hm)) }
 
-      pub as-deep : (level most : ℕ) → most ≡ max (ra .deep) (rb .deep) → level ≤ p → Measured (nestingAt level (w .formula)) (w .before) (record { at = ra .at; deep = most })
+      pub as-deep : (level most : ℕ) → most ≡ max (ra .deep) (rb .deep) → level ≤ p
+          → Measured (nestingAt level (w .formula)) (w .before) (record { at = ra .at; deep = most })
       as-deep level most hm l = record { at = both-at; deep = sym (both-deep level ∙ rw (le-ltb p level l, ← hm)) }
 
 -- ---- the text
@@ -208,7 +223,8 @@ module _ (bytes steps : List ℕ) (e level n : ℕ) (w : Room bytes steps e leve
       unfolding right
       right-room = record { ready = right bytes steps e (w .ready) s hs h; stand = w .stand; room = omega (arith, total, q1 .place) }
 
-      module _ (rb : Place) (m2 : List ℕ) (qb : (v : Room bytes steps (e - 1) (p + 1) m) → Wrote (textAt (p + 1) (v .ready .formula)) (v .ready .before) m m1 rb m2) where
+      module _ (rb : Place) (m2 : List ℕ)
+          (qb : (v : Room bytes steps (e - 1) (p + 1) m) → Wrote (textAt (p + 1) (v .ready .formula)) (v .ready .before) m m1 rb m2) where
         wrote-right : Wrote (textAt (p + 1) snd) (w .ready .before ++ symbolsOf fst) m m1 rb m2
         unfolding right-room right
         wrote-right = qb right-room
@@ -229,24 +245,26 @@ module _ (bytes steps : List ℕ) (e level n : ℕ) (w : Room bytes steps e leve
                 room = omega (arith, total, q1 .place, wrote-right .piece .place, q3 .place, four-long);
               }
 
-          module _ (ra : Place) (m4 : List ℕ) (qa : (v : Room bytes steps (rb .at) p k) → Wrote (textAt p (v .ready .formula)) (v .ready .before) k m3 ra m4) where
-            wrote-left : Wrote (textAt p fst) (w .ready .before) k m3 ra m4
-            unfolding left-room left
-            wrote-left = qa left-room
+          module _ (ra : Place) (m4 : List ℕ) (qa : (v : Room bytes steps (rb .at) p k) → Wrote (textAt p (v .ready .formula)) (v .ready .before) k m3 ra m4)
+            where
+              wrote-left : Wrote (textAt p fst) (w .ready .before) k m3 ra m4
+              unfolding left-room left
+              wrote-left = qa left-room
 
-            pub opening-room : length (opening p level) ≤ ra .n
-            opening-room = omega (arith, total, q1 .place, wrote-right .piece .place, q3 .place, four-long, wrote-left .piece .place)
+              pub opening-room : length (opening p level) ≤ ra .n
+              opening-room = omega (arith, total, q1 .place, wrote-right .piece .place, q3 .place, four-long, wrote-left .piece .place)
 
-            pub both-wrote : (r : ℕ) (now : List ℕ) → Piece (opening p level) (ra .n) m4 r now
-                → Wrote (textAt level (w .ready .formula)) (w .ready .before) n out (record { at = ra .at; n = r }) now
-            both-wrote r now q =
-                let b = before (textAt (p + 1) snd) (closing p level) n m (rb .n) out m1 m2 q1 (wrote-right .piece) in
-                let c = before (connectiveText p) (textAt (p + 1) snd ++ closing p level) n (rb .n) k out m2 m3 b q3 in
-                let a = before (textAt p fst) (connectiveText p ++ (textAt (p + 1) snd ++ closing p level)) n k (ra .n) out m3 m4 c (wrote-left .piece) in
-                record {
-                  at = wrote-left .at;
-                  piece = rw text-both (before (opening p level) (textAt p fst ++ (connectiveText p ++ (textAt (p + 1) snd ++ closing p level))) n (ra .n) r out m4 now a q);
-                }
+              pub both-wrote : (r : ℕ) (now : List ℕ) → Piece (opening p level) (ra .n) m4 r now
+                  → Wrote (textAt level (w .ready .formula)) (w .ready .before) n out (record { at = ra .at; n = r }) now
+              both-wrote r now q =
+                  let b = before (textAt (p + 1) snd) (closing p level) n m (rb .n) out m1 m2 q1 (wrote-right .piece) in
+                  let c = before (connectiveText p) (textAt (p + 1) snd ++ closing p level) n (rb .n) k out m2 m3 b q3 in
+                  let a = before (textAt p fst) (connectiveText p ++ (textAt (p + 1) snd ++ closing p level)) n k (ra .n) out m3 m4 c (wrote-left .piece) in
+                  record {
+                    at = wrote-left .at;
+                    piece = rw text-both
+                        (before (opening p level) (textAt p fst ++ (connectiveText p ++ (textAt (p + 1) snd ++ closing p level))) n (ra .n) r out m4 now a q);
+                  }
 
 -- ---- a whole equation
 

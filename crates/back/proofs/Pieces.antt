@@ -141,16 +141,19 @@ quote-end s n start out i k p h = let z : i ≡ 0 = omega arith in rw z at (p .p
 
 -- a number v read from bytes, with width w where t would be taken
 module _ (id w v m t : ℕ) (hv : v ≡ m) (ht : t ≡ widthOf id v) where
-  pub sized-piece : (w ≡ t → ⊥) → (n k j r : ℕ) (out m1 m2 now : List ℕ) → Piece ((48 + w) ∷ []) n out k m1 → Piece (58 ∷ []) k m1 j m2 → Piece (decimalOf v) j m2 r now
+  pub sized-piece : (w ≡ t → ⊥) → (n k j r : ℕ) (out m1 m2 now : List ℕ) → Piece ((48 + w) ∷ []) n out k m1 → Piece (58 ∷ []) k m1 j m2
+      → Piece (decimalOf v) j m2 r now
       → Piece (constantText (numberFor id w m)) n out r now
   sized-piece h n k j r out m1 m2 now p q x =
-      rw (parts.number-sized id w v m t hv ht h) (before (decimalOf v) (58 ∷ (48 + w) ∷ []) n j r out m2 now (before (58 ∷ []) ((48 + w) ∷ []) n k j out m1 m2 p q) x)
+      rw (parts.number-sized id w v m t hv ht h)
+      (before (decimalOf v) (58 ∷ (48 + w) ∷ []) n j r out m2 now (before (58 ∷ []) ((48 + w) ∷ []) n k j out m1 m2 p q) x)
 
 -- ---- items
 
 module _ (id : ℕ) (r : Row) (e : r ≡ rowOf id) where
   pub coded-piece : id < 65536 → r .size ≡ 0 → (n k j i : ℕ) (out m1 m2 now : List ℕ)
-      → Piece (hexDigit (id % 256 / 16) ∷ hexDigit (id % 256 % 16) ∷ []) n out k m1 → Piece (hexDigit (id / 256 / 16) ∷ hexDigit (id / 256 % 16) ∷ []) k m1 j m2 → Piece (35 ∷ []) j m2 i now
+      → Piece (hexDigit (id % 256 / 16) ∷ hexDigit (id % 256 % 16) ∷ []) n out k m1 → Piece (hexDigit (id / 256 / 16) ∷ hexDigit (id / 256 % 16) ∷ []) k m1 j m2
+      → Piece (35 ∷ []) j m2 i now
       → Piece (itemText (itemFor id)) n out i now
   coded-piece l h n k j i out m1 m2 now p q x =
       rw (parts.item-coded id r e l h)

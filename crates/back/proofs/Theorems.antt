@@ -61,7 +61,11 @@ unfolding written delivered
 text-told f n m out k o h = by (ltb m n) refl (ltb 16 (nesting f)) refl (ltb 256 n) refl (leb (length (textOf f)) (length out)) refl h
   where
     by : (a : Bool) → ltb m n ≡ a → (b : Bool) → ltb 16 (nesting f) ≡ b → (c : Bool) → ltb 256 n ≡ c → (d : Bool) → leb (length (textOf f)) (length out) ≡ d
-        → cond a (answers answer.Mark out) (cond b (answers answer.Deeper out) (cond c (answers answer.Bytes out) (cond d (answers (answer.Text (length (textOf f))) (textOf f ++ drop (length (textOf f)) out)) (answers (answer.Refused 33) out)))) ≡ answers (answer.Text k) o
+        → cond a (answers answer.Mark out)
+        (cond b (answers answer.Deeper out)
+        (cond c (answers answer.Bytes out)
+        (cond d (answers (answer.Text (length (textOf f))) (textOf f ++ drop (length (textOf f)) out)) (answers (answer.Refused 33) out))))
+        ≡ answers (answer.Text k) o
         → Delivered f n m out k o
     by true ea b eb c ec d ed z = absurd (omega (arith, ap kind z))
     by false ea true eb c ec d ed z = absurd (omega (arith, ap kind z))
@@ -84,7 +88,11 @@ unfolding written delivered
 deeper-told f n m out o h = by (ltb m n) (ltb 16 (nesting f)) refl (ltb 256 n) (leb (length (textOf f)) (length out)) h
   where
     by : (a b : Bool) → ltb 16 (nesting f) ≡ b → (c d : Bool)
-        → cond a (answers answer.Mark out) (cond b (answers answer.Deeper out) (cond c (answers answer.Bytes out) (cond d (answers (answer.Text (length (textOf f))) (textOf f ++ drop (length (textOf f)) out)) (answers (answer.Refused 33) out)))) ≡ answers answer.Deeper o
+        → cond a (answers answer.Mark out)
+        (cond b (answers answer.Deeper out)
+        (cond c (answers answer.Bytes out)
+        (cond d (answers (answer.Text (length (textOf f))) (textOf f ++ drop (length (textOf f)) out)) (answers (answer.Refused 33) out))))
+        ≡ answers answer.Deeper o
         → 16 < nesting f
     by true b eb c d z = absurd (omega (arith, ap kind z))
     by false true eb c d z = ltb-true 16 (nesting f) eb
@@ -97,7 +105,11 @@ unfolding written delivered
 mark-told f n m out o h = by (ltb m n) refl (ltb 16 (nesting f)) (ltb 256 n) (leb (length (textOf f)) (length out)) h
   where
     by : (a : Bool) → ltb m n ≡ a → (b c d : Bool)
-        → cond a (answers answer.Mark out) (cond b (answers answer.Deeper out) (cond c (answers answer.Bytes out) (cond d (answers (answer.Text (length (textOf f))) (textOf f ++ drop (length (textOf f)) out)) (answers (answer.Refused 33) out)))) ≡ answers answer.Mark o
+        → cond a (answers answer.Mark out)
+        (cond b (answers answer.Deeper out)
+        (cond c (answers answer.Bytes out)
+        (cond d (answers (answer.Text (length (textOf f))) (textOf f ++ drop (length (textOf f)) out)) (answers (answer.Refused 33) out))))
+        ≡ answers answer.Mark o
         → m < n
     by true ea b c d z = ltb-true m n ea
     by false ea true c d z = absurd (omega (arith, ap kind z))
@@ -111,11 +123,13 @@ record Parsed (bytes out : List ℕ) (a : Answers) : Type 0 where
   parsed : parse bytes ≡ some tree
   gives : written (formulaOf tree) (length bytes) (length (unmarked bytes)) out ≡ a
 
-answer-parsed : (bytes out : List ℕ) (a : Answer) (o : List ℕ) → ((n : ℕ) → a ≡ answer.Refused n → ⊥) → writtenOf bytes out ≡ answers a o → Parsed bytes out (answers a o)
+answer-parsed : (bytes out : List ℕ) (a : Answer) (o : List ℕ) → ((n : ℕ) → a ≡ answer.Refused n → ⊥) → writtenOf bytes out ≡ answers a o
+    → Parsed bytes out (answers a o)
 unfolding writtenOf writtenBy
 answer-parsed bytes out a o n h = by (ltb 2047 (length bytes)) (parse bytes) refl h
   where
-    by : (x : Bool) (t : Option Tree) → parse bytes ≡ t → cond x (answers (answer.Refused 33) out) (writtenBy t (length bytes) (length (unmarked bytes)) out) ≡ answers a o → Parsed bytes out (answers a o)
+    by : (x : Bool) (t : Option Tree) → parse bytes ≡ t → cond x (answers (answer.Refused 33) out) (writtenBy t (length bytes) (length (unmarked bytes)) out)
+        ≡ answers a o → Parsed bytes out (answers a o)
     by true t p z = absurd (n 33 (sym (ap (λ (r : Answers). r .answer) z)))
     by false none p z = absurd (n 8 (sym (ap (λ (r : Answers). r .answer) (unfold writtenBy in z))))
     by false (some t) p z = record { tree = t; parsed = p; gives = unfold writtenBy in z }
@@ -157,7 +171,8 @@ module _ (bytes : List ℕ) (small : Bytes bytes) (out : List ℕ) where
     pub fewest-brackets : (text : List ℕ) (t : TurnsInto text bytes) → pairsOf (reads-back .reads) ≤ pairsOf (t .reads)
     unfolding reads-back moved
     fewest-brackets text t =
-        fewest text (t .formula) (t .reads) the-formula (parsed-means bytes small (the-tree .tree) (the-tree .parsed) text (t .formula) (t .reads) (t .bytes-are)) whole (told .nested)
+        fewest text (t .formula) (t .reads) the-formula
+        (parsed-means bytes small (the-tree .tree) (the-tree .parsed) text (t .formula) (t .reads) (t .bytes-are)) whole (told .nested)
 
     -- output beyond the text is untouched
     pub beyond : drop k o ≡ drop k out
@@ -168,11 +183,22 @@ module _ (bytes : List ℕ) (small : Bytes bytes) (out : List ℕ) where
   deeper-none o h text t =
       let p = answer-parsed bytes out answer.Deeper o (λ n z. omega (arith, ap (λ (a : Answer). kind (answers a [])) z)) h in
       let e = parsed-means bytes small (p .tree) (p .parsed) text (t .formula) (t .reads) (t .bytes-are) in
-      omega (arith, deeper-told (formulaOf (p .tree)) (length bytes) (length (unmarked bytes)) out o (p .gives), flattest text (t .formula) (t .reads) (formulaOf (p .tree)) e, t .reads .nested)
+      omega (
+        arith,
+        deeper-told (formulaOf (p .tree)) (length bytes) (length (unmarked bytes)) out o (p .gives),
+        flattest text (t .formula) (t .reads) (formulaOf (p .tree)) e,
+        t .reads .nested,
+      )
 
   -- an end mark: no text of the grammar turns into these bytes either
   pub mark-none : (o : List ℕ) → writtenOf bytes out ≡ answers answer.Mark o → (text : List ℕ) → TurnsInto text bytes → ⊥
   mark-none o h text t =
       let p = answer-parsed bytes out answer.Mark o (λ n z. omega (arith, ap (λ (a : Answer). kind (answers a [])) z)) h in
       let e = parsed-means bytes small (p .tree) (p .parsed) text (t .formula) (t .reads) (t .bytes-are) in
-      omega (arith, mark-told (formulaOf (p .tree)) (length bytes) (length (unmarked bytes)) out o (p .gives), ap length (parsed-bytes bytes small (p .tree) (p .parsed)), ap (λ (f : Formula). length (postfix f)) e, ap length (t .bytes-are))
+      omega (
+        arith,
+        mark-told (formulaOf (p .tree)) (length bytes) (length (unmarked bytes)) out o (p .gives),
+        ap length (parsed-bytes bytes small (p .tree) (p .parsed)),
+        ap (λ (f : Formula). length (postfix f)) e,
+        ap length (t .bytes-are),
+      )

@@ -9,9 +9,9 @@ use lib.ListN.{length, take}
 use lib.Seq.{sets}
 use Rattle.equation.specs.Symbols.{Symbol}
 use Rattle.equation.specs.Parsed.{symbolsBy}
-use Rattle.grammar.specs.Formula.{Formula}
+use Rattle.grammar.specs.Formula.{Formula, symbolsOf}
 use Rattle.writing.specs.Text.{textOf}
-use Rattle.writing.specs.Places.{symbolsOf, textAt, AllStand}
+use Rattle.writing.specs.Places.{textAt, AllStand}
 use Rattle.back.specs.declared.Place.{Place}
 use Rattle.back.specs.declared.Nesting.{Nesting}
 

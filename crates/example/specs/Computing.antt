@@ -78,5 +78,5 @@ unfolding
     script-calling.callOf script-calling.heardOf script-calling.stillOf script-day.beginOf script-day.printsOf script-day.answeredOf script-day.turnOf
     script-day.stepOf script-day.stepBehind script-doing.restsOf script-doing.sessionOf script-doing.goesOn script-doing.heardOn script-doing.pumpedOn
     script-doing.afterOf script-line.lineOf script-printing.lineFor script-printing.showOf script-sheet.firstLine script-sheet.byCommand
-    script-sheet.byFirst script-sheet.linesFrom script-sheet.sheetOf
+    input-input.byFirst script-sheet.linesFrom script-sheet.sheetOf
 computing = 0

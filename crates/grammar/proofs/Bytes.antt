@@ -1,22 +1,22 @@
 -- The bytes of what a text means: the evaluator (crates/equation) parses them as the same formula, so it never refuses them by 8, and finds the text's
 -- truth on every file. Assumes nothing.
-use mathlib.Core.Path.{_≡_, refl, sym, ap, subst, _∙_}
-use mathlib.Core.Bool.{Bool, true, false, _&&_, _||_, cond}
+use mathlib.Core.Path.{_≡_, refl, ap, _∙_}
+use mathlib.Core.Bool.{Bool, true, false, cond}
 use mathlib.Core.List.{List, [], _∷_, _++_, map, append-assoc, append-nil}
-use mathlib.Core.Option.{Option, none, some}
-use Prim.Native.Nat.{ℕ, zero, suc, _+_, _-_, _*_, _/_, _%_, _≤_, _<_, max}
+use mathlib.Core.Option.{some}
+use Prim.Native.Nat.{ℕ, suc, _+_, _-_, _*_, _/_, _%_, _≤_, _<_, max}
 use native.Mathlib.Omega.{arith}
-use lib.Dec.{ltb, leb, eqb}
-use lib.ListN.{length, take, drop, length-append}
+use lib.Dec.{ltb, eqb}
+use lib.ListN.{length, take, length-append}
 use lib.Seq.{take-at}
-use borrow.Author.Tests.{ltb-true, leb-true, lt-ltb, le-ltb, le-leb, eqb-true}
+use borrow.Author.Tests.{ltb-true, lt-ltb, le-ltb, le-leb, eqb-true}
 use Rattle.names.specs.Kinds.{hexOf, isHexDigit, every}
-use Rattle.numbers.specs.Numbers.{two, four}
+use Rattle.numbers.specs.Numbers.{four}
 use Rattle.text.specs.Match.{lower}
 use Rattle.lines.specs.Numerals.{valueFrom}
 use Rattle.lines.specs.Commands.{same}
 use Rattle.header.specs.Items.{Field, fieldsOf}
-use Rattle.equation.specs.Relation.{operatorOf, kindOf, width}
+use Rattle.equation.specs.Relation.{width}
 use Rattle.equation.specs.Holds.{Relation, holds}
 use Rattle.equation.specs.Symbols.{starsIn, goodText, goodNumber, good, connectiveOf, relationAt, tokenOf, Symbol, follow, symbolsPast, symbols}
 use Rattle.equation.specs.Symbols as symbol
@@ -27,11 +27,11 @@ use Rattle.equation.specs.declared.evaluation.Truth.the-variants.{No, Yes}
 use Rattle.equation.specs.declared.tokens.Token.{Token}
 use Rattle.equation.specs.declared.tokens.Token.the-variants.{Rel}
 use Rattle.equation.proofs.Trees.{valid, answer-truth}
-use Rattle.names.specs.Names.{Named, items, small, idIn, idNamed, widthIn, usualWidth}
-use Rattle.grammar.specs.Formula.{Formula, relation, both, either, relationBytes, postfix, trueOn, relationsIn, treeFrom}
+use Rattle.names.specs.Names.{Named, items, small, idIn, widthIn, usualWidth}
+use Rattle.grammar.specs.Formula.{Formula, relation, both, either, relationBytes, postfix, symbolsOf, trueOn, relationsIn, treeFrom}
 use Rattle.grammar.specs.Meaning.{operatorNumber, isEquality, leastWidth, widthOf, isWidth, numberRelation, textRelation}
 use Rattle.grammar.specs.Grammar as grammar
-use Rattle.grammar.specs.Grammar.{Item, Stands, Character, charactersBytes, Constant, Characters, GoodConstant, meant, Written, relationOf, GoodWritten}
+use Rattle.grammar.specs.Grammar.{Item, Stands, charactersBytes, Constant, GoodConstant, meant, Written, relationOf, GoodWritten}
 use Rattle.grammar.specs.Grammar.{Sum, product, plus, Product, factor, times, Factor, bracket, formulaS, formulaP, formulaF, GoodS, GoodP, GoodF, Reads}
 use Rattle.grammar.specs.declared.Comparison.{Comparison}
 use Rattle.grammar.specs.declared.Comparison.the-variants.{Equal, Greater, Less, NotEqual, GreaterOrEqual, LessOrEqual}
@@ -50,11 +50,6 @@ AllFit (both a b) = AllFit a × AllFit b
 AllFit (either a b) = AllFit a × AllFit b
 
 -- ---- symbols
-
-symbolsOf : Formula → List Symbol
-symbolsOf (relation r) = symbol.rel r ∷ []
-symbolsOf (both a b) = symbolsOf a ++ (symbolsOf b ++ symbol.and ∷ [])
-symbolsOf (either a b) = symbolsOf a ++ (symbolsOf b ++ symbol.or ∷ [])
 
 skip : (xs bs : List ℕ) → symbolsPast (length xs) (xs ++ bs) ≡ symbols bs
 unfolding symbolsPast
@@ -87,7 +82,8 @@ module _ (r : Relation) (f : Fit r) (bs : List ℕ) where
   relation-symbols : symbols (relationBytes r ++ bs) ≡ symbol.rel r ∷ symbols bs
   unfolding relationBytes follow
   relation-symbols =
-      first (r .code) (r .id % 256 ∷ r .id / 256 % 256 ∷ length (r .constant) ∷ (r .constant ++ bs)) (Rel (r .code) (r .id) (length (r .constant))) relation-token
+      first (r .code) (r .id % 256 ∷ r .id / 256 % 256 ∷ length (r .constant) ∷ (r .constant ++ bs)) (Rel (r .code) (r .id) (length (r .constant)))
+      relation-token
       ∙ rw (
         past-three (r .id % 256) (r .id / 256 % 256) (length (r .constant)) (length (r .constant)) (r .constant ++ bs),
         skip (r .constant) bs,
@@ -102,15 +98,17 @@ or-symbols : (bs : List ℕ) → symbols (2 ∷ bs) ≡ symbol.or ∷ symbols bs
 unfolding symbolsPast follow tokenOf connectiveOf
 or-symbols bs = refl
 
-postfix-symbols : (f : Formula) (bs : List ℕ) → AllFit f → symbols (postfix f ++ bs) ≡ symbolsOf f ++ symbols bs
+pub postfix-then : (f : Formula) (bs : List ℕ) → AllFit f → symbols (postfix f ++ bs) ≡ symbolsOf f ++ symbols bs
 unfolding postfix symbolsOf AllFit
-postfix-symbols (relation r) bs h = relation-symbols r h bs
-postfix-symbols (both a b) bs h =
+postfix-then (relation r) bs h = relation-symbols r h bs
+postfix-then (both a b) bs h =
     simp append-assoc
-    (postfix-symbols a (postfix b ++ 1 ∷ bs) (h .0) ∙ ap (λ (l : List Symbol). symbolsOf a ++ l) (postfix-symbols b (1 ∷ bs) (h .1) ∙ ap (λ (l : List Symbol). symbolsOf b ++ l) (and-symbols bs)))
-postfix-symbols (either a b) bs h =
+    (postfix-then a (postfix b ++ 1 ∷ bs) (h .0)
+    ∙ ap (λ (l : List Symbol). symbolsOf a ++ l) (postfix-then b (1 ∷ bs) (h .1) ∙ ap (λ (l : List Symbol). symbolsOf b ++ l) (and-symbols bs)))
+postfix-then (either a b) bs h =
     simp append-assoc
-    (postfix-symbols a (postfix b ++ 2 ∷ bs) (h .0) ∙ ap (λ (l : List Symbol). symbolsOf a ++ l) (postfix-symbols b (2 ∷ bs) (h .1) ∙ ap (λ (l : List Symbol). symbolsOf b ++ l) (or-symbols bs)))
+    (postfix-then a (postfix b ++ 2 ∷ bs) (h .0)
+    ∙ ap (λ (l : List Symbol). symbolsOf a ++ l) (postfix-then b (2 ∷ bs) (h .1) ∙ ap (λ (l : List Symbol). symbolsOf b ++ l) (or-symbols bs)))
 
 -- ---- the run
 
@@ -141,12 +139,13 @@ few-relations : (f : Formula) → 4 * relationsIn f ≤ length (postfix f)
 unfolding relationsIn postfix relationBytes
 few-relations (relation r) = omega arith
 few-relations (both a b) = omega (arith, few-relations a, few-relations b, length-append (postfix a) (postfix b ++ 1 ∷ []), length-append (postfix b) (1 ∷ []))
-few-relations (either a b) = omega (arith, few-relations a, few-relations b, length-append (postfix a) (postfix b ++ 2 ∷ []), length-append (postfix b) (2 ∷ []))
+few-relations (either a b) =
+    omega (arith, few-relations a, few-relations b, length-append (postfix a) (postfix b ++ 2 ∷ []), length-append (postfix b) (2 ∷ []))
 
 pub parsed : (f : Formula) → AllFit f → length (postfix f) ≤ 256 → parse (postfix f) ≡ some (treeFrom 0 f)
 unfolding parse run result symbolsPast
 parsed f h n =
-    let s : symbols (postfix f) ≡ symbolsOf f ++ [] = rw append-nil at (postfix-symbols f [] h) in
+    let s : symbols (postfix f) ≡ symbolsOf f ++ [] = rw append-nil at (postfix-then f [] h) in
     rw s (run-formula f 0 [] [] (omega (arith, few-relations f)))
 
 -- ---- trees and formulas
@@ -235,13 +234,16 @@ least-good v = by (ltb v 256) (ltb v 65536)
 
 max-good : (a b : ℕ) → width a ≡ true → width b ≡ true → width (max a b) ≡ true
 max-good a b h i =
-    width-cases a h (λ a. width (max a b) ≡ true) (width-cases b i (λ b. width (max 1 b) ≡ true) (unfold width in refl) (unfold width in refl) (unfold width in refl))
+    width-cases a h (λ a. width (max a b) ≡ true)
+    (width-cases b i (λ b. width (max 1 b) ≡ true) (unfold width in refl) (unfold width in refl) (unfold width in refl))
     (width-cases b i (λ b. width (max 2 b) ≡ true) (unfold width in refl) (unfold width in refl) (unfold width in refl))
     (width-cases b i (λ b. width (max 4 b) ≡ true) (unfold width in refl) (unfold width in refl) (unfold width in refl))
 
 number-good : (c : Comparison) (w v : ℕ) → width w ≡ true → good (128 + 16 * operatorNumber c) (take w (four v)) ≡ true
 unfolding good goodNumber operatorNumber
-number-good c w v h = width-cases w h (λ w. good (128 + 16 * operatorNumber c) (take w (four v)) ≡ true) (any c 1 (unfold width in refl)) (any c 2 (unfold width in refl)) (any c 4 (unfold width in refl))
+number-good c w v h =
+    width-cases w h (λ w. good (128 + 16 * operatorNumber c) (take w (four v)) ≡ true) (any c 1 (unfold width in refl)) (any c 2 (unfold width in refl))
+    (any c 4 (unfold width in refl))
   where
     any : (c : Comparison) (n : ℕ) → width (length (take n (four v))) ≡ true → good (128 + 16 * operatorNumber c) (take n (four v)) ≡ true
     any Equal n z = z

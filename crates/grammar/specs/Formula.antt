@@ -7,6 +7,7 @@ use lib.ListN.{length}
 use Rattle.numbers.specs.Numbers.{two}
 use Rattle.header.specs.Items.{Field}
 use Rattle.equation.specs.Holds.{Relation, holds}
+use Rattle.equation.specs.Symbols.{Symbol, rel, and, or}
 use Rattle.equation.specs.Tree.{Tree}
 use Rattle.equation.specs.Tree as tree
 
@@ -23,6 +24,12 @@ unfoldable pub postfix : Formula → List ℕ
 postfix (relation r) = relationBytes r
 postfix (both a b) = postfix a ++ (postfix b ++ 1 ∷ [])
 postfix (either a b) = postfix a ++ (postfix b ++ 2 ∷ [])
+
+-- its relations and connectives in that order
+unfoldable pub symbolsOf : Formula → List Symbol
+symbolsOf (relation r) = rel r ∷ []
+symbolsOf (both a b) = symbolsOf a ++ (symbolsOf b ++ and ∷ [])
+symbolsOf (either a b) = symbolsOf a ++ (symbolsOf b ++ or ∷ [])
 
 -- the truth on the items of a header
 unfoldable pub trueOn : List Field → Formula → Bool

@@ -1,3 +1,5 @@
 pub mod PartLaws
 pub mod InputLaws
 pub mod Finding
+pub mod Places
+pub mod Turning

@@ -30,6 +30,13 @@ foundOf n size ended =
 unfoldable pub findOf : List ℕ → Bool → Found
 findOf bytes ended = foundOf (lineLength bytes) (length bytes) ended
 
+-- by what stands first where the input has ended: nothing more, a line that is too long to be read, or a line of n bytes
+unfoldable pub byFirst : Found → List ℕ → List ℕ → (ℕ → List ℕ) → List ℕ
+byFirst found.Part last error go = last
+byFirst (found.Line n) last error go = go n
+byFirst found.TooLong last error go = error
+byFirst found.Nothing last error go = last
+
 -- ---- moving what is left to the front
 
 pub record Shifted : Type 0 where

@@ -4,28 +4,30 @@ use mathlib.Core.Path.{_≡_, refl, sym, _∙_, ap}
 use mathlib.Core.Bool.{true, false}
 use mathlib.Core.List.{List, [], _++_, append-assoc, append-nil}
 use Prim.Native.Nat.{ℕ, _+_, _-_, _^_, _≤_, _<_}
-use lib.ListN.{length, take, drop, length-append, length-drop, take-append-drop}
-use lib.Seq.{length-take-le, take-at}
+use lib.ListN.{length, take}
 use Rattle.blocks.specs.FreeMap.{freeCount}
 use Rattle.blocks.specs.Owners.{heldCount}
 use Rattle.history.specs.Calls.{Start}
 use Rattle.server.specs.State.{Lent}
-use Rattle.lines.specs.Lines.{printed, errorLine}
+use Rattle.lines.specs.Lines.{errorLine}
 use Rattle.lines.proofs.LineLaws.{error-most, blocks-most}
 use Rattle.input.specs.declared.Found.the-variants as found
+use Rattle.input.specs.Parts.{wrapped}
 use Rattle.input.specs.Input.{findOf}
+use Rattle.input.specs.Turns.{Front}
 use Rattle.input.proofs.Finding.{find-long, find-nothing, nothing-found}
+use Rattle.input.proofs.Places.{wrapped-same, line-behind}
+use Rattle.input.proofs.Places as places
 use Rattle.script.specs.Doing.{restsOf}
 use Rattle.script.specs.Sheet.{firstLine, lastLine, Counted, errorThenLast, sheetOf}
-use Rattle.script.proofs.Room.{printed-all}
 use Rattle.script.proofs.SheetLaws.{lines-none, lines-long}
 use Rattle.passday.specs.declared.pass.Pass.{Pass}
 use Rattle.passday.specs.declared.pass.Stage.{Stage}
 use Rattle.passday.specs.declared.pass.Stage.the-variants as stage
-use Rattle.passday.specs.Pass.{Memory, memory, Passing, passing, overOf, leastOf, wrapped, unread, Put, putAt, putOf, errorPut, lastOf, errorOf}
+use Rattle.passday.specs.Pass.{Memory, memory, Passing, passing, overOf, unread, Put, putOf, errorPut, lastOf, errorOf}
 use Rattle.passday.specs.Pass.{waitingText, flushedOf, writtenStage}
-use Rattle.passday.specs.Run.{MayFollow, Front, PrintsSheet}
-use Rattle.passday.proofs.Holding.{least-first, wrapped-same, remaining, Holds, front-then, few-lines, as-lines}
+use Rattle.passday.specs.Run.{MayFollow, PrintsSheet}
+use Rattle.passday.proofs.Holding.{remaining, Holds, few-lines, as-lines}
 
 -- what was written and what waits is all of the sheet
 abbrev pub Ends : Start → List ℕ → List ℕ → Pass → List ℕ → Type 0
@@ -44,49 +46,12 @@ record PutBehind (p : Pass) (line text : List ℕ) (w : Put) : Type 0 where
   filled : w .pass .filled ≡ p .filled + length line
   size : length (w .text) ≡ length text
 
-module _ (s : Stage) (p : Pass) (line text : List ℕ) (fits : p .filled ≤ length text) (room : length line ≤ length text - p .filled)
-    (small : length text < 2 ^ 63) where
-  put-at : (at : ℕ) → at ≡ p .filled
-      → PutBehind p line text (putAt s p at text (printed (length line) (line ++ drop (length line) (drop at text))))
-  put-at at e = record { waits = waits; filled = filled ∙ ap (λ (k : ℕ). k + length line) e; size = size }
-    where
-      back : List ℕ
-      back = line ++ drop (length line) (drop at text)
-
-      filled : wrapped (at + length line) ≡ at + length line
-      filled = wrapped-same (at + length line) (omega (arith, e, fits, room, small))
-
-      size : length (take at text ++ back) ≡ length text
-      size =
-          omega (
-            arith,
-            e,
-            fits,
-            room,
-            length-append (take at text) back,
-            length-take-le at text (omega (arith, e, fits)),
-            length-append line (drop (length line) (drop at text)),
-            length-drop (length line) (drop at text),
-            length-drop at text,
-          )
-
-      waits : take (leastOf (wrapped (at + length line)) (length (take at text ++ back))) (take at text ++ back)
-          ≡ take (leastOf (p .filled) (length text)) text ++ line
-      waits =
-          rw (filled, size, least-first (at + length line) (length text) (omega (arith, e, fits, room)), least-first (p .filled) (length text) fits, ← e)
-          (front-then at (length line) text back (omega (arith, e, fits))
-          ∙ ap (λ (x : List ℕ). take at text ++ x) (take-at line (drop (length line) (drop at text)) (length line) refl))
-
-  put-behind : PutBehind p line text (putOf s line p text)
-  unfolding putOf
-  put-behind =
-      rw (printed-all line (drop (leastOf (p .filled) (length text)) text) long) (put-at (leastOf (p .filled) (length text)) at)
-    where
-      at : leastOf (p .filled) (length text) ≡ p .filled
-      at = least-first (p .filled) (length text) fits
-
-      long : length line ≤ length (drop (leastOf (p .filled) (length text)) text)
-      long = omega (arith, room, at, length-drop (leastOf (p .filled) (length text)) text)
+put-behind : (s : Stage) (p : Pass) (line text : List ℕ) → p .filled ≤ length text → length line ≤ length text - p .filled → length text < 2 ^ 63
+    → PutBehind p line text (putOf s line p text)
+unfolding putOf
+put-behind s p line text fits room small =
+    let b = line-behind (p .filled) line text fits room small in
+    record { waits = b .waits; filled = b .end; size = b .size }
 
 -- ---- the last lines
 
@@ -178,18 +143,12 @@ module _ (s : Start) (read wrote : List ℕ) (p : Pass) (m : Memory) (h : Holds 
 front-of : (wrote waits more whole : List ℕ) (n : ℕ) → whole ≡ firstLine ++ (wrote ++ (waits ++ more))
     → Front (firstLine ++ (wrote ++ take n waits)) whole
 front-of wrote waits more whole n e =
-    record {
-      back = drop n waits ++ more;
-      is = append-assoc firstLine (wrote ++ take n waits) (drop n waits ++ more)
-          ∙ ap (λ (x : List ℕ). firstLine ++ x)
-          (append-assoc wrote (take n waits) (drop n waits ++ more)
-          ∙ ap (λ (x : List ℕ). wrote ++ x)
-          (sym (append-assoc (take n waits) (drop n waits) more) ∙ ap (λ (x : List ℕ). x ++ more) (take-append-drop n waits)))
-          ∙ sym e;
-    }
+    rw (append-assoc firstLine wrote (take n waits)) at
+    (places.front-of (firstLine ++ wrote) waits more whole n (e ∙ sym (append-assoc firstLine wrote (waits ++ more))))
 
 front-none : (wrote waits more whole : List ℕ) → whole ≡ firstLine ++ (wrote ++ (waits ++ more)) → Front (firstLine ++ wrote) whole
-front-none wrote waits more whole e = rw (append-nil wrote) at (front-of wrote waits more whole 0 e)
+front-none wrote waits more whole e =
+    places.front-none (firstLine ++ wrote) waits more whole (e ∙ sym (append-assoc firstLine wrote (waits ++ more)))
 
 not-done : (p : Pass) → flushedOf false p .stage ≡ stage.Done → ⊥
 unfolding flushedOf

@@ -2,15 +2,15 @@
 -- turn keeps it. Assumes nothing.
 use native.Mathlib.Omega.{arith}
 use mathlib.Core.Path.{_≡_, refl, sym, _∙_, ap}
-use mathlib.Core.Bool.{Bool, true, false, cond}
+use mathlib.Core.Bool.{true, false}
 use mathlib.Core.List.{List, [], _++_, append-assoc}
 use Prim.Native.Nat.{ℕ, _+_, _-_, _^_, _≤_, _<_}
-use lib.Dec.{ltb}
 use lib.ListN.{length, take, drop, length-append, length-drop}
-use lib.Seq.{length-take-le, take-append-add}
-use borrow.Author.Tests.{ltb-false, le-ltb}
+use lib.Seq.{length-take-le}
 use Rattle.history.specs.Calls.{Start, made}
 use Rattle.history.specs.Good.{Good}
+use Rattle.input.specs.Parts.{leastOf, wrapped}
+use Rattle.input.proofs.Places.{least-first, wrapped-same, front-then}
 use Rattle.script.specs.declared.doing.Doing.the-variants as doing
 use Rattle.script.specs.Doing.{restsOf, sessionOf}
 use Rattle.script.specs.Day.{dayOf, Stepping, stepOf, stepBehind}
@@ -18,23 +18,8 @@ use Rattle.script.specs.Sheet.{firstLine, linesFrom, sheetOf}
 use Rattle.script.proofs.Agreeing.{good-step, step-session}
 use Rattle.script.proofs.SheetLaws.{toCome, come-rests, come-step, step-text, step-written}
 use Rattle.passday.specs.declared.pass.Pass.{Pass}
-use Rattle.passday.specs.Pass.{Memory, memory, Passing, passing, passOf, newOf, leastOf, wrapped, unread, steppedOf, waitingText, flushedOf}
+use Rattle.passday.specs.Pass.{Memory, memory, Passing, passing, passOf, newOf, unread, steppedOf, waitingText, flushedOf}
 use Rattle.passday.specs.Run.{HasRoom, MayFollow}
-
--- ---- numbers
-
-pub least-first : (a b : ℕ) → a ≤ b → leastOf a b ≡ a
-least-first a b p = go (ltb a b) refl
-  where
-    go : (t : Bool) → ltb a b ≡ t → cond t a b ≡ a
-    go true e = refl
-    go false e = omega (arith, ltb-false a b e)
-
-pub least-second : (a b : ℕ) → b ≤ a → leastOf a b ≡ b
-least-second a b p = rw (le-ltb a b p)
-
-pub wrapped-same : (n : ℕ) → n < 2 ^ 64 → wrapped n ≡ n
-wrapped-same n p = omega arith
 
 -- ---- the invariant
 
@@ -86,11 +71,6 @@ holds-first s m e g r =
     }
 
 -- ---- a step
-
--- what stands behind a front is cut off behind it
-pub front-then : (at w : ℕ) (text more : List ℕ) → at ≤ length text → take (at + w) (take at text ++ more) ≡ take at text ++ take w more
-front-then at w text more p =
-    ap (λ (k : ℕ). take (k + w) (take at text ++ more)) (sym (length-take-le at text p)) ∙ take-append-add (take at text) more w
 
 -- after a step, what it printed standing behind `at` bytes
 abbrev steppedAt : Pass → Memory → ℕ → Stepping → Passing

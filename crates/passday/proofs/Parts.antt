@@ -5,8 +5,7 @@ use mathlib.Core.Bool.{true, false}
 use mathlib.Core.List.{List, _++_}
 use Prim.Native.Nat.{ℕ, _+_, _-_, _≤_}
 use lib.Dec.{eqb}
-use lib.ListN.{length, take, drop, length-append, length-take, length-drop}
-use lib.Seq.{length-take-le}
+use lib.ListN.{length, take, drop}
 use Rattle.blocks.specs.FreeMap.{freeCount}
 use Rattle.blocks.specs.Owners.{heldCount}
 use Rattle.server.specs.State.{Lent, lent}
@@ -15,16 +14,16 @@ use Rattle.lines.specs.declared.commands.Command.the-variants as command
 use Rattle.lines.specs.Commands.{Reads, reads, readOf}
 use Rattle.lines.specs.Lines.{printed, printedIn, errorLine, blocksLine}
 use Rattle.script.specs.declared.Stepped.{Stepped}
-use Rattle.input.specs.Parts.{bytesFrom}
+use Rattle.input.specs.Parts.{bytesFrom, leastOf, wrapped}
 use Rattle.input.specs.Input.{shifted, shiftOf}
 use Rattle.script.specs.Day.{stepping, stepBehind}
 use Rattle.script.specs.Sheet.{lastLine, Counted}
-use Rattle.script.proofs.Behind.{end-part, put-end}
+use Rattle.input.proofs.Places.{end-part, put-end, input-brought}
 use Rattle.passday.specs.declared.pass.Pass.{Pass}
 use Rattle.passday.specs.declared.pass.Stage.{Stage}
 use Rattle.passday.specs.declared.pass.Stage.the-variants as stage
-use Rattle.passday.specs.Pass.{Memory, memory, passing, passOf, leastOf, wrapped, steppedOf, Put, put, putOf, putIn, lastOf, errorOf}
-use Rattle.passday.specs.Pass.{beyond, begunAs, begunOf, keptOf}
+use Rattle.passday.specs.Pass.{Memory, memory, passing, passOf, steppedOf, Put, put, putOf, putIn, lastOf, errorOf}
+use Rattle.passday.specs.Pass.{beyond, begunAs, begunOf}
 use Rattle.passday.specs.Narrow.{readableOf, Filled}
 
 -- ---- a step
@@ -130,17 +129,5 @@ pub input-filled : (p : Pass) (input moved brought whole : List ℕ) (size kept 
     → n ≤ length (take (length whole - kept) (drop kept whole))
     → Filled p input (passOf (p .day) 0 (kept + n) (eqb n 0) (p .lines) (p .filled) (p .stage)) whole
 input-filled p input moved brought whole size kept n e f g h i j =
-    let k : keptOf p input ≡ kept = rw (← e, ← f) (sym (g .1)) in
-    let b : length brought ≡ length moved - kept = h ∙ ap (λ (l : List ℕ). length l) (end-part kept moved) ∙ length-drop kept moved in
-    let w : whole ≡ take kept moved ++ brought = i ∙ put-end kept moved brought in
-    let m : length whole ≡ kept + length brought =
-    ap (λ (l : List ℕ). length l) w ∙ length-append (take kept moved) brought
-    ∙ ap (λ (a : ℕ). a + length brought) (length-take-le kept moved (g .0))
-    in
-    record {
-      n = n;
-      brought = brought;
-      size = omega (arith, k, b, f, g .0);
-      most = omega (arith, j, m, length-take (length whole - kept) (drop kept whole), length-drop kept whole);
-      is = λ l bytes text. rw (k, ← e, w);
-    }
+    let b = input-brought (p .from) (p .end) input moved brought whole size kept n e f g h i j in
+    record { n = n; brought = brought; size = b .size; most = b .most; is = λ l bytes text. rw (b .is, b .front) }

@@ -1,15 +1,11 @@
 -- What holds between two turns of the program (Holding.antt) holds after the next line is begun, and after more input is read. Assumes nothing.
 use native.Mathlib.Omega.{arith}
-use native.Mathlib.Nat.{sub-zero}
-use native.Mathlib.Numerals.{add-one}
 use mathlib.Core.Path.{_≡_, refl, sym, _∙_, ap}
 use mathlib.Core.Bool.{Bool, true, false}
-use mathlib.Core.List.{List, [], _∷_, _++_, append-assoc}
+use mathlib.Core.List.{List, [], _++_, append-assoc}
 use Prim.Native.Nat.{ℕ, _+_, _-_, _^_, _≤_, _<_}
-use lib.Dec.{ltb}
-use lib.ListN.{length, take, drop, length-append, length-drop, drop-of-length-le, take-append-drop}
-use lib.Seq.{length-take-le, take-take, take-append-le, take-append-add, take-append-seam, drop-drop}
-use borrow.Author.Tests.{ltb-true, ltb-false}
+use lib.ListN.{length, take, drop, length-append, take-append-drop}
+use lib.Seq.{length-take-le, take-append-le}
 use Rattle.history.specs.Calls.{Start}
 use Rattle.history.specs.Good.{Good}
 use Rattle.lines.specs.declared.commands.Command.{Command}
@@ -18,63 +14,27 @@ use Rattle.lines.specs.Commands.{commandOf, rxBytes, readOf}
 use Rattle.script.specs.declared.doing.Doing.{Doing}
 use Rattle.script.specs.declared.doing.Doing.the-variants as doing
 use Rattle.input.specs.declared.Found.the-variants as found
-use Rattle.input.specs.Parts.{bytesFrom}
+use Rattle.input.specs.Parts.{bytesFrom, leastOf, wrapped}
 use Rattle.script.specs.Doing.{restsOf}
-use Rattle.input.specs.Input.{findOf, shiftOf}
+use Rattle.input.specs.Input.{findOf}
 use Rattle.script.specs.Day.{beginOf}
 use Rattle.script.specs.Sheet.{firstLine, Counted, sheetOf}
 use Rattle.script.proofs.Reaching.{begin-server}
-use Rattle.script.proofs.Agreeing.{Agree, drop-take}
+use Rattle.script.proofs.Agreeing.{Agree}
 use Rattle.script.proofs.Commands.{begin-session, ReadsLine, reads-line}
 use Rattle.input.proofs.Finding.{LineFound, find-line, find-part}
+use Rattle.input.proofs.Places.{least-most, wrapped-same, part-size, some-taken, line-is, behind-line, refilled-size, refilled-part}
 use Rattle.script.proofs.SheetLaws.{toCome, readable, not-readable, lines-unreadable, lines-begin-in}
 use Rattle.passday.specs.declared.pass.Pass.{Pass}
 use Rattle.passday.specs.declared.pass.Stage.the-variants as stage
-use Rattle.passday.specs.Pass.{Memory, memory, passing, leastOf, wrapped, unread, errorOf, beyond, begunAs, readAt, begunOf, waitingText}
+use Rattle.passday.specs.Pass.{Memory, memory, passing, unread, errorOf, beyond, begunAs, readAt, begunOf, waitingText}
 use Rattle.passday.specs.Pass.{keptOf, filledTo}
 use Rattle.passday.specs.Run.{MayFollow}
-use Rattle.passday.proofs.Holding.{least-first, least-second, wrapped-same, remaining, Holds, few-lines, as-lines}
+use Rattle.passday.proofs.Holding.{remaining, Holds, few-lines, as-lines}
 use Rattle.passday.proofs.Ending.{Standing, going, last, error-stage, ends-error}
 
 clash : false ≡ true → ⊥
 clash e = let z : _≡_ {A = ℕ} 0 1 = cc in omega arith
-
--- ---- parts of the input
-
--- from a later place on
-later-part : (from k end : ℕ) (input : List ℕ) → bytesFrom (from + k) end input ≡ drop k (bytesFrom from end input)
-later-part from k end input =
-    ap (λ (l : List ℕ). take (end - (from + k)) l) (sym (drop-drop k from input))
-    ∙ ap (λ (j : ℕ). take j (drop k (drop from input))) (fewer from k end) ∙ drop-take k (end - from) (drop from input)
-  where
-    fewer : (a b c : ℕ) → c - (a + b) ≡ c - a - b
-    fewer a b c = omega arith
-
-none-from : (k end : ℕ) (input : List ℕ) → end ≡ k → bytesFrom k end input ≡ []
-none-from k end input e = ap (λ (j : ℕ). take j (drop k input)) (zero-of k end e)
-  where
-    zero-of : (a b : ℕ) → b ≡ a → b - a ≡ 0
-    zero-of a b e = omega arith
-
-part-size : (from end : ℕ) (input : List ℕ) → end ≤ length input → length (bytesFrom from end input) ≡ end - from
-part-size from end input p = length-take-le (end - from) (drop from input) (omega (arith, p, length-drop from input))
-
-next-part : (from k end : ℕ) (input : List ℕ) → end ≤ length input → bytesFrom (leastOf (from + k) end) end input ≡ drop k (bytesFrom from end input)
-next-part from k end input p = go (ltb (from + k) end) refl
-  where
-    go : (t : Bool) → ltb (from + k) end ≡ t → bytesFrom (leastOf (from + k) end) end input ≡ drop k (bytesFrom from end input)
-    go true e =
-        ap (λ (j : ℕ). bytesFrom j end input) (least-first (from + k) end (omega (arith, ltb-true (from + k) end e))) ∙ later-part from k end input
-    go false e =
-        let q : end ≤ from + k = ltb-false (from + k) end e in
-        let few : length (bytesFrom from end input) ≤ k = omega (arith, q, part-size from end input p) in
-        none-from (leastOf (from + k) end) end input (sym (least-second (from + k) end q))
-        ∙ sym (drop-of-length-le (bytesFrom from end input) few)
-
--- a line and its newline are at least one byte
-some-taken : (n : ℕ) (u : List ℕ) → 0 < length u → 1 ≤ length (take (n + 1) u)
-some-taken n [] p = absurd (omega (arith, p))
-some-taken n (b ∷ bs) p = rw (add-one n) (omega arith)
 
 -- ---- the next line
 
@@ -120,16 +80,11 @@ module _ (s : Start) (read wrote : List ℕ) (p : Pass) (m : Memory) (h : Holds 
     here : LineFound u [] n
     here = lf [] (λ x. refl)
 
-    to-same : wrapped (p .from + n) ≡ p .from + n
-    to-same = wrapped-same (p .from + n) (omega (arith, here .within, size, h .from, h .end, h .room .input-most))
+    within : n ≤ p .end - p .from
+    within = omega (arith, here .within, size)
 
-    line-is : bytesFrom (p .from) (wrapped (p .from + n)) (m .input) ≡ line
-    line-is =
-        ap (λ (k : ℕ). bytesFrom (p .from) k (m .input)) to-same ∙ ap (λ (k : ℕ). take k (drop (p .from) (m .input))) (back (p .from) n)
-        ∙ sym (take-take n (p .end - p .from) (drop (p .from) (m .input)) (omega (arith, here .within, size)))
-      where
-        back : (a b : ℕ) → a + b - a ≡ b
-        back a b = omega arith
+    is : bytesFrom (p .from) (wrapped (p .from + n)) (m .input) ≡ line
+    is = line-is (p .from) (p .end) n (m .input) (h .end) (h .room .input-most) within (h .from)
 
     reads : ReadsLine (p .day) line (m .bytes) (commandOf line) (readOf line (m .bytes))
     reads =
@@ -139,33 +94,15 @@ module _ (s : Start) (read wrote : List ℕ) (p : Pass) (m : Memory) (h : Holds 
     unfolding begunOf
     begun-is =
         ap (λ (l : List ℕ). begunAs p (wrapped (p .from + n)) (readOf l (m .bytes) .command)
-        (memory (m .lent) (m .input) (readOf l (m .bytes) .bytes) (m .text))) line-is
+        (memory (m .lent) (m .input) (readOf l (m .bytes) .bytes) (m .text))) is
         ∙ ap (λ (c : Command). begunAs p (wrapped (p .from + n)) c (memory (m .lent) (m .input) bytes (m .text))) (reads .command)
 
     -- the command of the line that is read in place
     read-is : readAt p n m .command ≡ commandOf line
-    read-is = ap (λ (l : List ℕ). readOf l (m .bytes) .command) line-is ∙ reads .command
-
-    from-is : leastOf (wrapped (wrapped (p .from + n) + 1)) (p .end) ≡ leastOf (p .from + (n + 1)) (p .end)
-    from-is =
-        ap (λ (k : ℕ). leastOf k (p .end))
-        (ap (λ (k : ℕ). wrapped (k + 1)) to-same
-        ∙ wrapped-same (p .from + n + 1) (omega (arith, here .within, size, h .from, h .end, h .room .input-most))
-        ∙ plus (p .from) n)
-      where
-        plus : (a b : ℕ) → a + b + 1 ≡ a + (b + 1)
-        plus a b = omega arith
-
-    least-most : (a b : ℕ) → leastOf a b ≤ b
-    least-most a b = go (ltb a b) refl
-      where
-        go : (t : Bool) → ltb a b ≡ t → leastOf a b ≤ b
-        go true f = omega (arith, ltb-true a b f, least-first a b (omega (arith, ltb-true a b f)))
-        go false f = omega (arith, least-second a b (ltb-false a b f))
+    read-is = ap (λ (l : List ℕ). readOf l (m .bytes) .command) is ∙ reads .command
 
     unread-is : bytesFrom (leastOf (wrapped (wrapped (p .from + n) + 1)) (p .end)) (p .end) (m .input) ≡ drop (n + 1) u
-    unread-is =
-        ap (λ (k : ℕ). bytesFrom k (p .end) (m .input)) from-is ∙ next-part (p .from) (n + 1) (p .end) (m .input) (h .end)
+    unread-is = behind-line (p .from) (p .end) n (m .input) (h .end) (h .room .input-most) within (h .from)
 
     lines-is : wrapped (p .lines + 1) ≡ p .lines + 1
     lines-is = wrapped-same (p .lines + 1) (few-lines s read wrote p m h small)
@@ -233,20 +170,11 @@ module _ (s : Start) (read wrote : List ℕ) (p : Pass) (m : Memory) (h : Holds 
 
   module _ (e : findOf u (p .ended) ≡ found.Part) (n : ℕ) (brought : List ℕ) (fits : keptOf p (m .input) + length brought ≡ length (m .input))
       (few : n ≤ length brought) where
-    kept-is : keptOf p (m .input) ≡ length u
-    unfolding shiftOf
-    kept-is = least-first (length u) (length (m .input)) (omega (arith, size, h .end))
-
-    front-is : take (keptOf p (m .input)) (shiftOf (p .from) (p .end) (m .input) .input) ≡ u
-    unfolding shiftOf
-    front-is = rw kept-is (take-append-seam u (drop (length u) (m .input)))
-
-    input-size : length (take (keptOf p (m .input)) (shiftOf (p .from) (p .end) (m .input) .input) ++ brought) ≡ length (m .input)
-    input-size = rw front-is (length-append u brought ∙ ap (λ (k : ℕ). k + length brought) (sym kept-is) ∙ fits)
+    input-size : length (filledTo p m n brought .memory .input) ≡ length (m .input)
+    input-size = refilled-size (p .from) (p .end) (m .input) (h .end) n brought fits
 
     unread-more : unread (filledTo p m n brought .pass) (filledTo p m n brought .memory .input) ≡ u ++ take n brought
-    unread-more =
-        rw (front-is, kept-is) (ap (λ (k : ℕ). take k (u ++ brought)) (sub-zero (length u + n)) ∙ take-append-add u brought n)
+    unread-more = refilled-part (p .from) (p .end) (m .input) (h .end) n brought fits
 
     not-ended : (rest : List ℕ) → MayFollow p rest
     not-ended rest f = absurd (clash (sym (find-part u (p .ended) e) ∙ f))

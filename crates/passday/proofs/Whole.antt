@@ -15,8 +15,9 @@ use Rattle.input.specs.declared.Found.the-variants as found
 use Rattle.input.specs.Parts.{restOf}
 use Rattle.script.specs.Doing.{restsOf}
 use Rattle.script.specs.Sheet.{Counted}
-use Rattle.script.proofs.Behind.{rest-all}
 use Rattle.input.specs.Input.{findOf}
+use Rattle.input.specs.Turns.{begun, turned}
+use Rattle.input.proofs.Places.{rest-all}
 use Rattle.passday.specs.declared.pass.Pass.{Pass}
 use Rattle.passday.specs.declared.pass.Stage.{Stage}
 use Rattle.passday.specs.declared.pass.Stage.the-variants as stage
@@ -25,7 +26,7 @@ use Rattle.passday.specs.declared.pass.Next.the-variants as next
 use Rattle.passday.specs.Pass.{Memory, memory, Passing, passing, newOf, overOf, unread, onFound, writesFirst, decideOf, steppedOf, lastOf, errorOf}
 use Rattle.passday.specs.Pass.{readAt, begunOf, waitingText, writtenStage, flushedOf, keptOf, filledTo}
 use Rattle.passday.specs.Pass.{Turn, step, line, last, error, written, broken, filled}
-use Rattle.passday.specs.Run.{Run, begun, turned, HasRoom, EveryRun}
+use Rattle.passday.specs.Run.{Run, HasRoom, EveryRun}
 use Rattle.passday.specs.Whole.{startOf, ProgramPrints}
 use Rattle.passday.proofs.Holding.{Holds, holds-first, holds-step, holds-written}
 use Rattle.passday.proofs.Ending.{Ends, Standing, going, last as lastly, over, stands-last, stands-long, breaks-going, breaks-last, flushes-last}

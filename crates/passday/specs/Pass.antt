@@ -3,7 +3,7 @@
 use mathlib.Core.Path.{_≡_}
 use mathlib.Core.Bool.{Bool, true, false, cond}
 use mathlib.Core.List.{List, [], _++_}
-use Prim.Native.Nat.{ℕ, _+_, _%_, _^_, _≤_}
+use Prim.Native.Nat.{ℕ, _+_, _≤_}
 use lib.Dec.{eqb, ltb}
 use lib.ListN.{length, take, drop}
 use Rattle.server.specs.declared.Server.{Server}
@@ -16,7 +16,8 @@ use Rattle.script.specs.declared.Day.{Day}
 use Rattle.script.specs.declared.doing.Doing.the-variants as doing
 use Rattle.input.specs.declared.Found.{Found}
 use Rattle.input.specs.declared.Found.the-variants as found
-use Rattle.input.specs.Parts.{bytesFrom, restOf}
+use Rattle.input.specs.Parts.{bytesFrom, restOf, leastOf, wrapped}
+use Rattle.input.specs.Turns as turning
 use Rattle.script.specs.Doing.{restsOf}
 use Rattle.input.specs.Input.{findOf, shiftOf}
 use Rattle.script.specs.Day.{dayOf, beginOf, Stepping, stepBehind}
@@ -63,14 +64,6 @@ overOf stage.Broken = true
 
 abbrev pub withStage : Pass → Stage → Pass
 withStage p s = passOf (p .day) (p .from) (p .end) (p .ended) (p .lines) (p .filled) s
-
--- the smaller of two numbers
-abbrev pub leastOf : ℕ → ℕ → ℕ
-leastOf a b = cond (ltb a b) a b
-
--- numbers of the machine
-abbrev pub wrapped : ℕ → ℕ
-wrapped n = n % 2 ^ 64
 
 -- ---- what a turn does
 
@@ -210,8 +203,11 @@ pub data Turn (p : Pass) (m : Memory) : Next → List ℕ → List ℕ → Passi
   filled : (n : ℕ) (brought : List ℕ) → keptOf p (m .input) + length brought ≡ length (m .input) → n ≤ length brought
       → Turn p m next.Fill (take n brought) [] (filledTo p m n brought)
 
--- the turn that is due, with what it read and what it wrote
-pub record Turned (p : Pass) (m : Memory) (after : Passing) : Type 0 where
-  pub read : List ℕ
-  pub wrote : List ℕ
-  pub turn : Turn p m (decideOf p (m .input) (length (m .text))) read wrote after
+-- the turn that is due
+abbrev pub DueTurn : Passing → List ℕ → List ℕ → Passing → Type 0
+DueTurn s read wrote after =
+    Turn (s .pass) (s .memory) (decideOf (s .pass) (s .memory .input) (length (s .memory .text))) read wrote after
+
+-- with what it read and what it wrote
+abbrev pub Turned : Pass → Memory → Passing → Type 0
+Turned p m after = turning.Turned DueTurn (passing p m) after

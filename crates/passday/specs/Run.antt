@@ -1,34 +1,28 @@
--- A run of the program: turns, one after the other, with their number, all that was read and all that was written (document 01, "The script
--- program"). It goes on until the program is over, and what is then written is the sheet of the script that was read (Rattle.script.specs.Sheet).
--- Assumes nothing.
+-- A run of the program: turns, one after the other (document 01, "The script program"). It goes on until
+-- the program is over, and what is then written is the sheet of the script that was read (Rattle.script.specs.Sheet). Assumes nothing.
 use mathlib.Core.Path.{_≡_}
-use mathlib.Core.Bool.{true, false}
-use mathlib.Core.Logic.{_⊎_}
+use mathlib.Core.Bool.{Bool, true}
 use mathlib.Core.List.{List, [], _++_}
-use Prim.Native.Nat.{ℕ, _+_, _≤_, _<_, _^_}
+use Prim.Native.Nat.{ℕ, _≤_, _<_, _^_}
 use lib.ListN.{length}
 use Rattle.history.specs.Calls.{Start, legal, made}
+use Rattle.input.specs.Turns as turning
+use Rattle.input.specs.Turns.{Front}
 use Rattle.script.specs.Sheet.{firstLine, sheetOf}
 use Rattle.passday.specs.declared.pass.Pass.{Pass}
 use Rattle.passday.specs.declared.pass.Stage.the-variants as stage
-use Rattle.passday.specs.Pass.{Memory, Passing, passing, newOf, overOf, decideOf, Turn}
+use Rattle.passday.specs.Pass.{Memory, Passing, passing, newOf, overOf, DueTurn}
 
--- the turns up to now: how many, what was read, what was written, and where the program stands; there is no turn after the last
-pub data Run (p : Pass) (m : Memory) : ℕ → List ℕ → List ℕ → Passing → Type 0 where
-  begun : Run p m 0 [] [] (passing p m)
-  turned : (turns : ℕ) (read wrote more text : List ℕ) (before after : Passing)
-      → Run p m turns read wrote before
-      → overOf (before .pass .stage) ≡ false
-      → Turn (before .pass) (before .memory) (decideOf (before .pass) (before .memory .input) (length (before .memory .text))) more text after
-      → Run p m (turns + 1) (read ++ more) (wrote ++ text) after
+abbrev pub isOver : Passing → Bool
+isOver s = overOf (s .pass .stage)
 
--- what `play` comes to: the program is over, or has made 2^64 - 1 turns, since nothing says that the input ends
-pub record Played (p : Pass) (m : Memory) (after : Passing) : Type 0 where
-  pub turns : ℕ
-  pub read : List ℕ
-  pub wrote : List ℕ
-  pub run : Run p m turns read wrote after
-  pub ends : (overOf (after .pass .stage) ≡ true) ⊎ (turns ≡ 18446744073709551615)
+-- the turns up to now
+abbrev pub Run : Pass → Memory → ℕ → List ℕ → List ℕ → Passing → Type 0
+Run p m turns read wrote after = turning.Run isOver DueTurn (passing p m) turns read wrote after
+
+-- what `play` comes to
+abbrev pub Played : Pass → Memory → Passing → Type 0
+Played p m after = turning.Played isOver DueTurn (passing p m) after
 
 -- ---- the statement
 
@@ -44,11 +38,6 @@ pub record HasRoom (m : Memory) : Type 0 where
 -- what is still to be read: nothing, where the input has ended
 abbrev pub MayFollow : Pass → List ℕ → Type 0
 MayFollow p rest = p .ended ≡ true → rest ≡ []
-
--- one list is the front of another
-pub record Front (front whole : List ℕ) : Type 0 where
-  pub back : List ℕ
-  pub is : front ++ back ≡ whole
 
 pub record PrintsSheet (s : Start) (read wrote : List ℕ) (after : Passing) : Type 0 where
   -- at any time what was written is the front of the sheet, whatever is still to be read

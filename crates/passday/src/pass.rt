@@ -16,10 +16,10 @@ ghost use Prim.Native.Nat.{ℕ, _+_, _-_};
 ghost use Rattle.server.specs.State.{lent};
 ghost use Rattle.lines.specs.declared.commands.Command.the-variants as command;
 ghost use Rattle.lines.specs.Commands.{readOf};
-ghost use Rattle.input.specs.Parts.{bytesFrom};
+ghost use Rattle.input.specs.Parts.{bytesFrom, leastOf, wrapped};
 ghost use Rattle.input.specs.Input.{findOf};
 ghost use Rattle.script.specs.Sheet.{Counted};
-ghost use Rattle.passday.specs.Pass.{memory, passing, passOf, newOf, overOf, withStage, leastOf, wrapped, flushOrFill, onFound, unread};
+ghost use Rattle.passday.specs.Pass.{memory, passing, passOf, newOf, overOf, withStage, flushOrFill, onFound, unread};
 ghost use Rattle.passday.specs.Pass.{writesFirst, decideOf, lastOf, errorOf, beyond, begunOf, writtenStage, Turned};
 ghost use Rattle.passday.specs.Narrow.{readableOf, Flushed, Filled};
 

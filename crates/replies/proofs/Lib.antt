@@ -1,3 +1,4 @@
 pub mod ReplyLaws
 pub mod SaidLaws
 pub mod LineLaws
+pub mod Room

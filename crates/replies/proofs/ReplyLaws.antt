@@ -28,7 +28,8 @@ pub stored : (out now : List ℕ) (n : ℕ) (piece : List ℕ) → n + length pi
 unfolding storedAt
 stored out now n piece h e = e ∙ rw (le-leb (n + length piece) (length out) h)
 
-module _ (out o1 o2 o3 : List ℕ) (xs ys zs : List ℕ) (a b c : ℕ) (ha : a ≡ 0 + length xs) (e1 : o1 ≡ sets out 0 xs) (hb : b ≡ a + length ys) (e2 : o2 ≡ sets o1 a ys)
+module _ (out o1 o2 o3 : List ℕ) (xs ys zs : List ℕ) (a b c : ℕ) (ha : a ≡ 0 + length xs) (e1 : o1 ≡ sets out 0 xs) (hb : b ≡ a + length ys)
+    (e2 : o2 ≡ sets o1 a ys)
     (hc : c ≡ b + length zs) (e3 : o3 ≡ sets o2 b zs) where
   two-pieces : o2 ≡ sets out 0 (xs ++ ys)
   two-pieces = e2 ∙ rw (e1, ha) (joined out 0 xs ys)
@@ -42,7 +43,8 @@ module _ (out o1 o2 o3 : List ℕ) (xs ys zs : List ℕ) (a b c : ℕ) (ha : a �
   pub size : c ≡ length (xs ++ (ys ++ zs))
   size = omega (arith, length-append xs (ys ++ zs), length-append ys zs)
 
-pub five-pieces : (out o1 o2 o3 o4 o5 : List ℕ) (xs ys zs us ws vs : List ℕ) (a b c d e : ℕ) → us ≡ ws → a ≡ 0 + length xs → o1 ≡ sets out 0 xs → b ≡ a + length ys → o2 ≡ sets o1 a ys
+pub five-pieces : (out o1 o2 o3 o4 o5 : List ℕ) (xs ys zs us ws vs : List ℕ) (a b c d e : ℕ) → us ≡ ws → a ≡ 0 + length xs → o1 ≡ sets out 0 xs → b
+    ≡ a + length ys → o2 ≡ sets o1 a ys
     → c ≡ b + length zs → o3 ≡ sets o2 b zs → d ≡ c + length us → o4 ≡ sets o3 c us → e ≡ d + length vs → o5 ≡ sets o4 d vs
     → (e ≡ length (xs ++ (ys ++ (zs ++ (ws ++ vs))))) × (o5 ≡ sets out 0 (xs ++ (ys ++ (zs ++ (ws ++ vs)))))
 five-pieces out o1 o2 o3 o4 o5 xs ys zs us ws vs a b c d e hu ha e1 hb e2 hc e3 hd e4 he e5 =
@@ -107,7 +109,8 @@ module _ (why : Reason) (r : Word) (e : r ≡ wordFor why) where
 pub print-none : (buffer text : List ℕ) (n : ℕ) → n ≤ length buffer → length text < n → printed 0 text ≡ printedIn (take n buffer) text
 print-none buffer text n h i = printed-none (take n buffer) text (omega (arith, length-take-le n buffer h))
 
-pub print-whole : (buffer text now : List ℕ) (n : ℕ) → n ≤ length buffer → n ≤ length text → now ≡ storedAt text 0 (take n buffer) → printed n now ≡ printedIn (take n buffer) text
+pub print-whole : (buffer text now : List ℕ) (n : ℕ) → n ≤ length buffer → n ≤ length text → now ≡ storedAt text 0 (take n buffer) → printed n now
+    ≡ printedIn (take n buffer) text
 print-whole buffer text now n h i e =
     let l : length (take n buffer) ≡ n = length-take-le n buffer h in
     let s : now ≡ sets text 0 (take n buffer) = stored text now 0 (take n buffer) (omega arith) e in
@@ -117,7 +120,8 @@ print-whole buffer text now n h i e =
 pub in-buffer : (buffer line : List ℕ) → length line ≤ length buffer → take (length line) (sets buffer 0 line) ≡ line
 in-buffer buffer line h = rw (sets-eq line buffer 0 (omega arith)) (take-at line (drop (0 + length line) buffer) (length line) refl)
 
-pub print-line : (buffer line now text : List ℕ) (n : ℕ) → n ≡ length line → length line ≤ length buffer → now ≡ sets buffer 0 line → printedIn (take n now) text ≡ printedIn line text
+pub print-line : (buffer line now text : List ℕ) (n : ℕ) → n ≡ length line → length line ≤ length buffer → now ≡ sets buffer 0 line
+    → printedIn (take n now) text ≡ printedIn line text
 print-line buffer line now text n h i e = rw (e, h) (ap (λ (l : List ℕ). printedIn l text) (in-buffer buffer line i))
 
 -- ---- the word in front of a line
@@ -128,7 +132,8 @@ module _ (line word : List ℕ) (i : ℕ) where
   unfolding beginsWith
   begins-more h k e s = s ∙ rw (add-one i, drop-cons word i 0 h, drop-cons line i 0 k, eq-eqb (getD word i 0) (getD line i 0) e)
 
-  pub begins-other : i < length word → i < length line → (getD word i 0 ≡ getD line i 0 → ⊥) → beginsWith word line ≡ beginsWith (drop i word) (drop i line) → false ≡ beginsWith word line
+  pub begins-other : i < length word → i < length line → (getD word i 0 ≡ getD line i 0 → ⊥) → beginsWith word line ≡ beginsWith (drop i word) (drop i line)
+      → false ≡ beginsWith word line
   unfolding beginsWith
   begins-other h k e s = sym (s ∙ rw (drop-cons word i 0 h, drop-cons line i 0 k, ne-eqb (getD word i 0) (getD line i 0) e))
 

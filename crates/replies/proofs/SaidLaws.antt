@@ -46,7 +46,9 @@ unfolding paper.answered paper.delivered saidOf
 by-outcome (accepted f) = rw (length-replicate {A = ℕ} 256 0) (by (leb (length (postfix f)) 256))
   where
     by : (t : Bool)
-        → saidBy (cond t (cond t (paper.answers (answer.Bytes (length (postfix f))) (postfix f ++ drop (length (postfix f)) (replicate 256 0))) (paper.answers (answer.Refused 33) (replicate 256 0))) (paper.answers answer.Long (replicate 256 0)))
+        → saidBy (cond t
+        (cond t (paper.answers (answer.Bytes (length (postfix f))) (postfix f ++ drop (length (postfix f)) (replicate 256 0)))
+        (paper.answers (answer.Refused 33) (replicate 256 0))) (paper.answers answer.Long (replicate 256 0)))
         ≡ cond t (bytesLine (postfix f)) (refusedLine (bytesOf "bytes"))
     by true = ap bytesLine (take-at (postfix f) (drop (length (postfix f)) (replicate 256 0)) (length (postfix f)) refl)
     by false = refl
@@ -96,7 +98,9 @@ written-fits out (some t) n m =
     (λ b. by-cond out (ltb 256 n) _ _ (omega arith) (λ c. by (leb (length (textOf (formulaOf t))) (length out)) refl)))
   where
     by : (s : Bool) → leb (length (textOf (formulaOf t))) (length out) ≡ s
-        → Fits out (cond s (back.answers (written.Text (length (textOf (formulaOf t)))) (textOf (formulaOf t) ++ drop (length (textOf (formulaOf t))) out)) (back.answers (written.Refused 33) out))
+        → Fits out
+        (cond s (back.answers (written.Text (length (textOf (formulaOf t)))) (textOf (formulaOf t) ++ drop (length (textOf (formulaOf t))) out))
+        (back.answers (written.Refused 33) out))
     by true e = leb-true (length (textOf (formulaOf t))) (length out) e
     by false e = omega arith
 
@@ -104,14 +108,17 @@ all-fits : (bytes out : List ℕ) → Fits out (back.writtenOf bytes out)
 unfolding back.writtenOf sizeOf
 all-fits bytes out = by-cond out (ltb 2047 (length bytes)) _ _ (omega arith) (λ e. written-fits out (parse bytes) (length bytes) (length (unmarked bytes)))
 
-pub text-fits : (bytes : List ℕ) (r : back-answer.Answer) (n : ℕ) (now : List ℕ) → back.answers r now ≡ back.writtenOf bytes (replicate 4000 0) → r ≡ written.Text n → n ≤ 4000
+pub text-fits : (bytes : List ℕ) (r : back-answer.Answer) (n : ℕ) (now : List ℕ) → back.answers r now ≡ back.writtenOf bytes (replicate 4000 0) → r
+    ≡ written.Text n → n ≤ 4000
 unfolding sizeOf
 text-fits bytes r n now e z =
-    let f : Fits (replicate 4000 0) (back.answers r now) = subst (λ (a : back.Answers). Fits (replicate 4000 0) a) (sym e) (all-fits bytes (replicate 4000 0)) in
+    let f : Fits (replicate 4000 0) (back.answers r now) =
+    subst (λ (a : back.Answers). Fits (replicate 4000 0) a) (sym e) (all-fits bytes (replicate 4000 0)) in
     let g : n ≤ length (replicate {A = ℕ} 4000 0) = subst (λ (a : back-answer.Answer). sizeOf a ≤ length (replicate {A = ℕ} 4000 0)) z f in
     omega (arith, g, length-replicate {A = ℕ} 4000 0)
 
-pub told-as : (bytes : List ℕ) (r x : back-answer.Answer) (now : List ℕ) → back.answers r now ≡ back.writtenOf bytes room → r ≡ x → toldBy (back.writtenOf bytes room) ≡ toldOf x now
+pub told-as : (bytes : List ℕ) (r x : back-answer.Answer) (now : List ℕ) → back.answers r now ≡ back.writtenOf bytes room → r ≡ x
+    → toldBy (back.writtenOf bytes room) ≡ toldOf x now
 told-as bytes r x now e z = sym (rw (← z) (ap toldBy e))
 
 -- the line for it is short
@@ -138,7 +145,8 @@ small-delivered : (text : List ℕ) → Small (back.delivered text room)
 unfolding back.delivered
 small-delivered text = by (leb (length text) (length room)) refl
   where
-    by : (t : Bool) → leb (length text) (length room) ≡ t → Small (cond t (back.answers (written.Text (length text)) (text ++ drop (length text) room)) (back.answers (written.Refused 33) room))
+    by : (t : Bool) → leb (length text) (length room) ≡ t
+        → Small (cond t (back.answers (written.Text (length text)) (text ++ drop (length text) room)) (back.answers (written.Refused 33) room))
     by true e = small-text text (omega (arith, leb-true (length text) (length room) e, length-replicate {A = ℕ} 4000 0))
     by false e = small-number 33 (omega arith)
 
@@ -146,8 +154,11 @@ small-written : (o : Option Tree) (n m : ℕ) → Small (back.writtenBy o n m ro
 unfolding back.writtenBy back.written
 small-written none n m = small-number 8 (omega arith)
 small-written (some t) n m =
-    small-cond (ltb m n) _ _ (small-words .0) (small-cond (ltb 16 (nesting (formulaOf t))) _ _ (small-words .1) (small-cond (ltb 256 n) _ _ (small-words .2) (small-delivered (textOf (formulaOf t)))))
+    small-cond (ltb m n) _ _ (small-words .0)
+    (small-cond (ltb 16 (nesting (formulaOf t))) _ _ (small-words .1)
+    (small-cond (ltb 256 n) _ _ (small-words .2) (small-delivered (textOf (formulaOf t)))))
 
 pub told-fits : (bytes : List ℕ) → length (toldBy (back.writtenOf bytes room)) ≤ 4096
 unfolding back.writtenOf
-told-fits bytes = small-cond (ltb 2047 (length bytes)) _ _ (small-number 33 (omega arith)) (small-written (parse bytes) (length bytes) (length (unmarked bytes)))
+told-fits bytes =
+    small-cond (ltb 2047 (length bytes)) _ _ (small-number 33 (omega arith)) (small-written (parse bytes) (length bytes) (length (unmarked bytes)))

@@ -9,8 +9,10 @@ use packet::bytes::store;
 use paper::to_bytes;
 ghost use mathlib.Core.Path.{_≡_};
 ghost use Prim.Native.Nat.{_+_, _*_, _≤_, _<_};
+ghost use lib.Dec.{leb};
 ghost use lib.ListN.{length, take};
 ghost use lib.Seq.{sets};
+ghost use Rattle.lines.specs.Numerals.{bytesIn};
 ghost use Rattle.lines.specs.Text.{decimalOf, hexDigit, hexOf};
 ghost use Rattle.lines.specs.Lines.{printed, printedIn};
 ghost use Rattle.names.specs.Names.{beginsWith};
@@ -242,11 +244,17 @@ fn equation_line(equation: &[u8], out: &mut [u8]) -> usize
     }
 }
 
-// 65,536 zeros, for the bytes of a line. The `ensures` gives only the length.
+// Zeros, for the bytes of a line: 65,536, and 2,047, the most that an equation has. The `ensures` gives only the length.
 fn blank_bytes() -> [u8; 65536]
     ensures { λ r. ⌜ length r ≡ 65536 ⌝ }
 {
     [0u8; 65536]
+}
+
+fn blank_equation() -> [u8; 2047]
+    ensures { λ r. ⌜ length r ≡ 2047 ⌝ }
+{
+    [0u8; 2047]
 }
 
 // Whether a line begins with a word.
@@ -292,16 +300,28 @@ fn reply_to_bytes(equation: &[u8], text: &mut [u8]) -> usize
     print(&buffer, n, text)
 }
 
-// The line for an equation that is written in hex.
-fn reply_to_hex(field: &[u8], text: &mut [u8]) -> Reply
+// The line for an equation that is written in hex, with a buffer for its bytes that has room where one of 65,536 has.
+fn reply_in(field: &[u8], bytes: &mut [u8], text: &mut [u8]) -> Reply
+    requires { ⌜ leb (length (bytesIn (now field))) (length (now bytes)) ≡ leb (length (bytesIn (now field))) 65536 ⌝ }
     ensures { λ r. ⌜ replies r (now (text .exit)) ≡ replied (hexReply (now (field .entry))) (now (text .entry)) ⌝ }
 {
-    let mut bytes = blank_bytes();
-    let p = hex(field, 0, &mut bytes);
+    let p = hex(field, 0, bytes);
     match p {
         Pairs::Bad => Reply::Unreadable,
         Pairs::Bytes(n) => Reply::Line(reply_to_bytes(&bytes[..n], text)),
     }
+}
+
+// The line for an equation that is written in hex. Most are short, and a buffer of 65,536 bytes takes longer to make than their line.
+fn reply_to_hex(field: &[u8], text: &mut [u8]) -> Reply
+    ensures { λ r. ⌜ replies r (now (text .exit)) ≡ replied (hexReply (now (field .entry))) (now (text .entry)) ⌝ }
+{
+    if field.len() < 4096 {
+        let mut short = blank_equation();
+        return reply_in(field, &mut short, text);
+    }
+    let mut bytes = blank_bytes();
+    reply_in(field, &mut bytes, text)
 }
 
 // Answers a line of the program.

@@ -1,14 +1,12 @@
 -- A line looks at no more of the bytes lent than it has itself: over two lists that begin with the same bytes it does and prints the same. And a step
 -- leaves a good state and a session number of 32 bits. Assumes nothing.
 use native.Mathlib.Omega.{arith}
-use native.Mathlib.Nat.{sub-zero, zero-sub, suc-sub-suc}
 use mathlib.Core.Path.{_≡_, refl, sym, _∙_, ap}
 use mathlib.Core.Bool.{Bool, true, false, cond}
-use mathlib.Core.List.{List, [], _∷_}
+use mathlib.Core.List.{List}
 use Prim.Native.Nat.{ℕ, zero, suc, _+_, _-_, _≤_, _<_}
 use lib.Dec.{ltb}
 use lib.ListN.{length, take, drop, replicate}
-use lib.Seq.{take-nil}
 use borrow.Author.Tests.{ltb-false}
 use Rattle.session.specs.declared.reply.Answer.{Answer}
 use Rattle.session.specs.declared.reply.Answer.the-variants as answer
@@ -21,6 +19,7 @@ use Rattle.script.specs.declared.doing.Doing.{Doing}
 use Rattle.script.specs.declared.doing.Doing.the-variants as doing
 use Rattle.script.specs.declared.Day.{Day}
 use Rattle.input.specs.Parts.{restOf, bytesFrom}
+use Rattle.input.proofs.Places.{drop-take}
 use Rattle.script.specs.Doing.{restsOf, sessionOf, goesOn, heardOn, pumpedOn, afterOf}
 use Rattle.script.specs.Calling.{hearOf, callOf}
 use Rattle.script.specs.Day.{stepping, steppedTo, printsOf, answeredOf, turnOf, stepOf}
@@ -113,12 +112,6 @@ rest-within at n size p = go (ltb n size) refl
     go false e = omega (arith, ltb-false n size e)
 
 -- what is left of the first n is the same whichever is cut off first
-pub drop-take : (at n : ℕ) (l : List ℕ) → take (n - at) (drop at l) ≡ drop at (take n l)
-drop-take zero n l = rw (sub-zero n)
-drop-take (suc at) zero l = rw (zero-sub (suc at))
-drop-take (suc at) (suc n) [] = take-nil (suc n - suc at)
-drop-take (suc at) (suc n) (x ∷ xs) = rw (suc-sub-suc n at) (drop-take at n xs)
-
 part-alike : (at n : ℕ) (a b : List ℕ) → Alike n a b → bytesFrom at n a ≡ bytesFrom at n b
 part-alike at n a b w = drop-take at n a ∙ ap (λ (l : List ℕ). drop at l) (w .same) ∙ sym (drop-take at n b)
 

@@ -2,16 +2,16 @@
 use native.Mathlib.Omega.{arith}
 use mathlib.Core.Path.{_≡_, refl, sym, _∙_, ap}
 use mathlib.Core.Bool.{Bool, true, false, cond}
-use mathlib.Core.List.{List, _++_, append-nil}
+use mathlib.Core.List.{List, _++_}
 use Prim.Native.Nat.{ℕ, _-_, _≤_, _<_}
 use lib.Dec.{ltb}
-use lib.ListN.{length, take, drop, length-drop, drop-of-length-le, take-append-drop, replicate}
-use lib.Seq.{take-all}
+use lib.ListN.{length, take, drop, length-drop, take-append-drop, replicate}
 use borrow.Author.Tests.{ltb-false, lt-ltb, le-ltb}
 use Rattle.server.specs.declared.Done.{Done}
 use Rattle.server.specs.State.{Lent, outcome}
 use Rattle.lines.specs.Lines.{printed}
 use Rattle.input.specs.Parts.{restOf}
+use Rattle.input.proofs.Places.{end-part, put-end, rest-all}
 use Rattle.script.specs.declared.Day.{Day}
 use Rattle.script.specs.declared.Stepped.{Stepped}
 use Rattle.script.specs.declared.doing.Doing.{Doing}
@@ -19,25 +19,6 @@ use Rattle.script.specs.Doing.{sessionOf, afterOf}
 use Rattle.script.specs.Printing.{showOf}
 use Rattle.script.specs.Calling.{callOf}
 use Rattle.script.specs.Day.{dayOf, Stepping, stepping, steppedTo, printsOf, answeredOf, turnOf, stepOf, placeIn, behind, stepBehind}
-
--- ---- a part that reaches to the end of a list
-
-pub end-part : (at : ℕ) (l : List ℕ) → take (length l - at) (drop at l) ≡ drop at l
-end-part at l = take-all (length l - at) (drop at l) (omega (arith, length-drop at l))
-
-pub put-end : (at : ℕ) (l part : List ℕ) → take at l ++ (part ++ drop (length l - at) (drop at l)) ≡ take at l ++ part
-put-end at l part =
-    ap (λ (r : List ℕ). take at l ++ (part ++ r)) (drop-of-length-le (drop at l) {i = length l - at} (omega (arith, length-drop at l)))
-    ∙ ap (λ (r : List ℕ). take at l ++ r) (append-nil part)
-
--- how much is left of a text behind a place
-pub rest-all : (at size : ℕ) → restOf at size size ≡ size - at
-unfolding restOf
-rest-all at size = go (ltb size size)
-  where
-    go : (t : Bool) → cond t (size - at) (size - at) ≡ size - at
-    go true = refl
-    go false = refl
 
 rest-behind : (at : ℕ) (text : List ℕ) → length (drop (placeIn at text) text) ≡ restOf at (length text) (length text)
 rest-behind at text = length-drop (placeIn at text) text ∙ go (ltb at (length text)) refl ∙ sym (rest-all at (length text))

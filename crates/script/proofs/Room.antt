@@ -4,11 +4,11 @@ use mathlib.Core.Path.{_≡_, refl}
 use mathlib.Core.List.{List, _++_}
 use Prim.Native.Nat.{ℕ, _≤_, _<_}
 use lib.ListN.{length, take, drop}
-use borrow.Author.Tests.{le-leb}
 use Rattle.session.specs.declared.reply.Answer.{Answer}
 use Rattle.session.specs.declared.reply.Answer.the-variants as answer
-use Rattle.lines.specs.Lines.{printed, printedIn}
+use Rattle.lines.specs.Lines.{printed}
 use Rattle.lines.proofs.LineLaws.{packet-most, closed-most, refused-most}
+use Rattle.input.proofs.Places.{printed-all}
 use Rattle.script.specs.Printing.{lineFor, showOf}
 
 -- a session number has 32 bits, and a refusal's number 8
@@ -19,10 +19,6 @@ line-most session (answer.Quiet taken) out p q = omega arith
 line-most session (answer.Sent taken size) out p q = omega (arith, packet-most session (take size out) p)
 line-most session (answer.Closed taken) out p q = omega (arith, closed-most session p)
 line-most session (answer.Refused number) out p q = omega (arith, refused-most session number p (q number refl))
-
-pub printed-all : (line text : List ℕ) → length line ≤ length text → printedIn line text ≡ printed (length line) (line ++ drop (length line) text)
-unfolding printedIn
-printed-all line text p = rw (le-leb (length line) (length text) p)
 
 -- a step prints the whole line of its answer
 pub shown-whole : (session : ℕ) (a : Answer) (out text : List ℕ) → session < 4294967296

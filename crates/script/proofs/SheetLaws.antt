@@ -17,11 +17,11 @@ use Rattle.lines.specs.Commands.{commandOf, rxBytes}
 use Rattle.script.specs.declared.Day.{Day}
 use Rattle.input.specs.declared.Found.the-variants as found
 use Rattle.script.specs.Doing.{restsOf, sessionOf}
-use Rattle.input.specs.Input.{lineLength, foundOf, findOf}
+use Rattle.input.specs.Input.{lineLength, foundOf, findOf, byFirst}
 use Rattle.script.specs.Printing.{showOf}
 use Rattle.script.specs.Day.{beginOf, stepping, steppedTo, printsOf, answeredOf, turnOf, stepOf}
 use Rattle.script.specs.Line.{Ran, ran, room, lineOf}
-use Rattle.script.specs.Sheet.{lastLine, errorThenLast, runOf, byCommand, byFirst, linesFrom}
+use Rattle.script.specs.Sheet.{lastLine, errorThenLast, runOf, byCommand, linesFrom}
 use Rattle.script.proofs.Written.{written-fits}
 use Rattle.script.proofs.Ending.{rested, stepped, line-settled}
 use Rattle.script.proofs.Prints.{step-prints}

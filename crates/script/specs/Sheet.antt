@@ -15,9 +15,7 @@ use Rattle.lines.specs.Commands.{commandOf, rxBytes}
 use Rattle.lines.specs.Lines.{errorLine, blocksLine}
 use Rattle.script.specs.declared.Day.{Day}
 use Rattle.script.specs.declared.doing.Doing.the-variants as doing
-use Rattle.input.specs.declared.Found.{Found}
-use Rattle.input.specs.declared.Found.the-variants as found
-use Rattle.input.specs.Input.{findOf}
+use Rattle.input.specs.Input.{findOf, byFirst}
 use Rattle.script.specs.Day.{dayOf, beginOf}
 use Rattle.script.specs.Line.{Ran, lineOf}
 
@@ -49,13 +47,6 @@ byCommand (command.Time clock) error printed = printed
 byCommand (command.Open session) error printed = printed
 byCommand (command.Drop session) error printed = printed
 byCommand (command.Rx session n) error printed = printed
-
--- by what stands first in the script: nothing more, a line that is too long to be read, or a line of n bytes
-unfoldable pub byFirst : Found → List ℕ → List ℕ → (ℕ → List ℕ) → List ℕ
-byFirst found.Part last error go = last
-byFirst (found.Line n) last error go = go n
-byFirst found.TooLong last error go = error
-byFirst found.Nothing last error go = last
 
 -- The lines from one on, which has this number; the first argument bounds how many there are. Behind a line stands its newline.
 unfoldable pub linesFrom : ℕ → Day → Lent → ℕ → List ℕ → List ℕ

@@ -6,10 +6,9 @@ use mathlib.Core.Option.{none, some}
 use Prim.Native.Nat.{ℕ, zero, suc, _+_, _*_, _/_, _%_, _≤_, _<_}
 use native.Mathlib.Omega.{arith}
 use lib.Dec.{ltb, leb, eqb}
-use lib.ListN.{length, getD, take, drop, length-append}
-use lib.Seq.{take-at, length-take-le, take-all, take-nil}
-use borrow.Author.Tests.{ltb-false, leb-true, le-ltb, le-leb, eqb-true}
-use Rattle.equation.specs.Holds.{Relation}
+use lib.ListN.{length, getD, take, drop}
+use lib.Seq.{length-take-le, take-all, take-nil}
+use borrow.Author.Tests.{ltb-false, leb-true, eqb-true}
 use Rattle.equation.specs.Symbols.{good, connectiveOf, relationAt, tokenOf, Symbol, rel, and, or, bad, follow, symbolsPast, symbols}
 use Rattle.equation.specs.Tree.{pushed, joined, result, bind, run, Tree, parse}
 use Rattle.equation.specs.Tree as tree
@@ -17,70 +16,14 @@ use Rattle.equation.specs.Newer.{beforeMark, unmarkedPast, unmarked}
 use Rattle.equation.specs.declared.tokens.Token.{Token}
 use Rattle.equation.specs.declared.tokens.Token.the-variants.{Bad, End, And, Or, Rel}
 use Rattle.equation.proofs.TokenLaws.{no-relation, relation-fits}
-use Rattle.grammar.specs.Formula.{Formula, relation, both, either, relationBytes, postfix}
+use Rattle.grammar.specs.Formula.{Formula, relation, both, either, relationBytes, postfix, symbolsOf}
 use Rattle.grammar.specs.Grammar.{Reads}
-use Rattle.grammar.proofs.Bytes.{Fit, AllFit, text-fits}
-use Rattle.writing.specs.Places.{symbolsOf, formulaOf}
+use Rattle.grammar.proofs.Bytes.{AllFit, postfix-then, text-fits}
+use Rattle.writing.specs.Places.{formulaOf}
 use Rattle.writing.proofs.Relations.{Whole}
 use Rattle.writing.proofs.Derived.{AllWhole}
 
 -- ---- the bytes of a formula are its symbols
-
-skip : (xs bs : List ℕ) → symbolsPast (length xs) (xs ++ bs) ≡ symbols bs
-unfolding symbolsPast
-skip [] bs = refl
-skip (x ∷ xs) bs = skip xs bs
-
-first : (c : ℕ) (xs : List ℕ) (t : Token) → tokenOf (c ∷ xs) ≡ t → symbols (c ∷ xs) ≡ follow t (c ∷ xs) (λ n. symbolsPast n xs)
-unfolding symbolsPast
-first c xs t h = rw h
-
-past-three : (a b c n : ℕ) (xs : List ℕ) → symbolsPast (3 + n) (a ∷ b ∷ c ∷ xs) ≡ symbolsPast n xs
-unfolding symbolsPast
-past-three a b c n xs = let z : 3 + n ≡ suc (suc (suc n)) = omega arith in rw z
-
-module _ (r : Relation) (f : Fit r) (bs : List ℕ) where
-  id-back : r .id % 256 + 256 * (r .id / 256 % 256) ≡ r .id
-  id-back = omega (arith, f .id)
-
-  relation-token : tokenOf (relationBytes r ++ bs) ≡ Rel (r .code) (r .id) (length (r .constant))
-  unfolding relationBytes tokenOf relationAt
-  relation-token =
-      rw (
-        le-ltb (r .code) 128 (f .coded),
-        le-leb (length (r .constant)) (length (r .constant ++ bs)) (omega (arith, length-append (r .constant) bs)),
-        take-at (r .constant) bs (length (r .constant)) refl,
-        f .good,
-        id-back,
-      )
-
-  relation-symbols : symbols (relationBytes r ++ bs) ≡ rel r ∷ symbols bs
-  unfolding relationBytes follow
-  relation-symbols =
-      first (r .code) (r .id % 256 ∷ r .id / 256 % 256 ∷ length (r .constant) ∷ (r .constant ++ bs)) (Rel (r .code) (r .id) (length (r .constant))) relation-token
-      ∙ rw (
-        past-three (r .id % 256) (r .id / 256 % 256) (length (r .constant)) (length (r .constant)) (r .constant ++ bs),
-        skip (r .constant) bs,
-        take-at (r .constant) bs (length (r .constant)) refl,
-      )
-
-and-symbols : (bs : List ℕ) → symbols (1 ∷ bs) ≡ and ∷ symbols bs
-unfolding symbolsPast follow tokenOf connectiveOf
-and-symbols bs = refl
-
-or-symbols : (bs : List ℕ) → symbols (2 ∷ bs) ≡ or ∷ symbols bs
-unfolding symbolsPast follow tokenOf connectiveOf
-or-symbols bs = refl
-
-postfix-then : (f : Formula) (bs : List ℕ) → AllFit f → symbols (postfix f ++ bs) ≡ symbolsOf f ++ symbols bs
-unfolding postfix symbolsOf AllFit
-postfix-then (relation r) bs h = relation-symbols r h bs
-postfix-then (both a b) bs h =
-    simp append-assoc
-    (postfix-then a (postfix b ++ 1 ∷ bs) (h .0) ∙ ap (λ (l : List Symbol). symbolsOf a ++ l) (postfix-then b (1 ∷ bs) (h .1) ∙ ap (λ (l : List Symbol). symbolsOf b ++ l) (and-symbols bs)))
-postfix-then (either a b) bs h =
-    simp append-assoc
-    (postfix-then a (postfix b ++ 2 ∷ bs) (h .0) ∙ ap (λ (l : List Symbol). symbolsOf a ++ l) (postfix-then b (2 ∷ bs) (h .1) ∙ ap (λ (l : List Symbol). symbolsOf b ++ l) (or-symbols bs)))
 
 pub postfix-symbols : (f : Formula) → AllFit f → symbols (postfix f) ≡ symbolsOf f
 unfolding symbolsPast
@@ -125,15 +68,18 @@ stackSymbols (t ∷ st) = stackSymbols st ++ symbolsOf (formulaOf t)
 shift : (xs os bs ss : List Symbol) (c : Symbol) → ((xs ++ os) ++ bs) ++ c ∷ ss ≡ (xs ++ (os ++ (bs ++ c ∷ []))) ++ ss
 shift xs os bs ss c = simp append-assoc
 
-run-symbols : (k : ℕ) (ss : List Symbol) (st : List Tree) (t : Tree) → run tree.leaf tree.both tree.either k ss st ≡ some t → stackSymbols st ++ ss ≡ symbolsOf (formulaOf t)
+run-symbols : (k : ℕ) (ss : List Symbol) (st : List Tree) (t : Tree) → run tree.leaf tree.both tree.either k ss st ≡ some t → stackSymbols st ++ ss
+    ≡ symbolsOf (formulaOf t)
 unfolding run result joined bind stackSymbols formulaOf symbolsOf
 run-symbols k [] [] t h = let z : _≡_ {A = ℕ} 0 1 = cc in absurd (omega arith)
 run-symbols k [] (a ∷ []) t h = let z : a ≡ t = cc in rw z (simp append-nil)
 run-symbols k [] (a ∷ b ∷ st) t h = let z : _≡_ {A = ℕ} 0 1 = cc in absurd (omega arith)
 run-symbols k (rel r ∷ ss) st t h = by (run-symbols (suc k) ss (tree.leaf k r ∷ st) t) (ltb (length st) 100) (unfold pushed in h)
   where
-    by : (run tree.leaf tree.both tree.either (suc k) ss (tree.leaf k r ∷ st) ≡ some t → (stackSymbols st ++ symbolsOf (formulaOf (tree.leaf k r))) ++ ss ≡ symbolsOf (formulaOf t))
-        → (x : Bool) → bind (cond x (some (tree.leaf k r ∷ st)) none) (run tree.leaf tree.both tree.either (suc k) ss) ≡ some t → stackSymbols st ++ rel r ∷ ss ≡ symbolsOf (formulaOf t)
+    by : (run tree.leaf tree.both tree.either (suc k) ss (tree.leaf k r ∷ st) ≡ some t → (stackSymbols st ++ symbolsOf (formulaOf (tree.leaf k r))) ++ ss
+        ≡ symbolsOf (formulaOf t))
+        → (x : Bool) → bind (cond x (some (tree.leaf k r ∷ st)) none) (run tree.leaf tree.both tree.either (suc k) ss) ≡ some t → stackSymbols st ++ rel r ∷ ss
+        ≡ symbolsOf (formulaOf t)
     by ih true z = sym (append-assoc (stackSymbols st) (rel r ∷ []) ss) ∙ unfold formulaOf symbolsOf in ih (unfold bind in z)
     by ih false z = let y : _≡_ {A = ℕ} 0 1 = unfold bind in cc in absurd (omega arith)
 run-symbols k (and ∷ ss) [] t h = let z : _≡_ {A = ℕ} 0 1 = cc in absurd (omega arith)

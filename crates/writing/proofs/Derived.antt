@@ -74,7 +74,12 @@ record Means (f : Formula) : Type 0 where
 means : (f : Formula) → AllWhole f → Means f
 unfolding sumOf productOf factorOf formulaS formulaP formulaF AllWhole
 means (formula.relation r) w =
-    record { of-sum = λ x y. ap formula.relation (relation-back r w); of-product = λ x y. ap formula.relation (relation-back r w); of-factor = λ x y. ap formula.relation (relation-back r w) }
+    record {
+      of-sum = λ x y. ap formula.relation (relation-back r w);
+      of-product = λ x y. ap formula.relation (relation-back r w);
+      of-factor =
+          λ x y. ap formula.relation (relation-back r w);
+    }
 means (formula.both a b) w =
     let p = means a (w .0) in let q = means b (w .1) in
     record {

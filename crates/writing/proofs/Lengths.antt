@@ -46,7 +46,8 @@ unfolding shortNames nameIn
 named-short [] id letters h e = let z : _≡_ {A = ℕ} 0 1 = cc in absurd (omega arith)
 named-short (x ∷ xs) id letters h e = by (named-short xs id letters (tests.second-true (leb (length (bytesOf (x .name))) 23) _ h)) (eqb (x .id) id) e
   where
-    by : (nameIn xs id ≡ some letters → length letters ≤ 23) → (t : Bool) → cond t (some (bytesOf (x .name))) (nameIn xs id) ≡ some letters → length letters ≤ 23
+    by : (nameIn xs id ≡ some letters → length letters ≤ 23) → (t : Bool) → cond t (some (bytesOf (x .name))) (nameIn xs id) ≡ some letters
+        → length letters ≤ 23
     by ih true e =
         let z : bytesOf (x .name) ≡ letters = cc in
         omega (arith, ap length z, leb-true (length (bytesOf (x .name))) 23 (tests.first-true (leb (length (bytesOf (x .name))) 23) _ h))
@@ -73,7 +74,8 @@ unfolding characterFor characterText
 character-short b = by (eqb b 34) (eqb b 92) (isPrinted b)
   where
     by : (p q r : Bool)
-        → length (characterText (cond p (grammar.escaped 34) (cond q (grammar.escaped 92) (cond r (grammar.plain b) (grammar.coded (hexDigit (b / 16)) (hexDigit (b % 16))))))) ≤ 4
+        → length (characterText
+        (cond p (grammar.escaped 34) (cond q (grammar.escaped 92) (cond r (grammar.plain b) (grammar.coded (hexDigit (b / 16)) (hexDigit (b % 16))))))) ≤ 4
     by true q r = unfold characterText in omega arith
     by false true r = unfold characterText in omega arith
     by false false true = unfold characterText in omega arith
@@ -97,7 +99,8 @@ unfolding constantFor
 constant-short r w = by (eqb (kindOf (r .code)) 3) refl
   where
     by : (t : Bool) → eqb (kindOf (r .code)) 3 ≡ t
-        → length (constantText (cond t (grammar.string (map characterFor (r .constant))) (numberFor (r .id) (length (r .constant)) (number (r .constant))))) ≤ 12 + 4 * length (r .constant)
+        → length (constantText (cond t (grammar.string (map characterFor (r .constant))) (numberFor (r .id) (length (r .constant)) (number (r .constant)))))
+        ≤ 12 + 4 * length (r .constant)
     by true e = unfold constantText in omega (arith, quoted-short (r .constant), length-append (quoted (r .constant)) (34 ∷ []))
     by false e = omega (arith, number-short (r .id) (length (r .constant)) (number (r .constant)) (whole-number r w e))
 
@@ -127,13 +130,15 @@ unfolding textOf productText factorText postfix relationBytes AllWhole
 short (relation r) w = let z = relation-short r w in record { whole = omega arith; product = omega arith; factor = omega arith }
 short (both a b) w =
     let x = short a (w .0) in let y = short b (w .1) in
-    let l : length (postfix a ++ (postfix b ++ 1 ∷ [])) ≡ length (postfix a) + (length (postfix b) + 1) = omega (arith, length-append (postfix a) (postfix b ++ 1 ∷ []), length-append (postfix b) (1 ∷ [])) in
+    let l : length (postfix a ++ (postfix b ++ 1 ∷ [])) ≡ length (postfix a) + (length (postfix b) + 1) =
+    omega (arith, length-append (postfix a) (postfix b ++ 1 ∷ []), length-append (postfix b) (1 ∷ [])) in
     let z = join-short (productText a) (factorText b) (bytesOf " && ") (length (postfix a)) (length (postfix b)) (x .product) (y .factor) (four .0) in
     let k = bracket-length (productText a ++ (bytesOf " && " ++ factorText b)) in
     record { whole = omega arith; product = omega arith; factor = omega arith }
 short (either a b) w =
     let x = short a (w .0) in let y = short b (w .1) in
-    let l : length (postfix a ++ (postfix b ++ 2 ∷ [])) ≡ length (postfix a) + (length (postfix b) + 1) = omega (arith, length-append (postfix a) (postfix b ++ 2 ∷ []), length-append (postfix b) (2 ∷ [])) in
+    let l : length (postfix a ++ (postfix b ++ 2 ∷ [])) ≡ length (postfix a) + (length (postfix b) + 1) =
+    omega (arith, length-append (postfix a) (postfix b ++ 2 ∷ []), length-append (postfix b) (2 ∷ [])) in
     let z = join-short (textOf a) (productText b) (bytesOf " || ") (length (postfix a)) (length (postfix b)) (x .whole) (y .product) (four .1) in
     let k = bracket-length (textOf a ++ (bytesOf " || " ++ productText b)) in
     record { whole = omega arith; product = omega arith; factor = omega arith }

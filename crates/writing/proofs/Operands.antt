@@ -10,9 +10,9 @@ use borrow.Author.Tests.{lt-ltb}
 use Rattle.packet.specs.Names.{bytesOf}
 use Rattle.equation.specs.Symbols.{Symbol, rel, and, or, bad}
 use Rattle.equation.specs.Holds.{Relation}
-use Rattle.grammar.specs.Formula.{Formula, relation, both, either}
+use Rattle.grammar.specs.Formula.{Formula, relation, both, either, symbolsOf}
 use Rattle.writing.specs.Text.{relationText, textOf, productText, factorText, nesting, productNesting, factorNesting}
-use Rattle.writing.specs.Places.{symbolsOf, textAt, nestingAt, connectiveText, opening, closing}
+use Rattle.writing.specs.Places.{textAt, nestingAt, connectiveText, opening, closing}
 
 -- ---- a formula of two operands: AND where the test holds, else OR
 
@@ -23,7 +23,8 @@ abbrev pub binds : Bool → ℕ
 binds t = cond t 1 0
 
 pub join-text : (t : Bool) (level : ℕ) (a b : Formula)
-    → textAt level (join t a b) ≡ opening (binds t) level ++ (textAt (binds t) a ++ (connectiveText (binds t) ++ (textAt (binds t + 1) b ++ closing (binds t) level)))
+    → textAt level (join t a b) ≡ opening (binds t) level
+    ++ (textAt (binds t) a ++ (connectiveText (binds t) ++ (textAt (binds t + 1) b ++ closing (binds t) level)))
 unfolding textAt textOf productText factorText opening closing connectiveText
 join-text true zero a b = simp append-nil
 join-text true (suc zero) a b = simp append-nil
@@ -33,7 +34,8 @@ join-text false (suc zero) a b = simp append-assoc
 join-text false (suc (suc k)) a b = rw (lt-ltb 0 (suc (suc k)) (omega arith)) (simp append-assoc)
 
 pub join-nesting : (t : Bool) (level : ℕ) (a b : Formula)
-    → nestingAt level (join t a b) ≡ cond (ltb (binds t) level) (max (nestingAt (binds t) a) (nestingAt (binds t + 1) b) + 1) (max (nestingAt (binds t) a) (nestingAt (binds t + 1) b))
+    → nestingAt level (join t a b)
+    ≡ cond (ltb (binds t) level) (max (nestingAt (binds t) a) (nestingAt (binds t + 1) b) + 1) (max (nestingAt (binds t) a) (nestingAt (binds t + 1) b))
 unfolding nestingAt nesting productNesting factorNesting
 join-nesting true zero a b = refl
 join-nesting true (suc zero) a b = refl

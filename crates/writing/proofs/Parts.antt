@@ -41,7 +41,8 @@ module _ (b : ℕ) where
   unfolding characterFor characterText
   character-plain h i p = rw (ne-eqb b 34 h, ne-eqb b 92 i, p)
 
-  pub character-coded : (b ≡ 34 → ⊥) → (b ≡ 92 → ⊥) → isPrinted b ≡ false → characterText (characterFor b) ≡ 92 ∷ 120 ∷ hexDigit (b / 16) ∷ hexDigit (b % 16) ∷ []
+  pub character-coded : (b ≡ 34 → ⊥) → (b ≡ 92 → ⊥) → isPrinted b ≡ false → characterText (characterFor b)
+      ≡ 92 ∷ 120 ∷ hexDigit (b / 16) ∷ hexDigit (b % 16) ∷ []
   unfolding characterFor characterText
   character-coded h i p = rw (ne-eqb b 34 h, ne-eqb b 92 i, p)
 
@@ -213,7 +214,8 @@ row-is (x ∷ xs) id h = here (row-is xs id) (eqb (length (bytesOf (x .name))) 0
         }
     by n ih false = ih
 
-    here : (allNamed xs ≡ true → RowIs id (rowIn xs id) (nameIn xs id)) → (t : Bool) → eqb (length (bytesOf (x .name))) 0 ≡ t → cond t false (allNamed xs) ≡ true
+    here : (allNamed xs ≡ true → RowIs id (rowIn xs id) (nameIn xs id)) → (t : Bool) → eqb (length (bytesOf (x .name))) 0 ≡ t → cond t false (allNamed xs)
+        ≡ true
         → RowIs id (cond (eqb (x .id) id) (rowFor x) (rowIn xs id)) (cond (eqb (x .id) id) (some (bytesOf (x .name))) (nameIn xs id))
     here ih true e z = absurd (tests.clash false z refl)
     here ih false e z = by (eqb-false (length (bytesOf (x .name))) 0 e) (ih z) (eqb (x .id) id)
@@ -244,7 +246,8 @@ module _ (id : ℕ) (r : Row) (e : r ≡ rowOf id) where
 -- ---- relations
 
 module _ (r : Relation) where
-  pub relation-is : relationText r ≡ itemText (itemFor (r .id)) ++ (32 ∷ (operatorText (comparisonFor (operatorOf (r .code))) ++ (32 ∷ constantText (constantFor r))))
+  pub relation-is : relationText r ≡ itemText (itemFor (r .id))
+      ++ (32 ∷ (operatorText (comparisonFor (operatorOf (r .code))) ++ (32 ∷ constantText (constantFor r))))
   unfolding writtenText
   relation-is = refl
 

@@ -23,7 +23,8 @@ use Rattle.names.specs.Names.{Named, items, small, idIn, idNamed, nameIn, nameO
 use Rattle.names.specs.Kinds.{isBlank, isPrinted, hexOf, isHexDigit, every}
 use Rattle.grammar.specs.Meaning.{operatorNumber, isEquality, widthOf, isWidth, numberRelation, textRelation}
 use Rattle.grammar.specs.Grammar as grammar
-use Rattle.grammar.specs.Grammar.{Stands, goodCharacter, goodCharacters, characterByte, charactersBytes, Constant, Digits, GoodConstant, meant, relationOf, GoodWritten}
+use Rattle.grammar.specs.Grammar.{Stands, goodCharacter, goodCharacters, characterByte, charactersBytes, Constant, Digits, GoodConstant, meant, relationOf}
+use Rattle.grammar.specs.Grammar.{GoodWritten}
 use Rattle.grammar.specs.declared.Comparison.{Comparison}
 use Rattle.names.proofs.Tests as tests
 use Rattle.grammar.proofs.Bytes.{Fit}
@@ -42,7 +43,9 @@ hex-lower : (n : ℕ) → n < 16 → lower (hexDigit n) ≡ hexDigit n
 unfolding lower hexDigit
 hex-lower n h = by (ltb n 10) refl
   where
-    by : (t : Bool) → ltb n 10 ≡ t → cond (leb 65 (cond t (48 + n) (87 + n))) (cond (leb (cond t (48 + n) (87 + n)) 90) (cond t (48 + n) (87 + n) + 32) (cond t (48 + n) (87 + n))) (cond t (48 + n) (87 + n)) ≡ cond t (48 + n) (87 + n)
+    by : (t : Bool) → ltb n 10 ≡ t
+        → cond (leb 65 (cond t (48 + n) (87 + n))) (cond (leb (cond t (48 + n) (87 + n)) 90) (cond t (48 + n) (87 + n) + 32) (cond t (48 + n) (87 + n)))
+        (cond t (48 + n) (87 + n)) ≡ cond t (48 + n) (87 + n)
     by true e = rw (lt-leb 65 (48 + n) (omega (arith, ltb-true n 10 e)))
     by false e = rw (le-leb 65 (87 + n) (omega arith), lt-leb (87 + n) 90 (omega (arith, ltb-false n 10 e)))
 
@@ -176,7 +179,12 @@ numeral (a ∷ b ∷ c ∷ d ∷ e ∷ bs) w s = absurd (wide (length bs) w)
     wide : (n : ℕ) → width (suc (suc (suc (suc (suc n))))) ≡ true → ⊥
     wide n h =
         tests.clash (width (suc (suc (suc (suc (suc n)))))) h
-        (unfold width in rw (ne-eqb (suc (suc (suc (suc (suc n))))) 1 (λ z. omega arith), ne-eqb (suc (suc (suc (suc (suc n))))) 2 (λ z. omega arith), ne-eqb (suc (suc (suc (suc (suc n))))) 4 (λ z. omega arith)))
+        (unfold width in
+        rw (
+          ne-eqb (suc (suc (suc (suc (suc n))))) 1 (λ z. omega arith),
+          ne-eqb (suc (suc (suc (suc (suc n))))) 2 (λ z. omega arith),
+          ne-eqb (suc (suc (suc (suc (suc n))))) 4 (λ z. omega arith),
+        ))
 
 -- ---- operators
 
@@ -233,7 +241,8 @@ record ConstantBack (r : Relation) (c : Comparison) (k : Constant) : Type 0 wher
   good : GoodConstant c k
   is : meant (r .id) c k ≡ r
 
-text-told : (op : ℕ) (bs : List ℕ) → goodText op bs ≡ true → (isEquality (comparisonFor op) ≡ true) × (operatorNumber (comparisonFor op) ≡ op) × (starsIn bs ≤ 4)
+text-told : (op : ℕ) (bs : List ℕ) → goodText op bs ≡ true
+    → (isEquality (comparisonFor op) ≡ true) × (operatorNumber (comparisonFor op) ≡ op) × (starsIn bs ≤ 4)
 unfolding goodText
 text-told op bs h = by (eqb op 0) refl h
   where
@@ -255,7 +264,8 @@ unfolding goodNumber
 number-told op n h = (leb-true op 5 (tests.first-true (leb op 5) _ h), tests.second-true (leb op 5) _ h)
 
 module _ (r : Relation) (w : Whole r) where
-  text-back : kindOf (r .code) ≡ 3 → good (r .code) (r .constant) ≡ true → ConstantBack r (comparisonFor (operatorOf (r .code))) (grammar.string (map characterFor (r .constant)))
+  text-back : kindOf (r .code) ≡ 3 → good (r .code) (r .constant) ≡ true
+      → ConstantBack r (comparisonFor (operatorOf (r .code))) (grammar.string (map characterFor (r .constant)))
   unfolding good GoodConstant meant textRelation
   text-back k g =
       let g' : goodText (operatorOf (r .code)) (r .constant) ≡ true = rw (eq-eqb (kindOf (r .code)) 3 k) at g in
@@ -285,7 +295,8 @@ module _ (r : Relation) (w : Whole r) where
       v = number (r .constant)
 
       by : (t : Bool) → eqb (length (r .constant)) (widthOf (r .id) (number (r .constant))) ≡ t
-          → ConstantBack r (comparisonFor (operatorOf (r .code))) (cond t (grammar.number (decimalOf (number (r .constant)))) (grammar.sized (decimalOf (number (r .constant))) (48 + length (r .constant))))
+          → ConstantBack r (comparisonFor (operatorOf (r .code)))
+          (cond t (grammar.number (decimalOf (number (r .constant)))) (grammar.sized (decimalOf (number (r .constant))) (48 + length (r .constant))))
       by true e =
           record {
             good = decimal-digits (number (r .constant)) (n .most);
@@ -304,7 +315,8 @@ module _ (r : Relation) (w : Whole r) where
     where
       by : (s : Bool) → eqb (kindOf (r .code)) 3 ≡ s → (t : Bool) → eqb (kindOf (r .code)) 0 ≡ t
           → cond s (goodText (operatorOf (r .code)) (r .constant)) (cond t (goodNumber (operatorOf (r .code)) (length (r .constant))) false) ≡ true
-          → ConstantBack r (comparisonFor (operatorOf (r .code))) (cond s (grammar.string (map characterFor (r .constant))) (numberFor (r .id) (length (r .constant)) (number (r .constant))))
+          → ConstantBack r (comparisonFor (operatorOf (r .code)))
+          (cond s (grammar.string (map characterFor (r .constant))) (numberFor (r .id) (length (r .constant)) (number (r .constant))))
       by true e t f z = text-back (eqb-true (kindOf (r .code)) 3 e) (w .fit .good)
       by false e true f z = numeral-back (eqb-true (kindOf (r .code)) 0 f) z
       by false e false f z = absurd (tests.clash false z refl)

@@ -20,7 +20,8 @@ unfolding tokenOf relationAt
 stands-front [] c i m e = let w : _≡_ {A = ℕ} 0 1 = cc in absurd (omega arith)
 stands-front (x ∷ bs) c i m e = go (ltb x 128) bs e
   where
-    rest : (a b n : ℕ) (bs : List ℕ) (p q : Bool) → leb n (length bs) ≡ p → good x (take n bs) ≡ q → cond p (cond q (Rel x (a + 256 * b) n) Bad) Bad ≡ Rel c i m → Stands (x ∷ a ∷ b ∷ n ∷ bs) 0
+    rest : (a b n : ℕ) (bs : List ℕ) (p q : Bool) → leb n (length bs) ≡ p → good x (take n bs) ≡ q → cond p (cond q (Rel x (a + 256 * b) n) Bad) Bad ≡ Rel c i m
+        → Stands (x ∷ a ∷ b ∷ n ∷ bs) 0
     rest a b n bs false q l g e = let w : _≡_ {A = ℕ} 0 1 = cc in absurd (omega arith)
     rest a b n bs true false l g e = let w : _≡_ {A = ℕ} 0 1 = cc in absurd (omega arith)
     rest a b n bs true true l g e = record { within = omega (arith, leb-true n (length bs) l); good = g }

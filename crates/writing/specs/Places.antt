@@ -1,13 +1,12 @@
--- A formula by its parts: its symbols in postfix order, its text at the place where it stands, and its relations in the bytes of an equation. Assumes
--- nothing.
+-- A formula by its parts: its text at the place where it stands, and its relations in the bytes of an equation. Assumes nothing.
 use mathlib.Core.Path.{_≡_}
 use mathlib.Core.Bool.{true, cond}
-use mathlib.Core.List.{List, [], _∷_, _++_, map}
+use mathlib.Core.List.{List, [], _∷_, map}
 use Prim.Native.Nat.{ℕ, zero, suc, _+_, _≤_, _<_}
 use lib.Dec.{ltb, eqb}
 use lib.ListN.{length, getD}
 use Rattle.packet.specs.Names.{bytesOf}
-use Rattle.equation.specs.Symbols.{Symbol, rel, and, or, good}
+use Rattle.equation.specs.Symbols.{good}
 use Rattle.equation.specs.Parsed.{relationFrom}
 use Rattle.equation.specs.Tree.{Tree}
 use Rattle.equation.specs.Tree as tree
@@ -20,12 +19,6 @@ unfoldable pub formulaOf : Tree → Formula
 formulaOf (tree.leaf k r) = relation r
 formulaOf (tree.both a b) = both (formulaOf a) (formulaOf b)
 formulaOf (tree.either a b) = either (formulaOf a) (formulaOf b)
-
--- a formula's relations and connectives in postfix order
-unfoldable pub symbolsOf : Formula → List Symbol
-symbolsOf (relation r) = rel r ∷ []
-symbolsOf (both a b) = symbolsOf a ++ (symbolsOf b ++ and ∷ [])
-symbolsOf (either a b) = symbolsOf a ++ (symbolsOf b ++ or ∷ [])
 
 -- the text of a formula that stands as a whole (0), as a left operand of AND (1) or as a right one (2), and how deep brackets are nested in it
 unfoldable pub textAt : ℕ → Formula → List ℕ

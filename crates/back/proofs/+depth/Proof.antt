@@ -35,10 +35,17 @@ depth-mul-s : (t : ℕ) → depth-lts.Need-mul-s (depth-calls t) (depth-at t) de
 depth-mul-s t c = omega (arith, formulas.step-in (c .before .pre .1 .0) (c .before .args .steps .now) (c .before .args .e) (c .before .pre .1 .1))
 
 depth-shared-slice-read-s : (t : ℕ) → depth-lts.Need-shared-slice-read-s (depth-calls t) (depth-at t) depth.Post
-depth-shared-slice-read-s t c = omega (arith, formulas.step-in (c .before .before .pre .1 .0) (c .before .before .args .steps .now) (c .before .before .args .e) (c .before .before .pre .1 .1))
+depth-shared-slice-read-s t c =
+    omega (
+      arith,
+      formulas.step-in (c .before .before .pre .1 .0) (c .before .before .args .steps .now) (c .before .before .args .e) (c .before .before .pre .1 .1),
+    )
 
 depth-returns : (t : ℕ) → depth-lts.Need-returns (depth-calls t) (depth-at t) depth.Post
-depth-returns t c = λ bytes w. formulas.relation-deep bytes (c .before .before .before .args .steps .now) (c .before .before .before .args .e) w (getD (c .before .before .before .args .steps .now) (c .before .before .before .args .e - 1) 0) refl (c .if1 .taken) (c .before .before .before .args .level)
+depth-returns t c =
+    λ bytes w. formulas.relation-deep bytes (c .before .before .before .args .steps .now) (c .before .before .before .args .e) w
+    (getD (c .before .before .before .args .steps .now) (c .before .before .before .args .e - 1) 0) refl (c .if1 .taken)
+    (c .before .before .before .args .level)
 
 depth-binding-requires : (t : ℕ) → depth-lts.Need-binding-requires (depth-calls t) (depth-at t) depth.Post
 depth-binding-requires t c κs = search needs
@@ -47,7 +54,20 @@ depth-add-depth : (t : ℕ) → depth-lts.Need-add-depth (depth-calls t) (depth-
 depth-add-depth t c = omega (arith, c .binding .ensures .1)
 
 depth-depth-requires : (t : ℕ) → depth-lts.Need-depth-requires (depth-calls t) (depth-at t) depth.Post
-depth-depth-requires t c κs = (omega (arith, c .before .before .before .before .pre .0, formulas.some-step (c .before .before .before .before .pre .1 .0) (c .before .before .before .before .args .steps .now) (c .before .before .before .before .args .e) (c .before .before .before .before .pre .1 .1)), (c .before .before .before .before .pre .1 .0, formulas.right (c .before .before .before .before .pre .1 .0) (c .before .before .before .before .args .steps .now) (c .before .before .before .before .args .e) (c .before .before .before .before .pre .1 .1) (getD (c .before .before .before .before .args .steps .now) (c .before .before .before .before .args .e - 1) 0) refl (c .before .if1 .left)))
+depth-depth-requires t c κs = (
+  omega (
+    arith,
+    c .before .before .before .before .pre .0,
+    formulas.some-step (c .before .before .before .before .pre .1 .0) (c .before .before .before .before .args .steps .now)
+        (c .before .before .before .before .args .e) (c .before .before .before .before .pre .1 .1),
+  ),
+  (
+    c .before .before .before .before .pre .1 .0,
+    formulas.right (c .before .before .before .before .pre .1 .0) (c .before .before .before .before .args .steps .now)
+        (c .before .before .before .before .args .e) (c .before .before .before .before .pre .1 .1)
+        (getD (c .before .before .before .before .args .steps .now) (c .before .before .before .before .args .e - 1) 0) refl (c .before .if1 .left),
+  ),
+)
 
 depth-depth-requires-2 : (t : ℕ) → depth-lts.Need-depth-requires-2 (depth-calls t) (depth-at t) depth.Post
 depth-depth-requires-2 t c κs =

@@ -34,13 +34,18 @@ put-decimal-add-put : (t : ℕ) → put-decimal-lts.Need-add-put (put-decimal-ca
 put-decimal-add-put t c = omega (arith, c .if1 .taken)
 
 put-decimal-put-requires : (t : ℕ) → put-decimal-lts.Need-put-requires (put-decimal-calls t) (put-decimal-at t) put-decimal.Post
-put-decimal-put-requires t c κs = pieces.decimal-some (c .before .before .before .args .v) (c .before .before .before .args .n) (c .before .before .before .args .out .now) (c .before .before .before .pre .1)
+put-decimal-put-requires t c κs =
+    pieces.decimal-some (c .before .before .before .args .v) (c .before .before .before .args .n) (c .before .before .before .args .out .now)
+    (c .before .before .before .pre .1)
 
 put-decimal-same-length : (t : ℕ) → put-decimal-lts.Need-same-length (put-decimal-calls t) (put-decimal-at t) put-decimal.Post
 put-decimal-same-length t c = c .before .before .put .kept .1 .0
 
 put-decimal-returns : (t : ℕ) → put-decimal-lts.Need-returns (put-decimal-calls t) (put-decimal-at t) put-decimal.Post
-put-decimal-returns t c = pieces.decimal-one (c .before .before .before .before .before .before .args .v) (c .before .before .before .before .before .before .args .n) (c .before .before .before .before .before .before .args .out .now) (c .before .before .before .before .if1 .taken) (c .before .before .put .result) (c .before .before .put .last .1 .0) (c .before .before .put .ensures)
+put-decimal-returns t c =
+    pieces.decimal-one (c .before .before .before .before .before .before .args .v) (c .before .before .before .before .before .before .args .n)
+    (c .before .before .before .before .before .before .args .out .now) (c .before .before .before .before .if1 .taken) (c .before .before .put .result)
+    (c .before .before .put .last .1 .0) (c .before .before .put .ensures)
 
 put-decimal-cast-put-2 : (t : ℕ) → put-decimal-lts.Need-cast-put-2 (put-decimal-calls t) (put-decimal-at t) put-decimal.Post
 put-decimal-cast-put-2 t c = omega arith
@@ -49,10 +54,18 @@ put-decimal-add-put-2 : (t : ℕ) → put-decimal-lts.Need-add-put-2 (put-decima
 put-decimal-add-put-2 t c = omega arith
 
 put-decimal-put-requires-2 : (t : ℕ) → put-decimal-lts.Need-put-requires-2 (put-decimal-calls t) (put-decimal-at t) put-decimal.Post
-put-decimal-put-requires-2 t c κs = pieces.decimal-some (c .before .before .before .args .v) (c .before .before .before .args .n) (c .before .before .before .args .out .now) (c .before .before .before .pre .1)
+put-decimal-put-requires-2 t c κs =
+    pieces.decimal-some (c .before .before .before .args .v) (c .before .before .before .args .n) (c .before .before .before .args .out .now)
+    (c .before .before .before .pre .1)
 
 put-decimal-put-decimal-requires : (t : ℕ) → put-decimal-lts.Need-put-decimal-requires (put-decimal-calls t) (put-decimal-at t) put-decimal.Post
-put-decimal-put-decimal-requires t c κs = (omega (arith, c .before .before .before .before .before .before .before .pre .0, c .before .before .before .before .before .if1 .left), pieces.decimal-left (c .before .before .before .before .before .before .before .args .v) (c .before .before .before .before .before .before .before .args .n) (c .before .before .before .before .before .before .before .args .out .now) (c .before .before .before .before .before .if1 .left) (c .before .before .before .put2 .result) (c .before .before .before .put2 .last .1 .0) (c .before .before .before .put2 .ensures) (c .before .before .before .before .before .before .before .pre .1))
+put-decimal-put-decimal-requires t c κs = (
+  omega (arith, c .before .before .before .before .before .before .before .pre .0, c .before .before .before .before .before .if1 .left),
+  pieces.decimal-left (c .before .before .before .before .before .before .before .args .v)
+      (c .before .before .before .before .before .before .before .args .n) (c .before .before .before .before .before .before .before .args .out .now)
+      (c .before .before .before .before .before .if1 .left) (c .before .before .before .put2 .result) (c .before .before .before .put2 .last .1 .0)
+      (c .before .before .before .put2 .ensures) (c .before .before .before .before .before .before .before .pre .1),
+)
 
 put-decimal-same-length-2 : (t : ℕ) → put-decimal-lts.Need-same-length-2 (put-decimal-calls t) (put-decimal-at t) put-decimal.Post
 put-decimal-same-length-2 t c = c .before .before .put-decimal .kept .1 .0 ∙ c .before .before .before .before .before .before .put2 .kept .1 .0

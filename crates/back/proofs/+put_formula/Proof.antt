@@ -31,16 +31,44 @@ put-formula-below t =
 
 -- what the function is told of those that it calls
 abbrev put-formula-calls : ℕ → put-formula-lts.Claims
-put-formula-calls t = (put-relation-reads.Asked, put-relation-reads.Learnt, binding-reads.Asked, binding-reads.Learnt, put-closing-reads.Asked, put-closing-reads.Learnt, put-formula-below t, put-formula.Post, put-connective-reads.Asked, put-connective-reads.Learnt, put-opening-reads.Asked, put-opening-reads.Learnt)
+put-formula-calls t = (
+  put-relation-reads.Asked,
+  put-relation-reads.Learnt,
+  binding-reads.Asked,
+  binding-reads.Learnt,
+  put-closing-reads.Asked,
+  put-closing-reads.Learnt,
+  put-formula-below t,
+  put-formula.Post,
+  put-connective-reads.Asked,
+  put-connective-reads.Learnt,
+  put-opening-reads.Asked,
+  put-opening-reads.Learnt,
+)
 
 put-formula-sub-i : (t : ℕ) → put-formula-lts.Need-sub-i (put-formula-calls t) (put-formula-at t) put-formula.Post
-put-formula-sub-i t c = omega (arith, formulas.some-step (c .before .before .before .args .bytes .now) (c .before .before .before .args .steps .now) (c .before .before .before .args .e) (c .before .before .before .pre .1 .ready))
+put-formula-sub-i t c =
+    omega (
+      arith,
+      formulas.some-step (c .before .before .before .args .bytes .now) (c .before .before .before .args .steps .now) (c .before .before .before .args .e)
+          (c .before .before .before .pre .1 .ready),
+    )
 
 put-formula-mul-s : (t : ℕ) → put-formula-lts.Need-mul-s (put-formula-calls t) (put-formula-at t) put-formula.Post
-put-formula-mul-s t c = omega (arith, formulas.step-in (c .before .before .before .args .bytes .now) (c .before .before .before .args .steps .now) (c .before .before .before .args .e) (c .before .before .before .pre .1 .ready))
+put-formula-mul-s t c =
+    omega (
+      arith,
+      formulas.step-in (c .before .before .before .args .bytes .now) (c .before .before .before .args .steps .now) (c .before .before .before .args .e)
+          (c .before .before .before .pre .1 .ready),
+    )
 
 put-formula-shared-slice-read-s : (t : ℕ) → put-formula-lts.Need-shared-slice-read-s (put-formula-calls t) (put-formula-at t) put-formula.Post
-put-formula-shared-slice-read-s t c = omega (arith, formulas.step-in (c .before .before .before .before .args .bytes .now) (c .before .before .before .before .args .steps .now) (c .before .before .before .before .args .e) (c .before .before .before .before .pre .1 .ready))
+put-formula-shared-slice-read-s t c =
+    omega (
+      arith,
+      formulas.step-in (c .before .before .before .before .args .bytes .now) (c .before .before .before .before .args .steps .now)
+          (c .before .before .before .before .args .e) (c .before .before .before .before .pre .1 .ready),
+    )
 
 put-formula-cast-put-relation : (t : ℕ) → put-formula-lts.Need-cast-put-relation (put-formula-calls t) (put-formula-at t) put-formula.Post
 put-formula-cast-put-relation t c = omega (arith, c .if1 .taken)
@@ -106,8 +134,11 @@ put-formula-put-connective-requires t c κs =
 
 put-formula-put-formula-requires-2 : (t : ℕ) → put-formula-lts.Need-put-formula-requires-2 (put-formula-calls t) (put-formula-at t) put-formula.Post
 put-formula-put-formula-requires-2 t c κs =
-    let the-pre = c .before .before .before .before .before .before .before .before .before .before .before .before .before .before .before .before .before .before .before .pre in
-    let a = c .before .before .before .before .before .before .before .before .before .before .before .before .before .before .before .before .before .before .before .args in
+    let the-pre =
+    c .before .before .before .before .before .before .before .before .before .before .before .before .before .before .before .before .before .before .before
+    .pre in
+    let a = c .before .before .before .before .before .before .before .before .before .before .before .before .before .before .before .before .before .before
+    .before .args in
     let the-binding = c .before .before .before .before .before .before .before .before .before .before .before .before .before .binding in
     let the-put-closing = c .before .before .before .before .before .before .before .before .before .before .before .put-closing in
     let the-put-formula = c .before .before .before .before .before .before .before .put-formula in
@@ -131,35 +162,53 @@ put-formula-put-formula-requires-2 t c κs =
 
 put-formula-put-opening-requires : (t : ℕ) → put-formula-lts.Need-put-opening-requires (put-formula-calls t) (put-formula-at t) put-formula.Post
 put-formula-put-opening-requires t c κs =
-    let a = c .before .before .before .before .before .before .before .before .before .before .before .before .before .before .before .before .before .before .before .before .before .before .before .args in
-    let the-binding = c .before .before .before .before .before .before .before .before .before .before .before .before .before .before .before .before .before .binding in
-    let the-put-closing = c .before .before .before .before .before .before .before .before .before .before .before .before .before .before .before .put-closing in
+    let a = c .before .before .before .before .before .before .before .before .before .before .before .before .before .before .before .before .before .before
+    .before .before .before .before .before .args in
+    let the-binding =
+    c .before .before .before .before .before .before .before .before .before .before .before .before .before .before .before .before .before .binding in
+    let the-put-closing =
+    c .before .before .before .before .before .before .before .before .before .before .before .before .before .before .before .put-closing in
     let the-put-formula = c .before .before .before .before .before .before .before .before .before .before .before .put-formula in
     let the-put-connective = c .before .before .before .before .before .before .before .put-connective in
     let the-put-formula2 = c .before .before .before .put-formula2 in
     formulas.opening-room (a .bytes .now) (a .steps .now) (a .e) (a .level) (a .n)
-    (c .before .before .before .before .before .before .before .before .before .before .before .before .before .before .before .before .before .before .before .before .before .before .before .pre .1)
+    (c .before .before .before .before .before .before .before .before .before .before .before .before .before .before .before .before .before .before .before
+    .before .before .before .before .pre .1)
     (getD (a .steps .now)
-    (a .e - 1) 0) refl (c .before .before .before .before .before .before .before .before .before .before .before .before .before .before .before .before .before .before .if1 .left)
+    (a .e - 1) 0) refl
+    (c .before .before .before .before .before .before .before .before .before .before .before .before .before .before .before .before .before .before .if1
+    .left)
     (the-binding .result) (the-binding .ensures .0) (a .out .now) (the-put-closing .result) (the-put-closing .last .1 .1 .0) (the-put-closing .ensures)
     (the-put-formula .result) (the-put-formula .last .1 .1 .1 .1 .0) (the-put-formula .ensures) (the-put-connective .result)
     (the-put-connective .last .1 .0) (the-put-connective .ensures) (the-put-formula2 .result) (the-put-formula2 .last .1 .1 .1 .1 .0)
     (the-put-formula2 .ensures)
 
 put-formula-same-length-2 : (t : ℕ) → put-formula-lts.Need-same-length-2 (put-formula-calls t) (put-formula-at t) put-formula.Post
-put-formula-same-length-2 t c = c .before .before .put-opening .kept .1 .1 .0 ∙ c .before .before .before .before .before .before .put-formula2 .kept .1 .1 .1 .1 .0 ∙ c .before .before .before .before .before .before .before .before .before .before .put-connective .kept .1 .0 ∙ c .before .before .before .before .before .before .before .before .before .before .before .before .before .before .put-formula .kept .1 .1 .1 .1 .0 ∙ c .before .before .before .before .before .before .before .before .before .before .before .before .before .before .before .before .before .before .put-closing .kept .1 .1 .0
+put-formula-same-length-2 t c = c .before .before .put-opening .kept .1 .1 .0
+    ∙ c .before .before .before .before .before .before .put-formula2 .kept .1 .1 .1 .1 .0
+    ∙ c .before .before .before .before .before .before .before .before .before .before .put-connective .kept .1 .0
+    ∙ c .before .before .before .before .before .before .before .before .before .before .before .before .before .before .put-formula .kept .1 .1 .1 .1 .0
+    ∙ c .before .before .before .before .before .before .before .before .before .before .before .before .before .before .before .before .before .before
+    .put-closing .kept .1 .1 .0
 
 put-formula-returns-2 : (t : ℕ) → put-formula-lts.Need-returns-2 (put-formula-calls t) (put-formula-at t) put-formula.Post
 put-formula-returns-2 t c =
-    let a = c .before .before .before .before .before .before .before .before .before .before .before .before .before .before .before .before .before .before .before .before .before .before .before .before .before .before .args in
-    let the-binding = c .before .before .before .before .before .before .before .before .before .before .before .before .before .before .before .before .before .before .before .before .binding in
-    let the-put-closing = c .before .before .before .before .before .before .before .before .before .before .before .before .before .before .before .before .before .before .put-closing in
+    let a = c .before .before .before .before .before .before .before .before .before .before .before .before .before .before .before .before .before .before
+    .before .before .before .before .before .before .before .before .args in
+    let the-binding =
+    c .before .before .before .before .before .before .before .before .before .before .before .before .before .before .before .before .before .before .before
+    .before .binding in
+    let the-put-closing =
+    c .before .before .before .before .before .before .before .before .before .before .before .before .before .before .before .before .before .before
+    .put-closing in
     let the-put-formula = c .before .before .before .before .before .before .before .before .before .before .before .before .before .before .put-formula in
     let the-put-connective = c .before .before .before .before .before .before .before .before .before .before .put-connective in
     let the-put-formula2 = c .before .before .before .before .before .before .put-formula2 in
     let the-put-opening = c .before .before .put-opening in
     λ w. formulas.both-wrote (a .bytes .now) (a .steps .now) (a .e) (a .level) (a .n) w (getD (a .steps .now)
-    (a .e - 1) 0) refl (c .before .before .before .before .before .before .before .before .before .before .before .before .before .before .before .before .before .before .before .before .before .if1 .left)
+    (a .e - 1) 0) refl
+    (c .before .before .before .before .before .before .before .before .before .before .before .before .before .before .before .before .before .before .before
+    .before .before .if1 .left)
     (the-binding .result) (the-binding .ensures .0) (a .out .now) (the-put-closing .result) (the-put-closing .last .1 .1 .0) (the-put-closing .ensures)
     (the-put-formula .result) (the-put-formula .last .1 .1 .1 .1 .0) (the-put-formula .ensures) (the-put-connective .result)
     (the-put-connective .last .1 .0) (the-put-connective .ensures) (the-put-formula2 .result) (the-put-formula2 .last .1 .1 .1 .1 .0)

@@ -13,10 +13,17 @@ size-unmarked-requires : tie.Need-size-unmarked-requires
 size-unmarked-requires c κs = search needs
 
 returns : tie.Need-returns
-returns c = λ w. replies.answer-mark (w .formula) (length (c .before .before .before .before .before .args .bytes .now)) (length (unmarked (c .before .before .before .before .before .args .bytes .now))) (c .before .before .before .before .before .args .out .now) (omega (arith, c .before .size-unmarked .ensures, c .if1 .taken))
+returns c =
+    λ w. replies.answer-mark (w .formula) (length (c .before .before .before .before .before .args .bytes .now))
+    (length (unmarked (c .before .before .before .before .before .args .bytes .now))) (c .before .before .before .before .before .args .out .now)
+    (omega (arith, c .before .size-unmarked .ensures, c .if1 .taken))
 
 depth-requires : tie.Need-depth-requires
-depth-requires c κs = (c .before .before .before .before .before .args .bytes .now, formulas.all-ready (c .before .before .before .before .before .args .bytes .now) (c .before .before .before .before .before .args .steps .now) (c .before .before .before .before .before .pre))
+depth-requires c κs = (
+  c .before .before .before .before .before .args .bytes .now,
+  formulas.all-ready (c .before .before .before .before .before .args .bytes .now) (c .before .before .before .before .before .args .steps .now)
+      (c .before .before .before .before .before .pre),
+)
 
 returns-2 : tie.Need-returns-2
 returns-2 c =

@@ -10,19 +10,52 @@ slice-aggregate-put-formula : tie.Need-slice-aggregate-put-formula
 slice-aggregate-put-formula c = search needs
 
 put-formula-requires : tie.Need-put-formula-requires
-put-formula-requires c κs = formulas.all-room (c .before .before .before .before .args .bytes .now) (c .before .before .before .before .args .steps .now) (c .before .before .before .before .pre .0) (c .before .before .before .before .pre .1)
+put-formula-requires c κs =
+    formulas.all-room (c .before .before .before .before .args .bytes .now) (c .before .before .before .before .args .steps .now)
+    (c .before .before .before .before .pre .0) (c .before .before .before .before .pre .1)
 
 sub-size : tie.Need-sub-size
-sub-size c = omega (arith, replies.start-within (c .before .before .before .before .before .before .args .bytes .now) (c .before .before .before .before .before .before .args .steps .now) (c .before .before .before .before .before .before .args .out .now) (c .before .before .before .before .before .before .pre .0) (c .before .before .before .before .before .before .pre .1) (c .before .put-formula .result) (c .before .put-formula .last .1 .1 .1 .1 .0) (c .before .put-formula .ensures))
+sub-size c =
+    omega (
+      arith,
+      replies.start-within (c .before .before .before .before .before .before .args .bytes .now)
+          (c .before .before .before .before .before .before .args .steps .now) (c .before .before .before .before .before .before .args .out .now)
+          (c .before .before .before .before .before .before .pre .0) (c .before .before .before .before .before .before .pre .1)
+          (c .before .put-formula .result)
+          (c .before .put-formula .last .1 .1 .1 .1 .0) (c .before .put-formula .ensures),
+    )
 
 returns : tie.Need-returns
-returns c = λ w. replies.deliver-short (c .before .before .before .before .before .before .before .args .bytes .now) (c .before .before .before .before .before .before .before .args .steps .now) (c .before .before .before .before .before .before .before .args .out .now) w (c .before .before .before .before .before .before .before .pre .1) (c .before .before .put-formula .result) (c .before .before .put-formula .last .1 .1 .1 .1 .0) (c .before .before .put-formula .ensures) (c .if1 .taken)
+returns c =
+    λ w. replies.deliver-short (c .before .before .before .before .before .before .before .args .bytes .now)
+    (c .before .before .before .before .before .before .before .args .steps .now) (c .before .before .before .before .before .before .before .args .out .now) w
+    (c .before .before .before .before .before .before .before .pre .1) (c .before .before .put-formula .result)
+    (c .before .before .put-formula .last .1 .1 .1 .1 .0) (c .before .before .put-formula .ensures) (c .if1 .taken)
 
 sub-store : tie.Need-sub-store
-sub-store c = omega (arith, replies.start-within (c .before .before .before .before .before .before .before .before .args .bytes .now) (c .before .before .before .before .before .before .before .before .args .steps .now) (c .before .before .before .before .before .before .before .before .args .out .now) (c .before .before .before .before .before .before .before .before .pre .0) (c .before .before .before .before .before .before .before .before .pre .1) (c .before .before .before .put-formula .result) (c .before .before .before .put-formula .last .1 .1 .1 .1 .0) (c .before .before .before .put-formula .ensures))
+sub-store c =
+    omega (
+      arith,
+      replies.start-within (c .before .before .before .before .before .before .before .before .args .bytes .now)
+          (c .before .before .before .before .before .before .before .before .args .steps .now)
+          (c .before .before .before .before .before .before .before .before .args .out .now)
+          (c .before .before .before .before .before .before .before .before .pre .0)
+          (c .before .before .before .before .before .before .before .before .pre .1)
+          (c .before .before .before .put-formula .result) (c .before .before .before .put-formula .last .1 .1 .1 .1 .0)
+          (c .before .before .before .put-formula .ensures),
+    )
 
 part-store-start : tie.Need-part-store-start
-part-store-start c = omega (arith, replies.start-within (c .before .before .before .before .before .before .before .before .before .args .bytes .now) (c .before .before .before .before .before .before .before .before .before .args .steps .now) (c .before .before .before .before .before .before .before .before .before .args .out .now) (c .before .before .before .before .before .before .before .before .before .pre .0) (c .before .before .before .before .before .before .before .before .before .pre .1) (c .before .before .before .before .put-formula .result) (c .before .before .before .before .put-formula .last .1 .1 .1 .1 .0) (c .before .before .before .before .put-formula .ensures))
+part-store-start c =
+    omega (
+      arith,
+      replies.start-within (c .before .before .before .before .before .before .before .before .before .args .bytes .now)
+          (c .before .before .before .before .before .before .before .before .before .args .steps .now)
+          (c .before .before .before .before .before .before .before .before .before .args .out .now)
+          (c .before .before .before .before .before .before .before .before .before .pre .0)
+          (c .before .before .before .before .before .before .before .before .before .pre .1) (c .before .before .before .before .put-formula .result)
+          (c .before .before .before .before .put-formula .last .1 .1 .1 .1 .0) (c .before .before .before .before .put-formula .ensures),
+    )
 
 part-store-end : tie.Need-part-store-end
 part-store-end c = search needs

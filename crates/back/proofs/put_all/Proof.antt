@@ -35,10 +35,15 @@ loop-again c =
     (the-put .result) (the-put .last .1 .0) (the-put .ensures)
 
 same-length : tie.Need-same-length Inv-loop μ-loop
-same-length c = pieces.piece-length (drop (c .before .loop .i) (c .before .before .before .before .args .s .now)) (c .before .before .before .before .args .n) (c .before .loop .k) (c .before .before .before .before .args .out .now) (c .before .loop .out) (c .before .loop .inv .piece)
+same-length c =
+    pieces.piece-length (drop (c .before .loop .i) (c .before .before .before .before .args .s .now)) (c .before .before .before .before .args .n)
+    (c .before .loop .k) (c .before .before .before .before .args .out .now) (c .before .loop .out) (c .before .loop .inv .piece)
 
 returns : tie.Need-returns Inv-loop μ-loop
-returns c = pieces.put-end (c .before .before .before .before .args .s .now) (c .before .before .before .before .args .n) (c .before .before .before .before .args .out .now) (c .before .loop .out) (c .before .loop .i) (c .before .loop .k) (c .before .loop .inv) (c .loop-test .left)
+returns c =
+    pieces.put-end (c .before .before .before .before .args .s .now) (c .before .before .before .before .args .n)
+    (c .before .before .before .before .args .out .now) (c .before .loop .out) (c .before .loop .i) (c .before .loop .k) (c .before .loop .inv)
+    (c .loop-test .left)
 
 pub put-all-spec : {M : Type 1} → statement M
 put-all-spec =

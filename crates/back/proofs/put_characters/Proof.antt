@@ -22,7 +22,10 @@ shared-slice-read-put-character : tie.Need-shared-slice-read-put-character Inv-l
 shared-slice-read-put-character c = omega (arith, c .before .loop-test .taken, c .before .before .loop .inv .within)
 
 put-character-requires : tie.Need-put-character-requires Inv-loop μ-loop
-put-character-requires c κs = pieces.quote-room (c .before .before .before .before .before .before .args .s .now) (c .before .before .before .before .before .before .args .n) (c .before .before .before .before .before .before .args .out .now) (c .before .before .before .loop .out) (c .before .before .before .loop .i) (c .before .before .before .loop .k) (c .before .before .before .loop .inv) (c .before .before .loop-test .taken)
+put-character-requires c κs =
+    pieces.quote-room (c .before .before .before .before .before .before .args .s .now) (c .before .before .before .before .before .before .args .n)
+    (c .before .before .before .before .before .before .args .out .now) (c .before .before .before .loop .out) (c .before .before .before .loop .i)
+    (c .before .before .before .loop .k) (c .before .before .before .loop .inv) (c .before .before .loop-test .taken)
 
 loop-less : tie.Need-loop-less Inv-loop μ-loop
 loop-less c = omega (arith, c .before .before .before .before .before .loop-test .taken)
@@ -36,10 +39,15 @@ loop-again c =
     (the-put-character .result) (the-put-character .last .1 .0) (the-put-character .ensures)
 
 same-length : tie.Need-same-length Inv-loop μ-loop
-same-length c = pieces.piece-length (quoted (drop (c .before .loop .i) (c .before .before .before .before .args .s .now))) (c .before .before .before .before .args .n) (c .before .loop .k) (c .before .before .before .before .args .out .now) (c .before .loop .out) (c .before .loop .inv .piece)
+same-length c =
+    pieces.piece-length (quoted (drop (c .before .loop .i) (c .before .before .before .before .args .s .now))) (c .before .before .before .before .args .n)
+    (c .before .loop .k) (c .before .before .before .before .args .out .now) (c .before .loop .out) (c .before .loop .inv .piece)
 
 returns : tie.Need-returns Inv-loop μ-loop
-returns c = pieces.quote-end (c .before .before .before .before .args .s .now) (c .before .before .before .before .args .n) (c .before .before .before .before .args .out .now) (c .before .loop .out) (c .before .loop .i) (c .before .loop .k) (c .before .loop .inv) (c .loop-test .left)
+returns c =
+    pieces.quote-end (c .before .before .before .before .args .s .now) (c .before .before .before .before .args .n)
+    (c .before .before .before .before .args .out .now) (c .before .loop .out) (c .before .loop .i) (c .before .loop .k) (c .before .loop .inv)
+    (c .loop-test .left)
 
 pub put-characters-spec : {M : Type 1} → statement M
 put-characters-spec =

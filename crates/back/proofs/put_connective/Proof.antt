@@ -14,7 +14,9 @@ same-length : tie.Need-same-length
 same-length c = search needs
 
 returns : tie.Need-returns
-returns c = rw (← parts.connective-and (c .before .before .before .before .before .before .before .args .p) (c .before .before .before .before .before .if1 .taken)) (c .before .before .put-all .ensures)
+returns c =
+    rw (← parts.connective-and (c .before .before .before .before .before .before .before .args .p) (c .before .before .before .before .before .if1 .taken))
+    (c .before .before .put-all .ensures)
 
 slice-aggregate-put-all-2 : tie.Need-slice-aggregate-put-all-2
 slice-aggregate-put-all-2 c = search needs
@@ -26,7 +28,9 @@ same-length-2 : tie.Need-same-length-2
 same-length-2 c = search needs
 
 returns-2 : tie.Need-returns-2
-returns-2 c = rw (← parts.connective-or (c .before .before .before .before .before .before .before .args .p) (c .before .before .before .before .before .if1 .left)) (c .before .before .put-all2 .ensures)
+returns-2 c =
+    rw (← parts.connective-or (c .before .before .before .before .before .before .before .args .p) (c .before .before .before .before .before .if1 .left))
+    (c .before .before .put-all2 .ensures)
 
 pub put-connective-spec : {M : Type 1} → statement M
 put-connective-spec =

@@ -15,13 +15,29 @@ cast-put-hex : tie.Need-cast-put-hex
 cast-put-hex c = search needs
 
 put-hex-requires : tie.Need-put-hex-requires
-put-hex-requires c κs = omega (arith, c .before .before .before .before .pre, ap length (parts.item-coded (c .before .before .before .before .args .id) (c .before .before .row-of .result) (c .before .before .row-of .ensures) (omega arith) (c .before .if1 .taken)))
+put-hex-requires c κs =
+    omega (
+      arith,
+      c .before .before .before .before .pre,
+      ap length
+          (parts.item-coded (c .before .before .before .before .args .id) (c .before .before .row-of .result) (c .before .before .row-of .ensures) (omega arith)
+          (c .before .if1 .taken)),
+    )
 
 cast-put-hex-2 : tie.Need-cast-put-hex-2
 cast-put-hex-2 c = search needs
 
 put-hex-requires-2 : tie.Need-put-hex-requires-2
-put-hex-requires-2 c κs = omega (arith, c .before .before .before .before .before .before .before .before .pre, ap length (parts.item-coded (c .before .before .before .before .before .before .before .before .args .id) (c .before .before .before .before .before .before .row-of .result) (c .before .before .before .before .before .before .row-of .ensures) (omega arith) (c .before .before .before .before .before .if1 .taken)), c .before .before .before .put-hex .ensures .place)
+put-hex-requires-2 c κs =
+    omega (
+      arith,
+      c .before .before .before .before .before .before .before .before .pre,
+      ap length
+          (parts.item-coded (c .before .before .before .before .before .before .before .before .args .id)
+          (c .before .before .before .before .before .before .row-of .result) (c .before .before .before .before .before .before .row-of .ensures) (omega arith)
+          (c .before .before .before .before .before .if1 .taken)),
+      c .before .before .before .put-hex .ensures .place,
+    )
 
 put-requires : tie.Need-put-requires
 put-requires c κs =
@@ -51,19 +67,32 @@ returns c =
     (the-put-hex2 .ensures) (the-put .ensures)
 
 array-share-prefix-letters : tie.Need-array-share-prefix-letters
-array-share-prefix-letters c = parts.letters-within (c .before .before .before .before .args .id) (c .before .before .row-of .result) (c .before .before .row-of .ensures)
+array-share-prefix-letters c =
+    parts.letters-within (c .before .before .before .before .args .id) (c .before .before .row-of .result) (c .before .before .row-of .ensures)
 
 slice-aggregate-put-all : tie.Need-slice-aggregate-put-all
-slice-aggregate-put-all c = parts.letters-length (c .before .before .before .before .before .args .id) (c .before .before .before .row-of .result) (c .before .before .before .row-of .ensures)
+slice-aggregate-put-all c =
+    parts.letters-length (c .before .before .before .before .before .args .id) (c .before .before .before .row-of .result)
+    (c .before .before .before .row-of .ensures)
 
 put-all-requires : tie.Need-put-all-requires
-put-all-requires c κs = omega (arith, c .before .before .before .before .before .before .pre, ap length (parts.item-named (c .before .before .before .before .before .before .args .id) (c .before .before .before .before .row-of .result) (c .before .before .before .before .row-of .ensures) (c .before .before .before .if1 .left)))
+put-all-requires c κs =
+    omega (
+      arith,
+      c .before .before .before .before .before .before .pre,
+      ap length
+          (parts.item-named (c .before .before .before .before .before .before .args .id) (c .before .before .before .before .row-of .result)
+          (c .before .before .before .before .row-of .ensures) (c .before .before .before .if1 .left)),
+    )
 
 same-length-2 : tie.Need-same-length-2
 same-length-2 c = search needs
 
 returns-2 : tie.Need-returns-2
-returns-2 c = rw (← parts.item-named (c .before .before .before .before .before .before .before .before .before .args .id) (c .before .before .before .before .before .before .before .row-of .result) (c .before .before .before .before .before .before .before .row-of .ensures) (c .before .before .before .before .before .before .if1 .left)) (c .before .before .put-all .ensures)
+returns-2 c =
+    rw (← parts.item-named (c .before .before .before .before .before .before .before .before .before .args .id)
+    (c .before .before .before .before .before .before .before .row-of .result) (c .before .before .before .before .before .before .before .row-of .ensures)
+    (c .before .before .before .before .before .before .if1 .left)) (c .before .before .put-all .ensures)
 
 pub put-item-spec : {M : Type 1} → statement M
 put-item-spec =

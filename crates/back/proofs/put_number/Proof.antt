@@ -19,22 +19,48 @@ cast-if1 : tie.Need-cast-if1
 cast-if1 c = search needs
 
 put-decimal-requires : tie.Need-put-decimal-requires
-put-decimal-requires c κs = omega (arith, c .before .before .before .before .before .before .pre .1, ap length (parts.number-plain (c .before .before .before .before .before .before .args .id) (length (c .before .before .before .before .before .before .args .s .now)) (c .before .before .before .value .result) (number (c .before .before .before .before .before .before .args .s .now)) (c .before .before .taken-width .result) (c .before .before .before .value .ensures) (c .before .before .taken-width .ensures) (c .before .if1 .taken)))
+put-decimal-requires c κs =
+    omega (
+      arith,
+      c .before .before .before .before .before .before .pre .1,
+      ap length
+          (parts.number-plain (c .before .before .before .before .before .before .args .id)
+          (length (c .before .before .before .before .before .before .args .s .now))
+          (c .before .before .before .value .result) (number (c .before .before .before .before .before .before .args .s .now))
+          (c .before .before .taken-width .result) (c .before .before .before .value .ensures) (c .before .before .taken-width .ensures)
+          (c .before .if1 .taken)),
+    )
 
 same-length : tie.Need-same-length
 same-length c = search needs
 
 returns : tie.Need-returns
-returns c = rw (parts.number-plain (c .before .before .before .before .before .before .before .before .before .args .id) (length (c .before .before .before .before .before .before .before .before .before .args .s .now)) (c .before .before .before .before .before .before .value .result) (number (c .before .before .before .before .before .before .before .before .before .args .s .now)) (c .before .before .before .before .before .taken-width .result) (c .before .before .before .before .before .before .value .ensures) (c .before .before .before .before .before .taken-width .ensures) (c .before .before .before .before .if1 .taken)) (c .before .before .put-decimal .ensures)
+returns c =
+    rw (parts.number-plain (c .before .before .before .before .before .before .before .before .before .args .id)
+    (length (c .before .before .before .before .before .before .before .before .before .args .s .now))
+    (c .before .before .before .before .before .before .value .result)
+    (number (c .before .before .before .before .before .before .before .before .before .args .s .now))
+    (c .before .before .before .before .before .taken-width .result) (c .before .before .before .before .before .before .value .ensures)
+    (c .before .before .before .before .before .taken-width .ensures) (c .before .before .before .before .if1 .taken)) (c .before .before .put-decimal .ensures)
 
 cast-put : tie.Need-cast-put
-cast-put c = omega (arith, parts.width-small (length (c .before .before .before .before .before .args .s .now)) (c .before .before .before .before .before .pre .0))
+cast-put c =
+    omega (arith, parts.width-small (length (c .before .before .before .before .before .args .s .now)) (c .before .before .before .before .before .pre .0))
 
 add-put : tie.Need-add-put
-add-put c = omega (arith, parts.width-small (length (c .before .before .before .before .before .args .s .now)) (c .before .before .before .before .before .pre .0))
+add-put c =
+    omega (arith, parts.width-small (length (c .before .before .before .before .before .args .s .now)) (c .before .before .before .before .before .pre .0))
 
 put-requires : tie.Need-put-requires
-put-requires c κs = omega (arith, c .before .before .before .before .before .before .pre .1, parts.sized-length (c .before .before .before .before .before .before .args .id) (length (c .before .before .before .before .before .before .args .s .now)) (c .before .before .before .value .result) (number (c .before .before .before .before .before .before .args .s .now)) (c .before .before .taken-width .result) (c .before .before .before .value .ensures) (c .before .before .taken-width .ensures) (c .before .if1 .left))
+put-requires c κs =
+    omega (
+      arith,
+      c .before .before .before .before .before .before .pre .1,
+      parts.sized-length (c .before .before .before .before .before .before .args .id)
+          (length (c .before .before .before .before .before .before .args .s .now))
+          (c .before .before .before .value .result) (number (c .before .before .before .before .before .before .args .s .now))
+          (c .before .before .taken-width .result) (c .before .before .before .value .ensures) (c .before .before .taken-width .ensures) (c .before .if1 .left),
+    )
 
 put-requires-2 : tie.Need-put-requires-2
 put-requires-2 c κs =

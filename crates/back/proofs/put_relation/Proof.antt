@@ -47,7 +47,12 @@ part-put-constant-end : tie.Need-part-put-constant-end
 part-put-constant-end c = search needs
 
 put-constant-requires : tie.Need-put-constant-requires
-put-constant-requires c κs = pieces.constant-asked (c .before .before .before .before .before .before .before .before .before .args .bytes .now) (c .before .before .before .before .before .before .before .before .before .args .at) (c .before .before .before .number16 .result) (c .before .before .before .before .before .before .before .before .before .args .n) (c .before .before .before .before .before .before .before .before .before .pre .0) (c .before .before .before .number16 .ensures) (c .before .before .before .before .before .before .before .before .before .pre .1)
+put-constant-requires c κs =
+    pieces.constant-asked (c .before .before .before .before .before .before .before .before .before .args .bytes .now)
+    (c .before .before .before .before .before .before .before .before .before .args .at) (c .before .before .before .number16 .result)
+    (c .before .before .before .before .before .before .before .before .before .args .n)
+    (c .before .before .before .before .before .before .before .before .before .pre .0) (c .before .before .before .number16 .ensures)
+    (c .before .before .before .before .before .before .before .before .before .pre .1)
 
 put-requires : tie.Need-put-requires
 put-requires c κs =
@@ -61,7 +66,8 @@ put-requires c κs =
 put-operator-requires : tie.Need-put-operator-requires
 put-operator-requires c κs =
     let a = c .before .before .before .before .before .before .before .before .before .before .before .before .before .before .before .before .before .args in
-    let the-pre = c .before .before .before .before .before .before .before .before .before .before .before .before .before .before .before .before .before .pre in
+    let the-pre =
+    c .before .before .before .before .before .before .before .before .before .before .before .before .before .before .before .before .before .pre in
     let the-number16 = c .before .before .before .before .before .before .before .before .before .before .before .number16 in
     let the-put-constant = c .before .before .before .before .before .before .before .put-constant in
     let the-put = c .before .before .before .put in
@@ -70,8 +76,11 @@ put-operator-requires c κs =
 
 put-requires-2 : tie.Need-put-requires-2
 put-requires-2 c κs =
-    let a = c .before .before .before .before .before .before .before .before .before .before .before .before .before .before .before .before .before .before .before .before .before .args in
-    let the-pre = c .before .before .before .before .before .before .before .before .before .before .before .before .before .before .before .before .before .before .before .before .before .pre in
+    let a = c .before .before .before .before .before .before .before .before .before .before .before .before .before .before .before .before .before .before
+    .before .before .before .args in
+    let the-pre =
+    c .before .before .before .before .before .before .before .before .before .before .before .before .before .before .before .before .before .before .before
+    .before .before .pre in
     let the-number16 = c .before .before .before .before .before .before .before .before .before .before .before .before .before .before .before .number16 in
     let the-put-constant = c .before .before .before .before .before .before .before .before .before .before .before .put-constant in
     let the-put = c .before .before .before .before .before .before .before .put in
@@ -82,10 +91,16 @@ put-requires-2 c κs =
 
 put-item-requires : tie.Need-put-item-requires
 put-item-requires c κs =
-    let a = c .before .before .before .before .before .before .before .before .before .before .before .before .before .before .before .before .before .before .before .before .before .before .before .before .before .args in
-    let the-pre = c .before .before .before .before .before .before .before .before .before .before .before .before .before .before .before .before .before .before .before .before .before .before .before .before .before .pre in
-    let the-number16 = c .before .before .before .before .before .before .before .before .before .before .before .before .before .before .before .before .before .before .before .number16 in
-    let the-put-constant = c .before .before .before .before .before .before .before .before .before .before .before .before .before .before .before .put-constant in
+    let a = c .before .before .before .before .before .before .before .before .before .before .before .before .before .before .before .before .before .before
+    .before .before .before .before .before .before .before .args in
+    let the-pre =
+    c .before .before .before .before .before .before .before .before .before .before .before .before .before .before .before .before .before .before .before
+    .before .before .before .before .before .before .pre in
+    let the-number16 =
+    c .before .before .before .before .before .before .before .before .before .before .before .before .before .before .before .before .before .before .before
+    .number16 in
+    let the-put-constant =
+    c .before .before .before .before .before .before .before .before .before .before .before .before .before .before .before .put-constant in
     let the-put = c .before .before .before .before .before .before .before .before .before .before .before .put in
     let the-put-operator = c .before .before .before .before .before .before .before .put-operator in
     let the-put2 = c .before .before .before .put2 in
@@ -98,10 +113,17 @@ same-length c = search needs
 
 returns : tie.Need-returns
 returns c =
-    let a = c .before .before .before .before .before .before .before .before .before .before .before .before .before .before .before .before .before .before .before .before .before .before .before .before .before .before .before .before .args in
-    let the-pre = c .before .before .before .before .before .before .before .before .before .before .before .before .before .before .before .before .before .before .before .before .before .before .before .before .before .before .before .before .pre in
-    let the-number16 = c .before .before .before .before .before .before .before .before .before .before .before .before .before .before .before .before .before .before .before .before .before .before .number16 in
-    let the-put-constant = c .before .before .before .before .before .before .before .before .before .before .before .before .before .before .before .before .before .before .put-constant in
+    let a = c .before .before .before .before .before .before .before .before .before .before .before .before .before .before .before .before .before .before
+    .before .before .before .before .before .before .before .before .before .before .args in
+    let the-pre =
+    c .before .before .before .before .before .before .before .before .before .before .before .before .before .before .before .before .before .before .before
+    .before .before .before .before .before .before .before .before .before .pre in
+    let the-number16 =
+    c .before .before .before .before .before .before .before .before .before .before .before .before .before .before .before .before .before .before .before
+    .before .before .before .number16 in
+    let the-put-constant =
+    c .before .before .before .before .before .before .before .before .before .before .before .before .before .before .before .before .before .before
+    .put-constant in
     let the-put = c .before .before .before .before .before .before .before .before .before .before .before .before .before .before .put in
     let the-put-operator = c .before .before .before .before .before .before .before .before .before .before .put-operator in
     let the-put2 = c .before .before .before .before .before .before .put2 in

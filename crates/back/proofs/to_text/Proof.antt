@@ -17,10 +17,18 @@ part-answered-start : tie.Need-part-answered-start
 part-answered-start c = search needs
 
 part-answered-end : tie.Need-part-answered-end
-part-answered-end c = replies.count-within (c .before .before .before .before .before .before .before .before .args .bytes .now) (c .before .before .before .before .parse .last .1 .0) (c .before .before .before .before .parse .result) (λ j. c .before .before .before .before .before .before .before .shared-slice-known .given j .fits) (c .before .before .before .before .parse .ensures) (c .before .if1 .taken)
+part-answered-end c =
+    replies.count-within (c .before .before .before .before .before .before .before .before .args .bytes .now)
+    (c .before .before .before .before .parse .last .1 .0) (c .before .before .before .before .parse .result)
+    (λ j. c .before .before .before .before .before .before .before .shared-slice-known .given j .fits) (c .before .before .before .before .parse .ensures)
+    (c .before .if1 .taken)
 
 answered-requires : tie.Need-answered-requires
-answered-requires c κs = replies.part-accepted (c .before .before .before .before .before .before .before .before .before .before .args .bytes .now) (c .before .before .before .before .before .before .parse .last .1 .0) (c .before .before .before .before .before .before .parse .result) (λ j. c .before .before .before .before .before .before .before .before .before .shared-slice-known .given j .fits) (c .before .before .before .before .before .before .parse .ensures) (c .before .before .before .if1 .taken)
+answered-requires c κs =
+    replies.part-accepted (c .before .before .before .before .before .before .before .before .before .before .args .bytes .now)
+    (c .before .before .before .before .before .before .parse .last .1 .0) (c .before .before .before .before .before .before .parse .result)
+    (λ j. c .before .before .before .before .before .before .before .before .before .shared-slice-known .given j .fits)
+    (c .before .before .before .before .before .before .parse .ensures) (c .before .before .before .if1 .taken)
 
 same-length : tie.Need-same-length
 same-length c = search needs
@@ -36,7 +44,10 @@ returns c =
     (the-answered .ensures)
 
 returns-2 : tie.Need-returns-2
-returns-2 c = replies.refused-answer (c .before .before .before .before .before .before .before .args .bytes .now) (c .before .before .before .parse .last .1 .0) (c .before .before .before .parse .result) (λ j. c .before .before .before .before .before .before .shared-slice-known .given j .fits) (c .before .before .before .parse .ensures) (c .if1 .left) (c .before .before .before .before .before .before .before .args .out .now)
+returns-2 c =
+    replies.refused-answer (c .before .before .before .before .before .before .before .args .bytes .now) (c .before .before .before .parse .last .1 .0)
+    (c .before .before .before .parse .result) (λ j. c .before .before .before .before .before .before .shared-slice-known .given j .fits)
+    (c .before .before .before .parse .ensures) (c .if1 .left) (c .before .before .before .before .before .before .before .args .out .now)
 
 pub to-text-spec : {M : Type 1} → statement M
 to-text-spec =

@@ -32,22 +32,47 @@ returns-2 : tie.Need-returns-2
 returns-2 c = c .number16 .ensures ∙ parts.two-bytes (c .before .before .before .before .before .before .args .s .now) (c .before .before .before .if2 .taken)
 
 shared-slice-read-number32 : tie.Need-shared-slice-read-number32
-shared-slice-read-number32 c = omega (arith, parts.four-left (length (c .before .before .before .before .args .s .now)) (c .before .before .before .before .pre) (c .before .before .if1 .left) (c .before .if2 .left))
+shared-slice-read-number32 c =
+    omega (
+      arith,
+      parts.four-left (length (c .before .before .before .before .args .s .now)) (c .before .before .before .before .pre) (c .before .before .if1 .left)
+          (c .before .if2 .left),
+    )
 
 shared-slice-read-number32-2 : tie.Need-shared-slice-read-number32-2
-shared-slice-read-number32-2 c = omega (arith, parts.four-left (length (c .before .before .before .before .before .args .s .now)) (c .before .before .before .before .before .pre) (c .before .before .before .if1 .left) (c .before .before .if2 .left))
+shared-slice-read-number32-2 c =
+    omega (
+      arith,
+      parts.four-left (length (c .before .before .before .before .before .args .s .now)) (c .before .before .before .before .before .pre)
+          (c .before .before .before .if1 .left) (c .before .before .if2 .left),
+    )
 
 shared-slice-read-number32-3 : tie.Need-shared-slice-read-number32-3
-shared-slice-read-number32-3 c = omega (arith, parts.four-left (length (c .before .before .before .before .before .before .args .s .now)) (c .before .before .before .before .before .before .pre) (c .before .before .before .before .if1 .left) (c .before .before .before .if2 .left))
+shared-slice-read-number32-3 c =
+    omega (
+      arith,
+      parts.four-left (length (c .before .before .before .before .before .before .args .s .now)) (c .before .before .before .before .before .before .pre)
+          (c .before .before .before .before .if1 .left) (c .before .before .before .if2 .left),
+    )
 
 shared-slice-read-number32-4 : tie.Need-shared-slice-read-number32-4
-shared-slice-read-number32-4 c = omega (arith, parts.four-left (length (c .before .before .before .before .before .before .before .args .s .now)) (c .before .before .before .before .before .before .before .pre) (c .before .before .before .before .before .if1 .left) (c .before .before .before .before .if2 .left))
+shared-slice-read-number32-4 c =
+    omega (
+      arith,
+      parts.four-left (length (c .before .before .before .before .before .before .before .args .s .now))
+          (c .before .before .before .before .before .before .before .pre) (c .before .before .before .before .before .if1 .left)
+          (c .before .before .before .before .if2 .left),
+    )
 
 number32-requires : tie.Need-number32-requires
 number32-requires c κs = search needs
 
 returns-3 : tie.Need-returns-3
-returns-3 c = c .number32 .ensures ∙ parts.four-bytes (c .before .before .before .before .before .before .before .before .args .s .now) (parts.four-left (length (c .before .before .before .before .before .before .before .before .args .s .now)) (c .before .before .before .before .before .before .before .before .pre) (c .before .before .before .before .before .before .if1 .left) (c .before .before .before .before .before .if2 .left))
+returns-3 c = c .number32 .ensures
+    ∙ parts.four-bytes (c .before .before .before .before .before .before .before .before .args .s .now)
+    (parts.four-left (length (c .before .before .before .before .before .before .before .before .args .s .now))
+    (c .before .before .before .before .before .before .before .before .pre) (c .before .before .before .before .before .before .if1 .left)
+    (c .before .before .before .before .before .if2 .left))
 
 pub value-spec : {M : Type 1} → statement M
 value-spec =

@@ -35,7 +35,10 @@ returns : tie.Need-returns
 unfolding bytesOf
 returns c =
     let a = c .before .before .before .before .before .before .before .before .before .before .before .args in
-    laws.text-first (a .line .now) (a .text .now) (sym (c .before .before .before .before .before .before .before .begins .ensures) ∙ c .before .before .before .before .before .before .if1 .taken) _ _ (c .before .before .reply-to-text .result) (take-all (length (a .line .now) - 5) (drop 5 (a .line .now)) (omega (arith, length-drop 5 (a .line .now)))) (c .before .before .reply-to-text .ensures)
+    laws.text-first (a .line .now) (a .text .now)
+    (sym (c .before .before .before .before .before .before .before .begins .ensures) ∙ c .before .before .before .before .before .before .if1 .taken) _ _
+    (c .before .before .reply-to-text .result) (take-all (length (a .line .now) - 5) (drop 5 (a .line .now)) (omega (arith, length-drop 5 (a .line .now))))
+    (c .before .before .reply-to-text .ensures)
 
 returns-2 : tie.Need-returns-2
 unfolding bytesOf
@@ -68,19 +71,27 @@ returns-3 : tie.Need-returns-3
 unfolding bytesOf
 returns-3 c =
     let a = c .before .before .before .before .before .before .before .before .before .before .before .before .before .before .args in
-    laws.bytes-first (a .line .now) (a .text .now) (sym (c .before .before .before .before .before .before .before .before .before .before .begins .ensures) ∙ c .before .before .before .before .before .before .before .before .before .if1 .left) (sym (c .before .before .before .before .before .before .before .begins2 .ensures) ∙ c .before .before .before .before .before .before .if3 .taken) _ _ (c .before .before .reply-to-hex .result) (take-all (length (a .line .now) - 6) (drop 6 (a .line .now)) (omega (arith, length-drop 6 (a .line .now)))) (c .before .before .reply-to-hex .ensures)
+    laws.bytes-first (a .line .now) (a .text .now)
+    (sym (c .before .before .before .before .before .before .before .before .before .before .begins .ensures)
+    ∙ c .before .before .before .before .before .before .before .before .before .if1 .left)
+    (sym (c .before .before .before .before .before .before .before .begins2 .ensures) ∙ c .before .before .before .before .before .before .if3 .taken) _ _
+    (c .before .before .reply-to-hex .result) (take-all (length (a .line .now) - 6) (drop 6 (a .line .now)) (omega (arith, length-drop 6 (a .line .now))))
+    (c .before .before .reply-to-hex .ensures)
 
 returns-4 : tie.Need-returns-4
 unfolding bytesOf
 returns-4 c =
     let a = c .before .before .before .before .before .before .before .before .before .args in
-    laws.bytes-short (a .line .now) (a .text .now) (sym (c .before .before .before .before .before .begins .ensures) ∙ c .before .before .before .before .if1 .left) (sym (c .before .before .begins2 .ensures) ∙ c .before .if3 .taken) (c .if4 .left)
+    laws.bytes-short (a .line .now) (a .text .now)
+    (sym (c .before .before .before .before .before .begins .ensures) ∙ c .before .before .before .before .if1 .left)
+    (sym (c .before .before .begins2 .ensures) ∙ c .before .if3 .taken) (c .if4 .left)
 
 returns-5 : tie.Need-returns-5
 unfolding bytesOf
 returns-5 c =
     let a = c .before .before .before .before .before .before .before .before .args in
-    laws.no-word (a .line .now) (a .text .now) (sym (c .before .before .before .before .begins .ensures) ∙ c .before .before .before .if1 .left) (sym (c .before .begins2 .ensures) ∙ c .if3 .left)
+    laws.no-word (a .line .now) (a .text .now) (sym (c .before .before .before .before .begins .ensures) ∙ c .before .before .before .if1 .left)
+    (sym (c .before .begins2 .ensures) ∙ c .if3 .left)
 
 pub answer-line-spec : {M : Type 1} → statement M
 answer-line-spec =

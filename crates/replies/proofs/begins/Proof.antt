@@ -40,14 +40,18 @@ loop-less c = omega arith
 loop-again : tie.Need-loop-again Inv-loop μ-loop
 loop-again c =
     let a = c .before .before .before .before .before .before .args in
-    let l = c .before .before .before .before .before .loop in
-    (omega arith, laws.begins-more (a .line .now) (a .word .now) (l .i) (c .before .before .before .before .loop-test .taken) (c .before .before .before .if1 .left) (c .if2 .taken) (l .inv .1))
+    let l = c .before .before .before .before .before .loop in (
+      omega arith,
+      laws.begins-more (a .line .now) (a .word .now) (l .i) (c .before .before .before .before .loop-test .taken) (c .before .before .before .if1 .left)
+          (c .if2 .taken) (l .inv .1),
+    )
 
 returns-2 : tie.Need-returns-2 Inv-loop μ-loop
 returns-2 c =
     let a = c .before .before .before .before .before .before .args in
     let l = c .before .before .before .before .before .loop in
-    laws.begins-other (a .line .now) (a .word .now) (l .i) (c .before .before .before .before .loop-test .taken) (c .before .before .before .if1 .left) (c .if2 .left) (l .inv .1)
+    laws.begins-other (a .line .now) (a .word .now) (l .i) (c .before .before .before .before .loop-test .taken) (c .before .before .before .if1 .left)
+    (c .if2 .left) (l .inv .1)
 
 returns-3 : tie.Need-returns-3 Inv-loop μ-loop
 returns-3 c =

@@ -39,8 +39,12 @@ returns c =
     let a = c .before .before .before .before .before .before .before .before .before .before .before .before .before .before .before .before .args in
     let p = c .before .before .before .before .before .before .before .before .before .before .before .push in
     let q = c .before .before .before .before .before .before .before .push-hex in
-    let r = c .before .before .push2 in
-    (laws.size (a .out .now) (p .last .0) (q .last .0) (r .last .0) (bytesOf "bytes\t") (hexOf (a .bytes .now)) (10 ∷ []) (p .result) (q .result) (r .result) (p .ensures .0) (p .ensures .1) (q .ensures .0 ∙ rw (hex-length (a .bytes .now))) (q .ensures .1) (r .ensures .0) (r .ensures .1), laws.pieces (a .out .now) (p .last .0) (q .last .0) (r .last .0) (bytesOf "bytes\t") (hexOf (a .bytes .now)) (10 ∷ []) (p .result) (q .result) (r .result) (p .ensures .0) (p .ensures .1) (q .ensures .0 ∙ rw (hex-length (a .bytes .now))) (q .ensures .1) (r .ensures .0) (r .ensures .1))
+    let r = c .before .before .push2 in (
+      laws.size (a .out .now) (p .last .0) (q .last .0) (r .last .0) (bytesOf "bytes\t") (hexOf (a .bytes .now)) (10 ∷ []) (p .result) (q .result) (r .result)
+          (p .ensures .0) (p .ensures .1) (q .ensures .0 ∙ rw (hex-length (a .bytes .now))) (q .ensures .1) (r .ensures .0) (r .ensures .1),
+      laws.pieces (a .out .now) (p .last .0) (q .last .0) (r .last .0) (bytesOf "bytes\t") (hexOf (a .bytes .now)) (10 ∷ []) (p .result) (q .result) (r .result)
+          (p .ensures .0) (p .ensures .1) (q .ensures .0 ∙ rw (hex-length (a .bytes .now))) (q .ensures .1) (r .ensures .0) (r .ensures .1),
+    )
 
 pub bytes-line-spec : {M : Type 1} → statement M
 bytes-line-spec =

@@ -25,13 +25,48 @@ enum-known-a : tie.Need-enum-known-a
 enum-known-a c = search needs
 
 array-share-prefix-text : tie.Need-array-share-prefix-text
-array-share-prefix-text c = omega (arith, said.text-fits (c .before .before .before .before .before .before .before .before .args .equation .now) (c .before .before .before .before .to-text .result) (c .before .a .given .0 .0) (c .before .before .before .before .to-text .last .1 .0) (c .before .before .before .before .to-text .ensures) (c .before .a .given .1), c .before .before .before .before .to-text .kept .1 .0)
+array-share-prefix-text c =
+    omega (
+      arith,
+      said.text-fits (c .before .before .before .before .before .before .before .before .args .equation .now)
+          (c .before .before .before .before .to-text .result)
+          (c .before .a .given .0 .0) (c .before .before .before .before .to-text .last .1 .0) (c .before .before .before .before .to-text .ensures)
+          (c .before .a .given .1),
+      c .before .before .before .before .to-text .kept .1 .0,
+    )
 
 slice-aggregate-text-line : tie.Need-slice-aggregate-text-line
-slice-aggregate-text-line c = sym (length-take-le (c .before .before .a .given .0 .0) (c .before .before .before .before .before .to-text .last .1 .0) (omega (arith, said.text-fits (c .before .before .before .before .before .before .before .before .before .args .equation .now) (c .before .before .before .before .before .to-text .result) (c .before .before .a .given .0 .0) (c .before .before .before .before .before .to-text .last .1 .0) (c .before .before .before .before .before .to-text .ensures) (c .before .before .a .given .1), c .before .before .before .before .before .to-text .kept .1 .0)))
+slice-aggregate-text-line c =
+    sym (length-take-le (c .before .before .a .given .0 .0) (c .before .before .before .before .before .to-text .last .1 .0)
+    (omega (
+      arith,
+      said.text-fits (c .before .before .before .before .before .before .before .before .before .args .equation .now)
+          (c .before .before .before .before .before .to-text .result) (c .before .before .a .given .0 .0)
+          (c .before .before .before .before .before .to-text .last .1 .0) (c .before .before .before .before .before .to-text .ensures)
+          (c .before .before .a .given .1),
+      c .before .before .before .before .before .to-text .kept .1 .0,
+    )))
 
 text-line-requires : tie.Need-text-line-requires
-text-line-requires c κs = (omega (arith, said.text-fits (c .before .before .before .before .before .before .before .before .before .before .args .equation .now) (c .before .before .before .before .before .before .to-text .result) (c .before .before .before .a .given .0 .0) (c .before .before .before .before .before .before .to-text .last .1 .0) (c .before .before .before .before .before .before .to-text .ensures) (c .before .before .before .a .given .1), length-take-le (c .before .before .before .a .given .0 .0) (c .before .before .before .before .before .before .to-text .last .1 .0) (omega (arith, said.text-fits (c .before .before .before .before .before .before .before .before .before .before .args .equation .now) (c .before .before .before .before .before .before .to-text .result) (c .before .before .before .a .given .0 .0) (c .before .before .before .before .before .before .to-text .last .1 .0) (c .before .before .before .before .before .before .to-text .ensures) (c .before .before .before .a .given .1), c .before .before .before .before .before .before .to-text .kept .1 .0))), c .before .before .before .before .before .before .before .before .before .before .pre)
+text-line-requires c κs = (
+  omega (
+    arith,
+    said.text-fits (c .before .before .before .before .before .before .before .before .before .before .args .equation .now)
+        (c .before .before .before .before .before .before .to-text .result) (c .before .before .before .a .given .0 .0)
+        (c .before .before .before .before .before .before .to-text .last .1 .0) (c .before .before .before .before .before .before .to-text .ensures)
+        (c .before .before .before .a .given .1),
+    length-take-le (c .before .before .before .a .given .0 .0) (c .before .before .before .before .before .before .to-text .last .1 .0)
+        (omega (
+          arith,
+          said.text-fits (c .before .before .before .before .before .before .before .before .before .before .args .equation .now)
+              (c .before .before .before .before .before .before .to-text .result) (c .before .before .before .a .given .0 .0)
+              (c .before .before .before .before .before .before .to-text .last .1 .0) (c .before .before .before .before .before .before .to-text .ensures)
+              (c .before .before .before .a .given .1),
+          c .before .before .before .before .before .before .to-text .kept .1 .0,
+        )),
+  ),
+  c .before .before .before .before .before .before .before .before .before .before .pre,
+)
 
 enum-known-a-2 : tie.Need-enum-known-a-2
 enum-known-a-2 c = search needs
@@ -71,35 +106,60 @@ same-length c = search needs
 
 returns : tie.Need-returns
 unfolding toldOf bytesOf
-returns c = rw (said.told-as (c .before .before .before .before .before .before .before .before .before .before .before .before .before .args .equation .now) (c .before .before .before .before .before .before .before .before .before .to-text .result) _ (c .before .before .before .before .before .before .before .before .before .to-text .last .1 .0) (c .before .before .before .before .before .before .before .before .before .to-text .ensures) (c .before .before .before .before .before .before .a .given .1)) (c .before .before .text-line .ensures .0, c .before .before .text-line .ensures .1)
+returns c =
+    rw (said.told-as (c .before .before .before .before .before .before .before .before .before .before .before .before .before .args .equation .now)
+    (c .before .before .before .before .before .before .before .before .before .to-text .result) _
+    (c .before .before .before .before .before .before .before .before .before .to-text .last .1 .0)
+    (c .before .before .before .before .before .before .before .before .before .to-text .ensures)
+    (c .before .before .before .before .before .before .a .given .1)) (c .before .before .text-line .ensures .0, c .before .before .text-line .ensures .1)
 
 same-length-2 : tie.Need-same-length-2
 same-length-2 c = search needs
 
 returns-2 : tie.Need-returns-2
 unfolding toldOf bytesOf
-returns-2 c = rw (said.told-as (c .before .before .before .before .before .before .before .before .before .before .before .before .args .equation .now) (c .before .before .before .before .before .before .before .before .to-text .result) _ (c .before .before .before .before .before .before .before .before .to-text .last .1 .0) (c .before .before .before .before .before .before .before .before .to-text .ensures) (c .before .before .before .before .before .a2 .given .1)) (c .before .before .refused-by .ensures .0, c .before .before .refused-by .ensures .1)
+returns-2 c =
+    rw (said.told-as (c .before .before .before .before .before .before .before .before .before .before .before .before .args .equation .now)
+    (c .before .before .before .before .before .before .before .before .to-text .result) _
+    (c .before .before .before .before .before .before .before .before .to-text .last .1 .0)
+    (c .before .before .before .before .before .before .before .before .to-text .ensures) (c .before .before .before .before .before .a2 .given .1))
+    (c .before .before .refused-by .ensures .0, c .before .before .refused-by .ensures .1)
 
 same-length-3 : tie.Need-same-length-3
 same-length-3 c = search needs
 
 returns-3 : tie.Need-returns-3
 unfolding toldOf bytesOf
-returns-3 c = rw (said.told-as (c .before .before .before .before .before .before .before .before .before .before .before .before .args .equation .now) (c .before .before .before .before .before .before .before .before .to-text .result) _ (c .before .before .before .before .before .before .before .before .to-text .last .1 .0) (c .before .before .before .before .before .before .before .before .to-text .ensures) (c .before .before .before .before .before .enum-told .given .1)) (c .before .before .refused-line .ensures .0, c .before .before .refused-line .ensures .1)
+returns-3 c =
+    rw (said.told-as (c .before .before .before .before .before .before .before .before .before .before .before .before .args .equation .now)
+    (c .before .before .before .before .before .before .before .before .to-text .result) _
+    (c .before .before .before .before .before .before .before .before .to-text .last .1 .0)
+    (c .before .before .before .before .before .before .before .before .to-text .ensures) (c .before .before .before .before .before .enum-told .given .1))
+    (c .before .before .refused-line .ensures .0, c .before .before .refused-line .ensures .1)
 
 same-length-4 : tie.Need-same-length-4
 same-length-4 c = search needs
 
 returns-4 : tie.Need-returns-4
 unfolding toldOf bytesOf
-returns-4 c = rw (said.told-as (c .before .before .before .before .before .before .before .before .before .before .before .before .args .equation .now) (c .before .before .before .before .before .before .before .before .to-text .result) _ (c .before .before .before .before .before .before .before .before .to-text .last .1 .0) (c .before .before .before .before .before .before .before .before .to-text .ensures) (c .before .before .before .before .before .enum-told2 .given .1)) (c .before .before .refused-line2 .ensures .0, c .before .before .refused-line2 .ensures .1)
+returns-4 c =
+    rw (said.told-as (c .before .before .before .before .before .before .before .before .before .before .before .before .args .equation .now)
+    (c .before .before .before .before .before .before .before .before .to-text .result) _
+    (c .before .before .before .before .before .before .before .before .to-text .last .1 .0)
+    (c .before .before .before .before .before .before .before .before .to-text .ensures) (c .before .before .before .before .before .enum-told2 .given .1))
+    (c .before .before .refused-line2 .ensures .0, c .before .before .refused-line2 .ensures .1)
 
 same-length-5 : tie.Need-same-length-5
 same-length-5 c = search needs
 
 returns-5 : tie.Need-returns-5
 unfolding toldOf bytesOf
-returns-5 c = rw (said.told-as (c .before .before .before .before .before .before .before .before .before .before .before .before .args .equation .now) (c .before .before .before .before .before .before .before .before .to-text .result) _ (c .before .before .before .before .before .before .before .before .to-text .last .1 .0) (c .before .before .before .before .before .before .before .before .to-text .ensures) (c .before .before .before .before .before .enum-told3 .given .1)) (c .before .before .refused-line3 .ensures .0, c .before .before .refused-line3 .ensures .1)
+returns-5 c =
+    rw (said.told-as (c .before .before .before .before .before .before .before .before .before .before .before .before .args .equation .now)
+    (c .before .before .before .before .before .before .before .before .to-text .result) _
+    (c .before .before .before .before .before .before .before .before .to-text .last .1 .0)
+    (c .before .before .before .before .before .before .before .before .to-text .ensures) (c .before .before .before .before .before .enum-told3 .given .1))
+    (c .before .before .refused-line3 .ensures .0, c .before .before .refused-line3 .ensures .1)
 
 pub equation-line-spec : {M : Type 1} → statement M
 equation-line-spec =

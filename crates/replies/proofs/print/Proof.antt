@@ -30,7 +30,8 @@ returns-2 : tie.Need-returns-2
 returns-2 c =
     let a = c .before .before .before .before .before .before .before .before .args in
     let s = c .before .before .store in
-    laws.print-whole (a .buffer .now) (a .text .now) (s .last .0) (a .n) (c .before .before .before .before .before .before .before .before .pre) (c .before .before .before .before .before .if1 .left) (s .ensures .1)
+    laws.print-whole (a .buffer .now) (a .text .now) (s .last .0) (a .n) (c .before .before .before .before .before .before .before .before .pre)
+    (c .before .before .before .before .before .if1 .left) (s .ensures .1)
 
 pub print-spec : {M : Type 1} → statement M
 print-spec =

@@ -13,7 +13,9 @@ use Rattle.replies.proofs.push_decimal.Statement.{statement}
 use Rattle.replies.proofs.push_decimal.Tie as tie
 
 abbrev Inv-loop : tie.InvT-loop
-Inv-loop out₀ n v digits i₀ rest₀ out i rest = (length out ≡ length out₀) × (i + 1 ≡ n + length (decimalOf rest)) × (n + length (decimalOf rest) ≤ length out₀) × (sets out n (decimalOf rest) ≡ sets out₀ n (decimalOf v))
+Inv-loop out₀ n v digits i₀ rest₀ out i rest =
+    (length out ≡ length out₀) × (i + 1 ≡ n + length (decimalOf rest)) × (n + length (decimalOf rest) ≤ length out₀) ×
+    (sets out n (decimalOf rest) ≡ sets out₀ n (decimalOf v))
 
 abbrev μ-loop : tie.MeasureT-loop
 μ-loop out₀ n v digits i₀ rest₀ out i rest = rest
@@ -48,7 +50,12 @@ loop-less c = omega arith
 loop-again : tie.Need-loop-again Inv-loop μ-loop
 loop-again c =
     let l = c .before .loop in
-    let more = digits-more (l .rest) (omega arith) in let some = digits-some (l .rest / 10) in (simp length-set (omega arith), omega arith, omega arith, decimal-step (l .out) (c .before .before .before .before .args .n) (l .i) (l .rest) _ (omega arith) (omega arith) (l .inv .3))
+    let more = digits-more (l .rest) (omega arith) in let some = digits-some (l .rest / 10) in (
+      simp length-set (omega arith),
+      omega arith,
+      omega arith,
+      decimal-step (l .out) (c .before .before .before .before .args .n) (l .i) (l .rest) _ (omega arith) (omega arith) (l .inv .3),
+    )
 
 cast-out-2 : tie.Need-cast-out-2 Inv-loop μ-loop
 cast-out-2 c = omega arith
@@ -67,8 +74,10 @@ same-length c = simp length-set (omega arith)
 
 returns : tie.Need-returns Inv-loop μ-loop
 returns c =
-    let l = c .before .loop in
-    (rw (c .before .before .width .ensures), decimal-end (l .out) (c .before .before .before .before .args .n) (l .i) (l .rest) _ (omega arith) (omega arith) (l .inv .3))
+    let l = c .before .loop in (
+      rw (c .before .before .width .ensures),
+      decimal-end (l .out) (c .before .before .before .before .args .n) (l .i) (l .rest) _ (omega arith) (omega arith) (l .inv .3),
+    )
 
 pub push-decimal-spec : {M : Type 1} → statement M
 push-decimal-spec =

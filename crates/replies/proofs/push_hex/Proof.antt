@@ -12,7 +12,8 @@ use Rattle.replies.proofs.push_hex.Statement.{statement}
 use Rattle.replies.proofs.push_hex.Tie as tie
 
 abbrev Inv-loop : tie.InvT-loop
-Inv-loop out₀ n bytes to₀ i₀ out to i = (i ≤ length bytes) × (length out ≡ length out₀) × (to ≡ n + 2 * i) × (sets out to (hexOf (drop i bytes)) ≡ sets out₀ n (hexOf bytes))
+Inv-loop out₀ n bytes to₀ i₀ out to i =
+    (i ≤ length bytes) × (length out ≡ length out₀) × (to ≡ n + 2 * i) × (sets out to (hexOf (drop i bytes)) ≡ sets out₀ n (hexOf bytes))
 
 abbrev μ-loop : tie.MeasureT-loop
 μ-loop out₀ n bytes to₀ i₀ out to i = length bytes - i
@@ -49,8 +50,13 @@ loop-less c = omega arith
 
 loop-again : tie.Need-loop-again Inv-loop μ-loop
 loop-again c =
-    let l = c .before .before .before .before .loop in
-    (omega arith, simp length-set (omega arith), omega arith, rw (c .before .hex-digit .ensures, c .hex-digit2 .ensures) (hex-step (l .out) (l .to) (l .i) (c .before .before .before .before .before .before .before .args .bytes .now) _ (omega arith) (l .inv .3)))
+    let l = c .before .before .before .before .loop in (
+      omega arith,
+      simp length-set (omega arith),
+      omega arith,
+      rw (c .before .hex-digit .ensures, c .hex-digit2 .ensures)
+          (hex-step (l .out) (l .to) (l .i) (c .before .before .before .before .before .before .before .args .bytes .now) _ (omega arith) (l .inv .3)),
+    )
 
 same-length : tie.Need-same-length Inv-loop μ-loop
 same-length c = omega arith

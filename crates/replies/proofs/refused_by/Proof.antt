@@ -24,7 +24,14 @@ push-requires c κs = search needs
 push-decimal-requires : tie.Need-push-decimal-requires
 push-decimal-requires c κs =
     let p = c .before .before .before .push in
-    omega (arith, digits-most-8 (c .before .before .before .before .before .before .before .args .number) (omega (arith, c .before .before .before .before .before .before .before .good .0)), p .ensures .0, p .kept .0, c .before .before .before .before .before .before .before .pre)
+    omega (
+      arith,
+      digits-most-8 (c .before .before .before .before .before .before .before .args .number)
+          (omega (arith, c .before .before .before .before .before .before .before .good .0)),
+      p .ensures .0,
+      p .kept .0,
+      c .before .before .before .before .before .before .before .pre,
+    )
 
 slice-aggregate-push-2 : tie.Need-slice-aggregate-push-2
 slice-aggregate-push-2 c = search needs
@@ -33,7 +40,16 @@ push-requires-2 : tie.Need-push-requires-2
 push-requires-2 c κs =
     let p = c .before .before .before .before .before .before .before .before .push in
     let q = c .before .before .before .before .push-decimal in
-    omega (arith, digits-most-8 (c .before .before .before .before .before .before .before .before .before .before .before .before .args .number) (omega (arith, c .before .before .before .before .before .before .before .before .before .before .before .before .good .0)), p .ensures .0, p .kept .0, q .ensures .0, q .kept .0, c .before .before .before .before .before .before .before .before .before .before .before .before .pre)
+    omega (
+      arith,
+      digits-most-8 (c .before .before .before .before .before .before .before .before .before .before .before .before .args .number)
+          (omega (arith, c .before .before .before .before .before .before .before .before .before .before .before .before .good .0)),
+      p .ensures .0,
+      p .kept .0,
+      q .ensures .0,
+      q .kept .0,
+      c .before .before .before .before .before .before .before .before .before .before .before .before .pre,
+    )
 
 same-length : tie.Need-same-length
 same-length c = search needs
@@ -44,8 +60,13 @@ returns c =
     let a = c .before .before .before .before .before .before .before .before .before .before .before .before .before .before .before .args in
     let p = c .before .before .before .before .before .before .before .before .before .before .before .push in
     let q = c .before .before .before .before .before .before .before .push-decimal in
-    let r = c .before .before .push2 in
-    (laws.size (a .out .now) (p .last .0) (q .last .0) (r .last .0) (bytesOf "refused\t") (decimalOf (a .number)) (10 ∷ []) (p .result) (q .result) (r .result) (p .ensures .0) (p .ensures .1) (q .ensures .0) (q .ensures .1) (r .ensures .0) (r .ensures .1), laws.pieces (a .out .now) (p .last .0) (q .last .0) (r .last .0) (bytesOf "refused\t") (decimalOf (a .number)) (10 ∷ []) (p .result) (q .result) (r .result) (p .ensures .0) (p .ensures .1) (q .ensures .0) (q .ensures .1) (r .ensures .0) (r .ensures .1))
+    let r = c .before .before .push2 in (
+      laws.size (a .out .now) (p .last .0) (q .last .0) (r .last .0) (bytesOf "refused\t") (decimalOf (a .number)) (10 ∷ []) (p .result) (q .result) (r .result)
+          (p .ensures .0) (p .ensures .1) (q .ensures .0) (q .ensures .1) (r .ensures .0) (r .ensures .1),
+      laws.pieces (a .out .now) (p .last .0) (q .last .0) (r .last .0) (bytesOf "refused\t") (decimalOf (a .number)) (10 ∷ []) (p .result) (q .result)
+          (r .result)
+          (p .ensures .0) (p .ensures .1) (q .ensures .0) (q .ensures .1) (r .ensures .0) (r .ensures .1),
+    )
 
 pub refused-by-spec : {M : Type 1} → statement M
 refused-by-spec =

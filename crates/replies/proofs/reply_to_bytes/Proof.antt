@@ -23,7 +23,13 @@ print-requires : tie.Need-print-requires
 print-requires c κs =
     let b = c .before .before .before .before .before .blank-line in
     let p = c .before .before .before .equation-line in
-    omega (arith, p .ensures .0, p .kept .1 .0, b .ensures, said.told-fits (c .before .before .before .before .before .before .before .before .args .equation .now))
+    omega (
+      arith,
+      p .ensures .0,
+      p .kept .1 .0,
+      b .ensures,
+      said.told-fits (c .before .before .before .before .before .before .before .before .args .equation .now),
+    )
 
 same-length : tie.Need-same-length
 same-length c = search needs
@@ -33,7 +39,14 @@ returns c =
     let b = c .before .before .before .before .before .before .before .before .blank-line in
     let p = c .before .before .before .before .before .before .equation-line in
     let q = c .before .before .print in
-    q .ensures ∙ laws.print-line (b .result) _ (p .last .1 .0) (c .before .before .before .before .before .before .before .before .before .before .before .args .text .now) (p .result) (p .ensures .0) (omega (arith, b .ensures, said.told-fits (c .before .before .before .before .before .before .before .before .before .before .before .args .equation .now))) (p .ensures .1)
+    q .ensures
+    ∙ laws.print-line (b .result) _ (p .last .1 .0)
+    (c .before .before .before .before .before .before .before .before .before .before .before .args .text .now) (p .result) (p .ensures .0)
+    (omega (
+      arith,
+      b .ensures,
+      said.told-fits (c .before .before .before .before .before .before .before .before .before .before .before .args .equation .now),
+    )) (p .ensures .1)
 
 pub reply-to-bytes-spec : {M : Type 1} → statement M
 reply-to-bytes-spec =

@@ -23,7 +23,14 @@ print-requires : tie.Need-print-requires
 print-requires c κs =
     let b = c .before .before .before .before .before .blank-line in
     let p = c .before .before .before .paper-line in
-    omega (arith, p .ensures .0, p .kept .1 .0, b .ensures, said.said-fits (c .before .before .before .before .before .before .before .before .args .equation .now) (omega (arith, c .before .before .before .before .before .before .before .before .good .0 .1)))
+    omega (
+      arith,
+      p .ensures .0,
+      p .kept .1 .0,
+      b .ensures,
+      said.said-fits (c .before .before .before .before .before .before .before .before .args .equation .now)
+          (omega (arith, c .before .before .before .before .before .before .before .before .good .0 .1)),
+    )
 
 same-length : tie.Need-same-length
 same-length c = search needs
@@ -33,7 +40,15 @@ returns c =
     let b = c .before .before .before .before .before .before .before .before .blank-line in
     let p = c .before .before .before .before .before .before .paper-line in
     let q = c .before .before .print in
-    q .ensures ∙ laws.print-line (b .result) _ (p .last .1 .0) (c .before .before .before .before .before .before .before .before .before .before .before .args .text .now) (p .result) (p .ensures .0) (omega (arith, b .ensures, said.said-fits (c .before .before .before .before .before .before .before .before .before .before .before .args .equation .now) (omega (arith, c .before .before .before .before .before .before .before .before .before .before .before .good .0 .1)))) (p .ensures .1)
+    q .ensures
+    ∙ laws.print-line (b .result) _ (p .last .1 .0)
+    (c .before .before .before .before .before .before .before .before .before .before .before .args .text .now) (p .result) (p .ensures .0)
+    (omega (
+      arith,
+      b .ensures,
+      said.said-fits (c .before .before .before .before .before .before .before .before .before .before .before .args .equation .now)
+          (omega (arith, c .before .before .before .before .before .before .before .before .before .before .before .good .0 .1)),
+    )) (p .ensures .1)
 
 pub reply-to-text-spec : {M : Type 1} → statement M
 reply-to-text-spec =

@@ -1,12 +1,8 @@
+use borrow.Author.Needs.{needs}
+use Rattle.equations.proofs.progress.write_front.Statement.{statement}
+use Rattle.equations.proofs.progress.write_front.Tie as tie
 use mathlib.Core.Path.{sym}
 use lib.Seq.{length-take-le}
-use borrow.Author.Needs.{needs}
-use Rattle.equations.proofs.write_front.Statement.{statement}
-use Rattle.equations.proofs.write_front.Tie as tie
-use Rattle.equations.proofs.write_front.Reads as reads
-use Rattle.equations.proofs.write_front.Lts as lts
-use Rattle.io.proofs.write_all.Reads as write-all-reads
-use Rattle.input.proofs.parts.least.Reads as least-reads
 
 least-requires : tie.Need-least-requires
 least-requires c κs = search needs
