@@ -4,3 +4,4 @@ pub mod Lost
 pub mod Pages
 pub mod Downloads
 pub mod Refusals
+pub mod Addressed

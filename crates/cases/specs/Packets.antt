@@ -38,6 +38,13 @@ landrover = fileWith 92 1546 (titled (76 ∷ 97 ∷ 110 ∷ 100 ∷ 114 ∷ 111 
 abbrev pub untitled : List ℕ
 untitled = fileWith 83 578 (titled []) []
 
+-- a destination (14h), and the file of 88 bytes with the destinations "A" and "B", in this order
+abbrev pub addressed : List ℕ → List ℕ
+addressed station = 20 ∷ 0 ∷ length station ∷ station
+
+abbrev pub letter : List ℕ
+letter = fileWith 88 727 (addressed (65 ∷ []) ++ addressed (66 ∷ [])) []
+
 -- ---- packets
 
 -- UPLOAD_CMD: the number to continue, or 0, and the length
@@ -77,3 +84,10 @@ titleIs text = 131 ∷ titled text
 
 abbrev pub titleAbove : List ℕ → List ℕ
 titleAbove text = 147 ∷ titled text
+
+-- a destination (14h) equal to a text, and not equal to one
+abbrev pub addressedTo : List ℕ → List ℕ
+addressedTo station = 131 ∷ addressed station
+
+abbrev pub addressedElsewhere : List ℕ → List ℕ
+addressedElsewhere station = 179 ∷ addressed station

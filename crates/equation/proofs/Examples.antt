@@ -32,6 +32,14 @@ file80 =
     ∷ 18 ∷ 0 ∷ 4 ∷ 5 ∷ 0 ∷ 0 ∷ 0
     ∷ 0 ∷ 0 ∷ 0 ∷ []
 
+-- bytes that begin with the items of a letter to two stations: destinations (14h) "A" and "B"
+pub letter : List ℕ
+letter = 170 ∷ 85 ∷ 20 ∷ 0 ∷ 1 ∷ 65 ∷ 20 ∷ 0 ∷ 1 ∷ 66 ∷ 0 ∷ 0 ∷ 0 ∷ []
+
+-- items of id 30h: one of three bytes, which is no number, then the numbers 7 and 9
+pub mixed : List ℕ
+mixed = 170 ∷ 85 ∷ 48 ∷ 0 ∷ 3 ∷ 7 ∷ 0 ∷ 0 ∷ 48 ∷ 0 ∷ 1 ∷ 7 ∷ 48 ∷ 0 ∷ 2 ∷ 9 ∷ 0 ∷ 0 ∷ 0 ∷ 0 ∷ []
+
 times : ℕ → List ℕ → List ℕ
 times zero l = []
 times (suc n) l = l ++ times n l
@@ -79,6 +87,16 @@ table =
     ∷ truth-row (answerOf (176 ∷ 34 ∷ 0 ∷ 1 ∷ 4 ∷ []) file80) No
     ∷ truth-row (answerOf (176 ∷ 2 ∷ 0 ∷ 1 ∷ 4 ∷ []) file80) No
     ∷ truth-row (answerOf (144 ∷ 18 ∷ 0 ∷ 1 ∷ 4 ∷ []) (170 ∷ 84 ∷ [])) No
+    -- 02, A2: "a file to A and B is both equal to A and not equal to A", also in one equation; and it is equal to B, and not to C
+    ∷ truth-row (answerOf (131 ∷ 20 ∷ 0 ∷ 1 ∷ 65 ∷ []) letter) Yes
+    ∷ truth-row (answerOf (179 ∷ 20 ∷ 0 ∷ 1 ∷ 65 ∷ []) letter) Yes
+    ∷ truth-row (answerOf (131 ∷ 20 ∷ 0 ∷ 1 ∷ 65 ∷ 179 ∷ 20 ∷ 0 ∷ 1 ∷ 65 ∷ 1 ∷ []) letter) Yes
+    ∷ truth-row (answerOf (131 ∷ 20 ∷ 0 ∷ 1 ∷ 66 ∷ []) letter) Yes
+    ∷ truth-row (answerOf (131 ∷ 20 ∷ 0 ∷ 1 ∷ 67 ∷ []) letter) No
+    -- an item of the wrong width hinders no other, and meets nothing: 7 is there, 9 is there, nothing is below 7
+    ∷ truth-row (answerOf (128 ∷ 48 ∷ 0 ∷ 1 ∷ 7 ∷ []) mixed) Yes
+    ∷ truth-row (answerOf (128 ∷ 48 ∷ 0 ∷ 4 ∷ 9 ∷ 0 ∷ 0 ∷ 0 ∷ []) mixed) Yes
+    ∷ truth-row (answerOf (160 ∷ 48 ∷ 0 ∷ 1 ∷ 7 ∷ []) mixed) No
     -- 100 results on the stack, and 101
     ∷ truth-row (answerOf (times 100 (179 ∷ 2 ∷ 0 ∷ 0 ∷ []) ++ times 99 (1 ∷ [])) file80) Yes
     ∷ number-row (validityOf (times 101 (179 ∷ 2 ∷ 0 ∷ 0 ∷ []) ++ times 100 (1 ∷ []))) 8
@@ -89,6 +107,48 @@ table =
 
 pub examples : Right table
 unfolding
-    file80 times table lower fits anyTail one matches number headOf after walk marked fieldsOf width compare textMeets numberMeets meets holds starsIn goodText
-    goodNumber good connectiveOf relationAt tokenOf follow symbolsPast pushed joined result bind run parse truth said answer refusal validityOf
-examples = (refl, (refl, (refl, (refl, (refl, (refl, (refl, (refl, (refl, (refl, (refl, (refl, (refl, (refl, (refl, (refl, (refl, (refl, (refl, tt)))))))))))))))))))
+    file80 letter mixed times table lower fits anyTail one matches number headOf after walk marked fieldsOf width compare textMeets numberMeets meets holds
+    starsIn goodText goodNumber good connectiveOf relationAt tokenOf follow symbolsPast pushed joined result bind run parse truth said answer refusal validityOf
+examples = (
+  refl,
+  (
+    refl,
+    (
+      refl,
+      (
+        refl,
+        (
+          refl,
+          (
+            refl,
+            (
+              refl,
+              (
+                refl,
+                (
+                  refl,
+                  (
+                    refl,
+                    (
+                      refl,
+                      (
+                        refl,
+                        (
+                          refl,
+                          (
+                            refl,
+                            (refl, (refl, (refl, (refl, (refl, (refl, (refl, (refl, (refl, (refl, (refl, (refl, (refl, tt))))))))))))),
+                          ),
+                        ),
+                      ),
+                    ),
+                  ),
+                ),
+              ),
+            ),
+          ),
+        ),
+      ),
+    ),
+  ),
+)

@@ -9,7 +9,7 @@ pub mod Settled
 pub mod Runs
 pub mod Parsing
 pub mod Depth
-pub mod First
+pub mod Any
 pub mod Append
 pub mod Examples
 pub mod Selects

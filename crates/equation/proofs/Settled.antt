@@ -1,6 +1,6 @@
 -- What the marks say once every item of a header has been met: each relation's truth on the header. Assumes nothing.
 use mathlib.Core.Path.{_≡_, refl, sym, ap, _∙_}
-use mathlib.Core.Bool.{Bool, true, false, cond}
+use mathlib.Core.Bool.{Bool, true, false, _||_, cond}
 use mathlib.Core.List.{List, [], _∷_, _++_, map}
 use Prim.Native.Nat.{ℕ, zero, suc, _+_, _-_, _≤_, _<_}
 use native.Mathlib.Omega.{arith}
@@ -8,10 +8,8 @@ use native.Mathlib.Numerals.{add-one}
 use lib.Dec.{eqb}
 use lib.ListN.{length, getD, take, drop, replicate}
 use lib.Seq.{drop-drop, getD-drop, take-all}
-use borrow.Author.Tests.{ne-eqb}
 use Rattle.header.specs.Items.{Field, walk, marked, fieldsOf}
-use Rattle.equation.specs.Relation.{meets}
-use Rattle.equation.specs.Holds.{Relation, holds}
+use Rattle.equation.specs.Holds.{Relation, metBy, holds}
 use Rattle.equation.specs.Marks.{markAfter, settled, settledBy, relationsOf, markedTrue}
 use Rattle.equation.specs.Answer.{outcomeOf, answerOn}
 use Rattle.equation.proofs.MarkLaws.{settled-length}
@@ -41,30 +39,28 @@ unfolding settledBy settled
 by-relation [] r rs m ms = refl
 by-relation (x ∷ xs) r rs m ms = by-relation xs r rs (markAfter r x m) (settled x rs ms)
 
--- the first item of an id counts: a mark that is set stays
-after-set : (r : Relation) (x : Field) (m : ℕ) → (m ≡ 0 → ⊥) → markAfter r x m ≡ m
+-- a relation that is met stays so
+pub after-met : (r : Relation) (x : Field) → markAfter r x 1 ≡ 1
 unfolding markAfter
-after-set r x m h = rw (ne-eqb m 0 h)
+after-met r x = go (metBy r x)
+  where
+    go : (met : Bool) → _≡_ {A = ℕ} (cond met 1 1) 1
+    go true = refl
+    go false = refl
 
-pub mark-stays : (xs : List Field) (r : Relation) (m : ℕ) → (m ≡ 0 → ⊥) → markBy xs r m ≡ m
-mark-stays [] r m h = refl
-mark-stays (x ∷ xs) r m h = rw (after-set r x m h) (mark-stays xs r m h)
+pub mark-stays : (xs : List Field) (r : Relation) → markBy xs r 1 ≡ 1
+mark-stays [] r = refl
+mark-stays (x ∷ xs) r = rw (after-met r x) (mark-stays xs r)
 
--- a mark is 2 exactly where the relation holds
-pub mark-holds : (r : Relation) (xs : List Field) → eqb (markBy xs r 0) 2 ≡ holds r xs
+-- a mark is 1 exactly where the relation holds
+pub mark-holds : (r : Relation) (xs : List Field) → eqb (markBy xs r 0) 1 ≡ holds r xs
 unfolding holds
 mark-holds r [] = refl
-mark-holds r (x ∷ xs) = go (mark-holds r xs) (eqb (x .id) (r .id)) refl (meets (r .code) (r .constant) (x .bytes)) refl
+mark-holds r (x ∷ xs) = go (mark-holds r xs) (metBy r x) refl
   where
-    go : eqb (markBy xs r 0) 2 ≡ holds r xs
-        → (same : Bool)
-        → eqb (x .id) (r .id) ≡ same
-        → (met : Bool)
-        → meets (r .code) (r .constant) (x .bytes) ≡ met
-        → eqb (markBy xs r (markAfter r x 0)) 2 ≡ cond same met (holds r xs)
-    go ih false e met f = unfold markAfter in rw e ih
-    go ih true e true f = unfold markAfter in rw (e, f, mark-stays xs r 2 (λ z. omega arith))
-    go ih true e false f = unfold markAfter in rw (e, f, mark-stays xs r 1 (λ z. omega arith))
+    go : eqb (markBy xs r 0) 1 ≡ holds r xs → (met : Bool) → metBy r x ≡ met → eqb (markBy xs r (markAfter r x 0)) 1 ≡ met || holds r xs
+    go ih false e = unfold markAfter in rw e ih
+    go ih true e = unfold markAfter in rw (e, mark-stays xs r)
 
 -- ---- the marks of all relations
 

@@ -1,22 +1,21 @@
 -- The marks of an equation's relations while the items of a header are met one by one: the mark of the relation of number k stands at place k.
--- 0 is not settled, 1 is false, 2 is true. Assumes nothing.
+-- 0 is not met yet, 1 is met. Assumes nothing.
 use mathlib.Core.Bool.{Bool, cond}
 use mathlib.Core.List.{List, [], _∷_}
 use Prim.Native.Nat.{ℕ}
 use lib.Dec.{eqb}
 use lib.ListN.{getD}
 use Rattle.header.specs.Items.{Field}
-use Rattle.equation.specs.Relation.{meets}
-use Rattle.equation.specs.Holds.{Relation}
+use Rattle.equation.specs.Holds.{Relation, metBy}
 use Rattle.equation.specs.Symbols.{symbols, relations}
 
 -- an item of a header, by its id and its bytes
 abbrev pub fieldOf : ℕ → List ℕ → Field
 fieldOf id bytes = record { id = id; bytes = bytes }
 
--- a mark after an item: "The first item with that id counts", so a settled one stays
+-- a mark after an item: an item that does not meet the relation leaves it, so any one that does is enough
 unfoldable pub markAfter : Relation → Field → ℕ → ℕ
-markAfter r x m = cond (eqb m 0) (cond (eqb (x .id) (r .id)) (cond (meets (r .code) (r .constant) (x .bytes)) 2 1) 0) m
+markAfter r x m = cond (metBy r x) 1 m
 
 -- the marks of relations after an item; relations past the last mark have none
 unfoldable pub settled : Field → List Relation → List ℕ → List ℕ
@@ -35,4 +34,4 @@ relationsOf eq = relations (symbols eq)
 
 -- the relation of number k is true by its mark
 abbrev pub markedTrue : List ℕ → ℕ → Bool
-markedTrue ms k = eqb (getD ms k 0) 2
+markedTrue ms k = eqb (getD ms k 0) 1

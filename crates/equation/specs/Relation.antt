@@ -31,7 +31,7 @@ unfoldable pub textMeets : ℕ → List ℕ → List ℕ → Bool
 textMeets operator constant item =
     cond (eqb operator 0) (matches constant item) (cond (eqb operator 3) (not (matches constant item)) false)
 
--- a number's constant and item may differ in width; "for numbers one not 1, 2 or 4 bytes long, makes the relation false (H)"
+-- a number's constant and item may differ in width; an item "not 1, 2 or 4 bytes long" meets no number relation (H)
 unfoldable pub numberMeets : ℕ → List ℕ → List ℕ → Bool
 numberMeets operator constant item =
     cond (width (length constant)) (cond (width (length item)) (compare operator (number item) (number constant)) false) false

@@ -52,25 +52,25 @@ fn meets_at(eq: &[u8], at: usize, item: &[u8]) -> bool
     item_meets(eq[at], &eq[start..end], item)
 }
 
-// The mark of the relation at a place after an item: 0 not settled, 1 false, 2 true.
+// The mark of the relation at a place after an item: 0 not met yet, 1 met. What is met is not looked at again.
 fn mark(m: u8, eq: &[u8], at: usize, id: u16, item: &[u8]) -> u8
     requires { ⌜ at < 2048 ⌝ }
     ensures { λ r. ⌜ r ≡ markAfter (relationFrom (now (eq .entry)) at) (fieldOf id (now (item .entry))) m ⌝ }
 {
-    if m == 0 {
-        let named = numbers::number16(byte_of(eq, at + 1), byte_of(eq, at + 2));
-        if id == named {
-            if meets_at(eq, at, item) {
-                return 2;
-            }
+    if m == 1 {
+        return 1;
+    }
+    let named = numbers::number16(byte_of(eq, at + 1), byte_of(eq, at + 2));
+    if id == named {
+        if meets_at(eq, at, item) {
             return 1;
         }
-        return 0;
+        return m;
     }
     m
 }
 
-// Meets an item of a header: each relation of the steps that names its id and is not settled yet is settled by its bytes.
+// Meets an item of a header: each relation of the steps that names its id and is met by its bytes is marked so.
 // The mark of the relation of number k, from 0, stands at truths[k]; relations past the last mark have none.
 pub fn settle(eq: &[u8], steps: &[u16], id: u16, item: &[u8], truths: &mut [u8])
     ensures { λ r. ⌜ now (truths .exit) ≡ settled (fieldOf id (now (item .entry))) (relationsBy (now (eq .entry)) (now (steps .entry))) (now (truths .entry)) ⌝ }
@@ -97,7 +97,7 @@ fn marked_true(truths: &[u8], k: usize) -> bool
     ensures { λ r. ⌜ r ≡ markedTrue (now (truths .entry)) k ⌝ }
 {
     if k < truths.len() {
-        truths[k] == 2
+        truths[k] == 1
     } else {
         false
     }
@@ -126,7 +126,7 @@ fn finish(d: usize, b: bool) -> Truth
     Truth::Refused(8)
 }
 
-// The truth of an equation by its steps and the marks of its relations, a relation being true exactly when its mark is 2: the postfix run, its
+// The truth of an equation by its steps and the marks of its relations, a relation being true exactly when its mark is 1: the postfix run, its
 // stack in the array st up to depth d.
 pub fn outcome(steps: &[u16], truths: &[u8]) -> Truth
     ensures { λ r. ⌜ r ≡ outcomeBy (now (steps .entry)) (now (truths .entry)) ⌝ }

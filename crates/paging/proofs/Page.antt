@@ -101,7 +101,7 @@ module _ (m : Model) (k : Known m) (eq : List ℕ) (valid : validityOf eq ≡ 0)
       (matching-above t eq q (m .files)
       (λ f inside complete.
       let found = in-find 0 (m .lastNumber) (m .lastTime) (m .files) f (k .sound .numbers) inside in
-      narrowed-selects t (f .time) (fieldsOf (f .bytes)) [] small (omega (arith, k .small, found-low m (k .sound) (f .number) f found .1))
+      narrowed-selects t (f .time) (fieldsOf (f .bytes)) small (omega (arith, k .small, found-low m (k .sound) (f .number) f found .1))
       (k .stamped (f .number) f found complete) eq valid fits))
       ∙ above-by-time t (matching eq (m .files)))
 
