@@ -243,7 +243,7 @@ fn closed_words(packet: Option<&[u8]>) -> &'static str {
         Some(packet) if packet.len() >= 2 => packet,
         _ => return "the server closes the link",
     };
-    let length = usize::from(packet[1] >> 5) << 8 | usize::from(packet[0]);
+    let length = words::announced(packet);
     match packet[1] & 31 {
         _ if length > 256 => "the server closes the link: an announced length above 256",
         18..=31 => "the server closes the link: a type 18 to 31",

@@ -73,7 +73,7 @@ impl<'a> Words<'a> {
     }
 
     /// The next word or text; none at the line's end.
-    pub fn next(&mut self) -> Result<Option<Token>, Fault> {
+    pub fn token(&mut self) -> Result<Option<Token>, Fault> {
         self.column = self.next_column();
         match self.line.get(self.at) {
             None => Ok(None),
@@ -148,7 +148,7 @@ impl<'a> Words<'a> {
 
     /// A word that must be there.
     pub fn word(&mut self, wanted: &str) -> Result<String, Fault> {
-        match self.next()? {
+        match self.token()? {
             Some(Token::Word(word)) => Ok(word),
             Some(Token::Text(_)) => fault(
                 self.column,

@@ -260,6 +260,8 @@
     const rows = mark();
     if (rows.length) inView(rows);
     else document.getElementById("pass").scrollTop = 0;
+    // for who hears the page
+    document.getElementById("told").textContent = steps[now][2].map((row) => (row[0] ? "session " + row[0] + " " : "") + row[2] + " " + row[3]).join("; ");
     document.getElementById("step").value = now;
     document.body.dataset.step = now;
     for (const id of ["begin", "back"]) document.getElementById(id).disabled = now === 0;
@@ -301,7 +303,9 @@
     header.append(bar());
     pass.id = "pass";
     state.id = "state";
-    state.setAttribute("aria-live", "polite");
+    const told = make("p", "", "told");
+    told.id = "told";
+    told.setAttribute("role", "status");
     const heads = make("tr");
     heads.append(make("th", "", "marks"), make("th", "Line", "line"), make("th", "Clock", "clock"));
     for (const lane of lanes) heads.append(make("th", "Session " + lane, "lane"));
@@ -314,7 +318,7 @@
     list.append(top, body);
     pass.append(above, list, below);
     main.append(pass, state);
-    document.body.append(header, main);
+    document.body.append(header, main, told);
     document.addEventListener("keydown", pressed);
     addEventListener("beforeprint", () => { from = 1; to = LAST; drawRange(); mark(); });
     addEventListener("afterprint", () => { draw(now); mark(); });

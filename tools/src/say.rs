@@ -257,7 +257,7 @@ fn ack(words: &mut Words) -> Result<Vec<u8>, Fault> {
 
 fn data(words: &mut Words) -> Result<Vec<u8>, Fault> {
     use crate::lesson::Token;
-    let information = match words.next()? {
+    let information = match words.token()? {
         Some(Token::Text(text)) => text,
         Some(Token::Word(word)) if word == "bytes" => upload::bytes(words)?,
         _ => {

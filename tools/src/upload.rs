@@ -3,7 +3,7 @@ use std::collections::HashMap;
 use std::fs;
 use std::path::Path;
 
-use crate::bytes::{numbered, packet};
+use crate::bytes::{numbered, packet, quoted};
 use crate::draft::{Draft, Value};
 use crate::lesson::{decimal, fault, hex, Fault, Token, Words};
 use crate::names::*;
@@ -39,7 +39,7 @@ pub struct Upload {
 pub fn read(words: &mut Words, around: &Around, continued: bool) -> Result<(Draft, Manner), Fault> {
     let mut draft = Draft::default();
     let mut manner = Manner::default();
-    while let Some(token) = words.next()? {
+    while let Some(token) = words.token()? {
         let word = match token {
             Token::Word(word) => word,
             Token::Text(_) => {
@@ -183,7 +183,7 @@ fn set(draft: &mut Draft, id: u16, words: &mut Words) -> Result<(), Fault> {
 /// Text, a number with or without its width, or bytes in hex.
 fn value(words: &mut Words, id: u16) -> Result<Value, Fault> {
     let wanted = "text in quotes, a number or 'bytes'";
-    let value = match words.next()? {
+    let value = match words.token()? {
         None => {
             return fault(
                 words.column,
@@ -228,7 +228,7 @@ fn check_length(value: &Value, id: u16, column: usize) -> Result<(), Fault> {
 /// The width of a number, if it is said.
 fn number(words: &mut Words, value: u32) -> Result<Value, Fault> {
     let mut ahead = words.clone();
-    match ahead.next() {
+    match ahead.token() {
         Ok(Some(Token::Word(word))) if word == "width" => *words = ahead,
         _ => return Ok(Value::Number(value, None)),
     }
@@ -244,7 +244,7 @@ fn number(words: &mut Words, value: u32) -> Result<Value, Fault> {
 
 /// Bytes in hex: a word, or with blanks in quotes.
 pub fn bytes(words: &mut Words) -> Result<Vec<u8>, Fault> {
-    match words.next()? {
+    match words.token()? {
         None => fault(words.column, "the line ends where hex digits belong"),
         Some(Token::Word(word)) => hex(word.as_bytes(), words.column),
         Some(Token::Text(text)) => hex(&text, words.column + 1),
@@ -252,10 +252,10 @@ pub fn bytes(words: &mut Words) -> Result<Vec<u8>, Fault> {
 }
 
 fn body(words: &mut Words, around: &Around) -> Result<Vec<u8>, Fault> {
-    match words.next()? {
+    match words.token()? {
         Some(Token::Text(text)) => Ok(text),
         Some(Token::Word(word)) if word == "bytes" => bytes(words),
-        Some(Token::Word(word)) if word == "file" => match words.next()? {
+        Some(Token::Word(word)) if word == "file" => match words.token()? {
             Some(Token::Text(name)) => body_file(&name, words.column, around),
             _ => fault(words.column, "the name of the body's file belongs here, in quotes"),
         },
@@ -264,16 +264,17 @@ fn body(words: &mut Words, around: &Around) -> Result<Vec<u8>, Fault> {
 }
 
 fn body_file(name: &[u8], column: usize, around: &Around) -> Result<Vec<u8>, Fault> {
-    let name = String::from_utf8_lossy(name).to_string();
-    match fs::read(around.folder.join(&name)) {
+    let path = around.folder.join(&*String::from_utf8_lossy(name));
+    let told = quoted(name);
+    match fs::read(path) {
         Ok(bytes) if bytes.len() <= 1 << 20 => Ok(bytes),
         Ok(_) => fault(
             column,
-            format!("the file '{name}' is too long for a body: at most 1048576 bytes"),
+            format!("the file {told} is too long for a body: at most 1048576 bytes"),
         ),
         Err(error) => fault(
             column,
-            format!("the file '{name}' can't be read: {}", error.kind()),
+            format!("the file {told} can't be read: {}", error.kind()),
         ),
     }
 }

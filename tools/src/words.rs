@@ -1,5 +1,5 @@
 //! Packets, refusals and lines of a script in words.
-use std::collections::HashMap;
+use std::collections::{BTreeSet, HashMap};
 use std::io;
 
 use crate::blame::blame;
@@ -28,6 +28,11 @@ pub fn kind(packet: &[u8]) -> Option<u8> {
     packet.get(1).map(|byte| byte & 31)
 }
 
+/// The length that a packet's first two bytes announce.
+pub fn announced(packet: &[u8]) -> usize {
+    usize::from(packet[1] >> 5) << 8 | usize::from(packet[0])
+}
+
 /// 1 byte, 2 bytes
 pub fn count(number: usize, thing: &str) -> String {
     match number {
@@ -40,19 +45,15 @@ pub fn count(number: usize, thing: &str) -> String {
 
 /// The text of each equation, in one run of the proved program `equations`, and one more for those that end in an end mark.
 pub fn equations(play: &Play, home: &Home) -> io::Result<Equations> {
-    let mut asked: Vec<Vec<u8>> = Vec::new();
+    let mut asked: BTreeSet<Vec<u8>> = BTreeSet::new();
     for event in play.steps.iter().flat_map(|step| &step.events) {
         if let Event::Heard { packet, .. } = event {
-            let announced = packet.get(1).map_or(0, |byte| usize::from(byte >> 5) << 8)
-                + usize::from(packet[0]);
-            if kind(packet) == Some(16)
-                && announced <= 256
-                && !asked.contains(&packet[2..].to_vec())
-            {
-                asked.push(packet[2..].to_vec());
+            if kind(packet) == Some(16) && announced(packet) <= 256 {
+                asked.insert(packet[2..].to_vec());
             }
         }
     }
+    let asked: Vec<Vec<u8>> = asked.into_iter().collect();
     let mut texts = Equations::new();
     let mut marked = Vec::new();
     for (bytes, answer) in asked.iter().zip(back(&asked, home)?) {
@@ -110,11 +111,10 @@ pub fn heard(
         }
     };
     let information = &packet[2..];
-    let announced = usize::from(packet[1] >> 5) << 8 | usize::from(packet[0]);
-    if announced > 256 {
+    if announced(packet) > 256 {
         return told(
             kind,
-            format!("a length of {announced} is announced: above 256"),
+            format!("a length of {} is announced: above 256", announced(packet)),
         );
     }
     let words = match kind {
