@@ -43,7 +43,9 @@ class Browser:
         raise OSError("the browser did not start")
 
     def connect(self, port):
-        pages = json.load(urllib.request.urlopen(f"http://127.0.0.1:{port}/json/list"))
+        # a proxy of the machine is not asked
+        opener = urllib.request.build_opener(urllib.request.ProxyHandler({}))
+        pages = json.load(opener.open(f"http://127.0.0.1:{port}/json/list"))
         path = next(page["webSocketDebuggerUrl"] for page in pages if page["type"] == "page").split(str(port), 1)[1]
         self.socket = socket.create_connection(("127.0.0.1", port), timeout=60)
         key = base64.b64encode(os.urandom(16)).decode()

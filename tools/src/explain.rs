@@ -40,6 +40,11 @@ fn row(session: Option<u32>, way: char, name: &str, words: impl Into<String>) ->
     }
 }
 
+/// What the server does beside sending packets.
+fn server_row(session: u32, name: &str, words: &str) -> Row {
+    row(Some(session), '<', name, words)
+}
+
 fn packet_row(session: u32, way: char, told: Told, bytes: &[u8]) -> Row {
     let Told { name, words } = told;
     Row {
@@ -118,38 +123,28 @@ impl<'a> Teller<'a> {
                 if download.is_some() && packet[6..10] == [0; 4] {
                     self.downloads.insert(session, Some(Vec::new()));
                 }
-                packet_row(
-                    session,
-                    '>',
-                    words::heard(packet, upload.as_ref(), *download, self.equations),
-                    packet,
-                )
+                let told = words::heard(packet, upload.as_ref(), *download, self.equations);
+                packet_row(session, '>', told, packet)
             }
-            Event::Part { packet, new } => packet_row(
-                session,
-                '>',
-                words::part(packet),
-                &packet[packet.len() - new..],
-            ),
+            Event::Part { packet, new } => {
+                let came = &packet[packet.len() - new..];
+                packet_row(session, '>', words::part(packet), came)
+            }
             Event::Forgot(packet) => {
-                let told = words::part(packet);
-                let mut row = packet_row(session, ' ', told, packet);
+                let mut row = packet_row(session, ' ', words::part(packet), packet);
                 row.words = format!("forgotten with the link, {}", row.words);
                 row
             }
             Event::Sent(packet) => self.sent(session, packet, heard),
-            Event::Closed => row(
-                Some(session),
-                '<',
+            Event::Closed => server_row(
+                session,
                 "closed",
                 closed_words(heard.map(|(packet, _)| packet)),
             ),
-            Event::Refused(number) => row(
-                Some(session),
-                '<',
-                "refused",
-                format!("{number}: {}", words::local_refusal(*number)),
-            ),
+            Event::Refused(number) => {
+                let words = format!("{number}: {}", words::local_refusal(*number));
+                server_row(session, "refused", &words)
+            }
         }
     }
 

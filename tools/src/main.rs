@@ -51,34 +51,40 @@ fn say_lesson(name: &str, home: &Home) -> Result<String, Ended> {
     }
 }
 
-fn played(name: &str, maxsel: Option<usize>, home: &Home) -> Result<Play, Ended> {
-    let script = read(name)?;
-    checked(&script, maxsel, home).map_err(|refused| match refused {
+fn played(script: &[u8], maxsel: Option<usize>, home: &Home) -> Result<Play, Ended> {
+    checked(script, maxsel, home).map_err(|refused| match refused {
         Refused::Failed(error) => failed(error),
         Refused::Size(_) => Ended("run: MAXSEL is 1 to 50.".to_string(), 2),
-        Refused::Differs(line) => Ended(format!("run: line {line} of what was played is not what passday prints, so nothing is told."), 3),
+        Refused::Differs(line) => {
+            let told = format!("run: line {line} of what was played is not what passday prints, so nothing is told.");
+            Ended(told, 3)
+        }
     })
 }
 
-/// What is printed, and the exit status: 1 for a script with a line that can't be read.
+/// What is printed, and the exit status: 1 for a script with a line that can't be read, whose reason is told.
 fn shown(
     word: &str,
     name: &str,
     maxsel: Option<usize>,
     home: &Home,
 ) -> Result<(String, u8), Ended> {
-    let play = played(name, maxsel, home)?;
+    let script = read(name)?;
+    let play = played(&script, maxsel, home)?;
     let equations = words::equations(&play, home).map_err(failed)?;
     let text = match word {
         "explain" => explain(&play, &equations, maxsel),
         "states" => data::states(&play),
         _ => page::page(&play, &equations, maxsel, name),
     };
-    let unreadable = play
+    let is_unreadable = play
         .steps
         .last()
         .map_or(false, |step| step.command.is_none());
-    Ok((text, unreadable.into()))
+    if is_unreadable {
+        eprintln!("{}", home.reason(&script));
+    }
+    Ok((text, is_unreadable.into()))
 }
 
 fn maxsel(words: &mut Vec<String>) -> Result<Option<usize>, Ended> {

@@ -193,6 +193,23 @@ impl Player {
         }
     }
 
+    /// Acts on a line; the state before it saves the reading of titles.
+    fn step(&mut self, number: usize, line: &[u8], before: &State) -> Step {
+        let command = Command::read(line);
+        match &command {
+            Some(command) => self.run(command),
+            None => self.printed.push(format!("error\t{number}")),
+        }
+        Step {
+            line: number,
+            clock: self.clock,
+            command,
+            events: std::mem::take(&mut self.events),
+            printed: std::mem::take(&mut self.printed),
+            after: state::read(&self.server, before),
+        }
+    }
+
     fn run(&mut self, command: &Command) {
         match command {
             Command::Time(clock) => self.clock = *clock,
@@ -219,29 +236,18 @@ pub fn play(script: &[u8], sizes: Sizes) -> Result<Play, u8> {
     let mut steps: Vec<Step> = Vec::new();
     let mut sheet = String::from("session\tpacket\tinformation\n");
     for (line, number) in lines(script).into_iter().zip(1..) {
-        let command = Command::read(line);
-        match &command {
-            Some(command) => player.run(command),
-            None => player.printed.push(format!("error\t{number}")),
-        }
-        for line in &player.printed {
+        let step = player.step(
+            number,
+            line,
+            steps.last().map_or(&before, |step| &step.after),
+        );
+        for line in &step.printed {
             sheet.push_str(line);
             sheet.push('\n');
         }
-        let last = command.is_none();
-        let after = state::read(
-            &player.server,
-            steps.last().map_or(&before, |step| &step.after),
-        );
-        steps.push(Step {
-            line: number,
-            clock: player.clock,
-            command,
-            events: std::mem::take(&mut player.events),
-            printed: std::mem::take(&mut player.printed),
-            after,
-        });
-        if last {
+        let is_last = step.command.is_none();
+        steps.push(step);
+        if is_last {
             break;
         }
     }

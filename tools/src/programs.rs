@@ -9,15 +9,19 @@ pub struct Home {
     folder: PathBuf,
 }
 
+fn other(words: String) -> io::Error {
+    io::Error::new(io::ErrorKind::Other, words)
+}
+
 impl Home {
     pub fn new(folder: impl AsRef<Path>) -> Home {
         let folder = folder.as_ref().to_path_buf();
         Home { folder }
     }
 
-    /// All that a program prints for an input.
-    fn run(&self, program: &str, input: &[u8]) -> io::Result<Vec<u8>> {
-        let mut child = Command::new(self.folder.join("target/bin").join(program))
+    /// All that a command of the checkout prints for an input, and whether it ended well.
+    fn ask(&self, command: &str, input: &[u8]) -> io::Result<(Vec<u8>, bool)> {
+        let mut child = Command::new(self.folder.join(command))
             .stdin(Stdio::piped())
             .stdout(Stdio::piped())
             .spawn()?;
@@ -27,13 +31,22 @@ impl Home {
         let writer = thread::spawn(move || drop(to.write_all(&input)));
         let output = child.wait_with_output()?;
         writer.join().expect("the writer does not fail");
-        match output.status.success() {
-            true => Ok(output.stdout),
-            false => Err(io::Error::new(
-                io::ErrorKind::Other,
-                format!("{program} was ended: {}", output.status),
-            )),
+        Ok((output.stdout, output.status.success()))
+    }
+
+    fn run(&self, program: &str, input: &[u8]) -> io::Result<Vec<u8>> {
+        match self.ask(&format!("target/bin/{program}"), input)? {
+            (printed, true) => Ok(printed),
+            (_, false) => Err(other(format!("{program} was ended"))),
         }
+    }
+
+    /// Why a script can't be read, as ./run says it.
+    pub fn reason(&self, script: &[u8]) -> String {
+        let told = self.ask("scripts/explain-line", script);
+        told.map_or(String::new(), |(told, _)| {
+            String::from_utf8_lossy(&told).trim_end().to_string()
+        })
     }
 
     /// What `passday` prints for a script.
@@ -56,10 +69,7 @@ impl Home {
         let answers: Vec<String> = text.lines().map(str::to_string).collect();
         match answers.len() == lines.len() {
             true => Ok(answers),
-            false => Err(io::Error::new(
-                io::ErrorKind::Other,
-                "equations could not read a line",
-            )),
+            false => Err(other("equations could not read a line".to_string())),
         }
     }
 }

@@ -352,29 +352,31 @@ pub fn packets(number: u32, draft: &Draft, manner: &Manner) -> Result<Upload, Fa
     for piece in rest[..sent].chunks(manner.pieces.unwrap_or(256)) {
         packets.push(packet(0, piece));
     }
-    let cut = match manner.cut {
-        None => None,
-        Some((which, after, column)) => match packets.get(which) {
-            Some(packet) if after <= packet.len() => Some((which, after)),
-            Some(packet) => {
-                return fault(
-                    column,
-                    format!(
-                        "this packet has {} bytes, the first two counted",
-                        packet.len()
-                    ),
-                )
-            }
-            None => {
-                return fault(
-                    column,
-                    format!("only {} DATA packet(s) are sent", packets.len() - 1),
-                )
-            }
-        },
-    };
+    let cut = cut_in(&packets, manner)?;
     if !manner.without_end {
         packets.push(packet(1, &[]));
     }
     Ok(Upload { packets, cut })
+}
+
+/// Where the link is lost in UPLOAD_CMD and DATA packets.
+fn cut_in(packets: &[Vec<u8>], manner: &Manner) -> Result<Option<(usize, usize)>, Fault> {
+    let (which, after, column) = match manner.cut {
+        Some(cut) => cut,
+        None => return Ok(None),
+    };
+    match packets.get(which) {
+        Some(packet) if after <= packet.len() => Ok(Some((which, after))),
+        Some(packet) => fault(
+            column,
+            format!(
+                "this packet has {} bytes, the first two counted",
+                packet.len()
+            ),
+        ),
+        None => fault(
+            column,
+            format!("only {} DATA packet(s) are sent", packets.len() - 1),
+        ),
+    }
 }

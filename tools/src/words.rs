@@ -30,7 +30,10 @@ pub fn kind(packet: &[u8]) -> Option<u8> {
 
 /// The length that a packet's first two bytes announce.
 pub fn announced(packet: &[u8]) -> usize {
-    usize::from(packet[1] >> 5) << 8 | usize::from(packet[0])
+    match packet {
+        [low, second, ..] => usize::from(second >> 5) << 8 | usize::from(*low),
+        _ => 0,
+    }
 }
 
 /// 1 byte, 2 bytes
@@ -101,43 +104,26 @@ pub fn heard(
     download: Option<u32>,
     equations: &Equations,
 ) -> Told {
-    let kind = match kind(packet) {
-        Some(kind) => kind,
-        None => {
-            return Told {
-                name: "nothing".to_string(),
-                words: String::new(),
-            }
-        }
-    };
-    let information = &packet[2..];
+    let kind = kind(packet).unwrap_or(31);
+    let information = packet.get(2..).unwrap_or_default();
     if announced(packet) > 256 {
         return told(
             kind,
             format!("a length of {} is announced: above 256", announced(packet)),
         );
     }
+    let length = count(information.len(), "byte");
     let words = match kind {
+        1 | 13 if !information.is_empty() => format!("with {length}, where none belong"),
         0 => data(information, upload),
-        1 if !information.is_empty() => format!(
-            "with {}, where none belong",
-            count(information.len(), "byte")
-        ),
         1 => upload.map_or(String::new(), |upload| format!("file {} ends", upload.file)),
         3 => upload_command(information),
         8 => download_command(information, download),
         12 => acknowledged(information),
-        13 if !information.is_empty() => format!(
-            "with {}, where none belong",
-            count(information.len(), "byte")
-        ),
         13 => "the download did not come well, or is not wanted".to_string(),
         14 | 15 => directory(information),
         16 => equations.get(information).cloned().unwrap_or_default(),
-        _ => format!(
-            "{}: not for a station to send",
-            count(information.len(), "byte")
-        ),
+        _ => format!("{length}: not for a station to send"),
     };
     told(kind, words)
 }
@@ -213,15 +199,15 @@ fn directory(information: &[u8]) -> String {
 /// An unfinished packet: what is known of it.
 pub fn part(packet: &[u8]) -> Told {
     let have = packet.len();
-    match packet {
-        [low, second, ..] => {
-            let whole = 2 + (usize::from(second >> 5) << 8 | usize::from(*low));
-            told(
-                second & 31,
-                format!("unfinished: {have} of {}", count(whole, "byte")),
-            )
-        }
-        _ => Told {
+    match kind(packet) {
+        Some(kind) => told(
+            kind,
+            format!(
+                "unfinished: {have} of {}",
+                count(2 + announced(packet), "byte")
+            ),
+        ),
+        None => Told {
             name: "a packet".to_string(),
             words: "unfinished: 1 byte".to_string(),
         },

@@ -5,7 +5,7 @@ use tools::header;
 use tools::names::TITLE;
 use tools::play::{play, Event, Step, Upload, SIZES};
 use tools::script::Command;
-use tools::state::{Downlink, Session, Uplink};
+use tools::state::{Downlink, File, Session, State, Uplink};
 
 /// How often each kind of answer was compared.
 #[derive(Default)]
@@ -41,40 +41,24 @@ fn kind(packet: &[u8]) -> u8 {
     packet[1] & 31
 }
 
-/// What the last answer of a step says of its session.
-fn answered(step: &Step, packet: &[u8], session: &Session, seen: &mut Seen) {
-    let file = |number: u32| {
-        step.after
-            .files
-            .iter()
-            .flatten()
-            .find(move |file| file.number == number)
-    };
-    match kind(packet) {
-        2 => assert_eq!(
-            (session.linked, session.up, session.selection.len()),
-            (true, Uplink::Idle, 0)
-        ),
-        4 => {
-            let (name, offset) = (number(&packet[2..]), number(&packet[6..]));
-            assert_eq!(
-                session.up,
-                Uplink::Receiving {
-                    file: name,
-                    received: offset
-                }
-            );
-            assert_eq!(
-                file(name).map(|file| (file.received, file.time)),
-                Some((offset, 0))
-            );
+fn file_of(step: &Step, number: u32) -> Option<&File> {
+    let mut files = step.after.files.iter().flatten();
+    files.find(|file| file.number == number)
+}
+
+/// What the last answer of a step says of its session's upload.
+fn uploaded(step: &Step, packet: &[u8], session: &Session, seen: &mut Seen) {
+    let heard = last_heard(step);
+    match (kind(packet), heard.and_then(|(_, upload)| upload)) {
+        (4, _) => {
+            let (file, received) = (number(&packet[2..]), number(&packet[6..]));
+            assert_eq!(session.up, Uplink::Receiving { file, received });
+            let record = file_of(step, file).map(|file| (file.received, file.time));
+            assert_eq!(record, Some((received, 0)));
             seen.begun += 1;
         }
-        6 => {
-            let upload = last_heard(step)
-                .and_then(|(_, upload)| upload)
-                .expect("an upload ended");
-            let file = file(upload.file).expect("an accepted file is there");
+        (6, Some(upload)) => {
+            let file = file_of(step, upload.file).expect("an accepted file is there");
             assert_eq!(
                 (session.up, file.received),
                 (Uplink::Idle, upload.announced)
@@ -83,35 +67,45 @@ fn answered(step: &Step, packet: &[u8], session: &Session, seen: &mut Seen) {
             assert!(file.time > 0);
             seen.accepted += 1;
         }
-        7 => {
-            let (packet, upload) = last_heard(step).expect("a packet was refused");
-            let upload = upload.expect("an upload was refused");
-            let up = if kind(packet) == 0 {
+        (7, Some(upload)) => {
+            let is_data = heard.map_or(false, |(packet, _)| kind(packet) == 0);
+            let up = if is_data {
                 Uplink::Ignoring
             } else {
                 Uplink::Idle
             };
-            assert_eq!((session.up, file(upload.file)), (up, None));
+            assert_eq!((session.up, file_of(step, upload.file)), (up, None));
             seen.refused += 1;
+        }
+        other => panic!("no upload: {other:?}"),
+    }
+}
+
+/// What the last answer of a step says of its session.
+fn answered(step: &Step, packet: &[u8], session: &Session, seen: &mut Seen) {
+    match kind(packet) {
+        1 => {
+            assert!(matches!(session.down, Downlink::Ended { .. }));
+            seen.sent += 1;
+        }
+        2 => assert_eq!(
+            (session.linked, session.up, session.selection.len()),
+            (true, Uplink::Idle, 0)
+        ),
+        4 | 6 | 7 => uploaded(step, packet, session, seen),
+        10 | 11 => {
+            assert_eq!(session.down, Downlink::Idle);
+            seen.ended += 1;
         }
         17 => {
             assert_eq!(
                 (session.selection.len(), session.taken),
                 (number(&packet[2..]) as usize, 0)
             );
-            assert!(session
-                .selection
-                .iter()
-                .all(|&number| file(number).map_or(false, |file| file.time > 0)));
+            for &number in &session.selection {
+                assert!(file_of(step, number).map_or(false, |file| file.time > 0));
+            }
             seen.selected += 1;
-        }
-        1 => {
-            assert!(matches!(session.down, Downlink::Ended { .. }));
-            seen.sent += 1;
-        }
-        10 | 11 => {
-            assert_eq!(session.down, Downlink::Idle);
-            seen.ended += 1;
         }
         _ => {}
     }
@@ -139,38 +133,27 @@ fn compare(step: &Step, seen: &mut Seen) {
     }
 }
 
+/// The blocks that the files of a state hold.
+fn held_blocks(state: &State) -> usize {
+    let files = state.files.iter().flatten();
+    files.map(|file| (file.length as usize + 255) / 256).sum()
+}
+
 #[test]
 fn states_are_what_answers_say() {
     let mut seen = Seen::default();
     for index in 0..600 {
         let script = generator::story(generator::seed_of(11, index)).text();
         let played = play(&script, SIZES).expect("sizes of the table");
+        let mut held = 0;
         for step in &played.steps {
             compare(step, &mut seen);
-            let held: u32 = step
-                .after
-                .files
-                .iter()
-                .flatten()
-                .map(|file| (file.length + 255) / 256)
-                .sum();
-            assert_eq!(
-                step.after
-                    .blocks
-                    .iter()
-                    .filter(|&&number| number != 0)
-                    .count(),
-                held as usize
-            );
+            let blocks = &step.after.blocks;
+            held = blocks.iter().filter(|&&number| number != 0).count();
+            assert_eq!(held, held_blocks(&step.after));
         }
-        let last = played
-            .steps
-            .last()
-            .map_or(&played.before, |step| &step.after);
-        let free = last.blocks.iter().filter(|&&number| number == 0).count();
-        assert!(played
-            .sheet
-            .ends_with(&format!("blocks\t{free}\t{}\n", 128 - free)));
+        let last = format!("blocks\t{}\t{held}\n", 128 - held);
+        assert!(played.sheet.ends_with(&last));
     }
     let Seen {
         begun,
