@@ -1,7 +1,7 @@
 //! The words of a line of a lesson, with their columns, and what is wrong in a line.
 use crate::bytes::digit;
 
-/// The most bytes of a line: an equation must be a line of another program.
+/// The most bytes of a line: its equation, or its raw bytes in hex, must be a line of another program, which has at most 131,072.
 pub const LINE_MOST: usize = 100_000;
 
 /// What is wrong in a lesson, and where. Columns are bytes, from 1.

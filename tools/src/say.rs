@@ -9,9 +9,6 @@ use crate::lesson::{fault, hex, Fault, Words, Wrong, LINE_MOST};
 use crate::programs::Home;
 use crate::upload::{self, Around, Upload};
 
-/// The most bytes of an rx line: with word, session and tabs it stays below 131,072 characters.
-const RAW_MOST: usize = 65_500;
-
 /// What a line of a lesson asks for.
 enum Act {
     /// A line of the script as it stands.
@@ -277,12 +274,6 @@ fn raw(words: &mut Words) -> Result<Vec<u8>, Fault> {
     let (column, digits) = words.rest();
     let bytes = hex(digits, column)?;
     *words = Words::new(b"");
-    if bytes.len() > RAW_MOST {
-        return fault(
-            column,
-            format!("too many bytes for one line: at most {RAW_MOST}"),
-        );
-    }
     Ok(bytes)
 }
 
