@@ -81,9 +81,10 @@
     return cell;
   }
 
-  // the clock is written where it changes, and in the first row that is in the page
+  // the clock is written where a line sets it, and in the first row that is in the page
   function clockWords(step) {
-    return step === from || steps[step][1] !== steps[step - 1][1] ? String(steps[step][1]) : "";
+    const rows = steps[step][2];
+    return step === from || (rows.length && rows[0][2] === "clock") ? String(steps[step][1]) : "";
   }
 
   function passRow(step, row, isFirst, open) {
@@ -98,7 +99,8 @@
       line.append(button);
     }
     tr.append(line, make("td", isFirst ? clockWords(step) : "", "clock"));
-    if (row && !row[0]) {
+    // the lifelines go on where a line sets the clock
+    if (row && row[2] === "unreadable") {
       const cell = make("td", undefined, "lane");
       cell.colSpan = Math.max(lanes.length, 1);
       cell.append(make("span", row[2], "name"), " " + row[3]);
