@@ -87,7 +87,8 @@ module _ (r : Relation) (f : Fit r) (bs : List ℕ) where
   relation-symbols : symbols (relationBytes r ++ bs) ≡ symbol.rel r ∷ symbols bs
   unfolding relationBytes follow
   relation-symbols =
-      first (r .code) (r .id % 256 ∷ r .id / 256 % 256 ∷ length (r .constant) ∷ (r .constant ++ bs)) (Rel (r .code) (r .id) (length (r .constant))) relation-token
+      first (r .code) (r .id % 256 ∷ r .id / 256 % 256 ∷ length (r .constant) ∷ (r .constant ++ bs))
+      (Rel (r .code) (r .id) (length (r .constant))) relation-token
       ∙ rw (
         past-three (r .id % 256) (r .id / 256 % 256) (length (r .constant)) (length (r .constant)) (r .constant ++ bs),
         skip (r .constant) bs,
@@ -107,10 +108,12 @@ unfolding postfix symbolsOf AllFit
 postfix-symbols (relation r) bs h = relation-symbols r h bs
 postfix-symbols (both a b) bs h =
     simp append-assoc
-    (postfix-symbols a (postfix b ++ 1 ∷ bs) (h .0) ∙ ap (λ (l : List Symbol). symbolsOf a ++ l) (postfix-symbols b (1 ∷ bs) (h .1) ∙ ap (λ (l : List Symbol). symbolsOf b ++ l) (and-symbols bs)))
+    (postfix-symbols a (postfix b ++ 1 ∷ bs) (h .0) ∙ ap (λ (l : List Symbol). symbolsOf a ++ l)
+    (postfix-symbols b (1 ∷ bs) (h .1) ∙ ap (λ (l : List Symbol). symbolsOf b ++ l) (and-symbols bs)))
 postfix-symbols (either a b) bs h =
     simp append-assoc
-    (postfix-symbols a (postfix b ++ 2 ∷ bs) (h .0) ∙ ap (λ (l : List Symbol). symbolsOf a ++ l) (postfix-symbols b (2 ∷ bs) (h .1) ∙ ap (λ (l : List Symbol). symbolsOf b ++ l) (or-symbols bs)))
+    (postfix-symbols a (postfix b ++ 2 ∷ bs) (h .0) ∙ ap (λ (l : List Symbol). symbolsOf a ++ l)
+    (postfix-symbols b (2 ∷ bs) (h .1) ∙ ap (λ (l : List Symbol). symbolsOf b ++ l) (or-symbols bs)))
 
 -- ---- the run
 
@@ -141,7 +144,14 @@ few-relations : (f : Formula) → 4 * relationsIn f ≤ length (postfix f)
 unfolding relationsIn postfix relationBytes
 few-relations (relation r) = omega arith
 few-relations (both a b) = omega (arith, few-relations a, few-relations b, length-append (postfix a) (postfix b ++ 1 ∷ []), length-append (postfix b) (1 ∷ []))
-few-relations (either a b) = omega (arith, few-relations a, few-relations b, length-append (postfix a) (postfix b ++ 2 ∷ []), length-append (postfix b) (2 ∷ []))
+few-relations (either a b) = omega (
+  arith,
+  few-relations a,
+  few-relations b,
+  length-append (postfix a) (postfix b ++ 2 ∷ []),
+  length-append (postfix b)
+      (2 ∷ []),
+)
 
 pub parsed : (f : Formula) → AllFit f → length (postfix f) ≤ 256 → parse (postfix f) ≡ some (treeFrom 0 f)
 unfolding parse run result symbolsPast
@@ -235,13 +245,15 @@ least-good v = by (ltb v 256) (ltb v 65536)
 
 max-good : (a b : ℕ) → width a ≡ true → width b ≡ true → width (max a b) ≡ true
 max-good a b h i =
-    width-cases a h (λ a. width (max a b) ≡ true) (width-cases b i (λ b. width (max 1 b) ≡ true) (unfold width in refl) (unfold width in refl) (unfold width in refl))
+    width-cases a h (λ a. width (max a b) ≡ true) (width-cases b i (λ b. width (max 1 b) ≡ true) (unfold width in refl) (unfold width in refl)
+    (unfold width in refl))
     (width-cases b i (λ b. width (max 2 b) ≡ true) (unfold width in refl) (unfold width in refl) (unfold width in refl))
     (width-cases b i (λ b. width (max 4 b) ≡ true) (unfold width in refl) (unfold width in refl) (unfold width in refl))
 
 number-good : (c : Comparison) (w v : ℕ) → width w ≡ true → good (128 + 16 * operatorNumber c) (take w (four v)) ≡ true
 unfolding good goodNumber operatorNumber
-number-good c w v h = width-cases w h (λ w. good (128 + 16 * operatorNumber c) (take w (four v)) ≡ true) (any c 1 (unfold width in refl)) (any c 2 (unfold width in refl)) (any c 4 (unfold width in refl))
+number-good c w v h = width-cases w h (λ w. good (128 + 16 * operatorNumber c) (take w (four v)) ≡ true) (any c 1 (unfold width in refl))
+    (any c 2 (unfold width in refl)) (any c 4 (unfold width in refl))
   where
     any : (c : Comparison) (n : ℕ) → width (length (take n (four v))) ≡ true → good (128 + 16 * operatorNumber c) (take n (four v)) ≡ true
     any Equal n z = z
