@@ -41,7 +41,8 @@ written-runs x r y g l ls p bs n h =
     simp append-assoc
     (then (over-blanks (want l ls) (want-still l ls) x (g .0) p (writtenText r ++ (y ++ bs)))
     (λ q. then (relation-runs r (g .1) l ls q (y ++ bs) (closes-blanks y bs (g .2) h))
-    (λ s. over-blanks (have (andAfter (l .product) (formulaF (relation x r y))) (l .sum) ls) (have-still (andAfter (l .product) (formulaF (relation x r y))) (l .sum) ls) y (g .2) s bs)))
+    (λ s. over-blanks (have (andAfter (l .product) (formulaF (relation x r y))) (l .sum) ls)
+    (have-still (andAfter (l .product) (formulaF (relation x r y))) (l .sum) ls) y (g .2) s bs)))
 
 -- ---- sums, as the machine holds them
 
@@ -69,8 +70,10 @@ bracket-runs x s y r g l ls p bs n h =
     (then (over-blanks (want l ls) (want-still l ls) x (g .0) p (40 ∷ (textS s ++ (41 ∷ (y ++ bs)))))
     (λ p1. then (one (want l ls) (want fresh (l ∷ ls)) p1 40 (textS s ++ (41 ∷ (y ++ bs))) (steps.want-open l ls (omega arith)))
     (λ p2. then (r (g .1) (l ∷ ls) p2 (41 ∷ (y ++ bs)) (omega arith) (closes-with 41 (y ++ bs) (unfold digit in refl) (λ z. omega arith)))
-    (λ p3. then (one (have (last s) (front s) (l ∷ ls)) (have (andAfter (l .product) (orAfter (front s) (last s))) (l .sum) ls) p3 41 (y ++ bs) (steps.have-close (last s) (front s) ls l))
-    (λ p4. rw (whole s) (over-blanks (have (andAfter (l .product) (formulaS s)) (l .sum) ls) (have-still (andAfter (l .product) (formulaS s)) (l .sum) ls) y (g .2) p4 bs))))))
+    (λ p3. then (one (have (last s) (front s) (l ∷ ls)) (have (andAfter (l .product) (orAfter (front s) (last s))) (l .sum) ls) p3 41 (y ++ bs)
+    (steps.have-close (last s) (front s) ls l))
+    (λ p4. rw (whole s) (over-blanks (have (andAfter (l .product) (formulaS s)) (l .sum) ls) (have-still (andAfter (l .product) (formulaS s)) (l .sum) ls) y
+    (g .2) p4 bs))))))
 
 -- ---- products
 
@@ -101,7 +104,8 @@ plus-runs s x r t g ls p bs n h =
     simp append-assoc
     (then (r (g .0) ls p (124 ∷ 124 ∷ (textP x ++ bs)) (omega arith) (closes-with 124 (124 ∷ (textP x ++ bs)) (unfold digit in refl) (λ z. omega arith)))
     (λ p1. then (one (have (last s) (front s) ls) (bar (last s) (front s) ls) p1 124 (124 ∷ (textP x ++ bs)) (steps.have-bar (last s) (front s) ls))
-    (λ p2. then (one (bar (last s) (front s) ls) (want (level (some (orAfter (front s) (last s))) none) ls) p2 124 (textP x ++ bs) (steps.second-bar (last s) (front s) ls))
+    (λ p2. then (one (bar (last s) (front s) ls) (want (level (some (orAfter (front s) (last s))) none) ls) p2 124 (textP x ++ bs)
+    (steps.second-bar (last s) (front s) ls))
     (λ p3. rw (whole s) (t (g .1) (some (formulaS s)) ls p3 bs (omega arith) h)))))
 
 mutual

@@ -12,7 +12,8 @@ use Rattle.equation.specs.Symbols.{starsIn}
 use Rattle.names.specs.Names.{items, small, beginsWith, idIn, startsIn, widthIn}
 use Rattle.grammar.specs.Formula.{relationBytes, postfix}
 use Rattle.grammar.specs.Meaning.{operatorNumber, isEquality, orEqual, leastWidth, isWidth, numberRelation, textRelation}
-use Rattle.grammar.specs.Machine.{lettered, wanted, added, partOf, closed, after, taken, step, Outcome, accepted, refused, ended, endedIn, ending, moved, run, outcomeOf}
+use Rattle.grammar.specs.Machine.{lettered, wanted, added, partOf, closed, after, taken, step, Outcome, accepted, refused, ended, endedIn, ending, moved}
+use Rattle.grammar.specs.Machine.{run, outcomeOf}
 use Rattle.grammar.specs.declared.Reason.{Reason}
 use Rattle.grammar.specs.declared.Reason.the-variants as reason
 
@@ -80,5 +81,8 @@ rows =
     ∷ []
 
 computed : map said rows ≡ map want rows
-unfolding want said told rows row opened quoted a bytesOf lower same digit hexValue starsIn items small beginsWith idIn startsIn widthIn relationBytes postfix isBlank isPrinted operatorNumber isEquality orEqual leastWidth isWidth numberRelation textRelation lettered wanted added partOf closed after taken step ended endedIn ending moved run
+unfolding
+    want said told rows row opened quoted a bytesOf lower same digit hexValue starsIn items small beginsWith idIn startsIn widthIn relationBytes postfix
+    isBlank isPrinted operatorNumber isEquality orEqual leastWidth isWidth numberRelation textRelation lettered wanted added partOf closed after taken step
+    ended endedIn ending moved run
 computed = refl

@@ -18,7 +18,8 @@ use Rattle.names.specs.Names.{idNamed, startsName}
 use Rattle.grammar.specs.Meaning.{isEquality, orEqual, widthOf, isWidth, numberRelation, textRelation}
 use Rattle.grammar.specs.Grammar as grammar
 use Rattle.grammar.specs.Grammar.{Blanks, Item, itemText, Stands, operatorText, Character, characterText, characterByte, goodCharacter}
-use Rattle.grammar.specs.Grammar.{charactersText, charactersBytes, goodCharacters, Constant, constantText, Digits, Characters, GoodConstant, meant}
+use Rattle.grammar.specs.Grammar.{charactersText, charactersBytes, goodCharacters, Constant, unsized, constantText, Digits, Characters, GoodConstant}
+use Rattle.grammar.specs.Grammar.{meant}
 use Rattle.grammar.specs.Grammar.{Written, writtenText, relationOf, GoodWritten}
 use Rattle.grammar.specs.Machine.{Phase, name, hash, item, half, order, constant, digits, colon, string, escape, coded, code, Part, on, whole, past, stop}
 use Rattle.grammar.specs.Machine.{lettered, wanted, added, partOf}
@@ -66,12 +67,13 @@ pub record StringHeld (id : ℕ) (c : Comparison) (bytes w s : List ℕ) : Type 
   pub is : charactersBytes xs ≡ bytes
   pub text : s ≡ u ++ (34 ∷ (charactersText xs ++ w))
 
--- a whole relation
-pub record RelationHeld (r : Relation) (s : List ℕ) : Type 0 where
+-- a whole relation, which further digits may follow or not
+pub record RelationHeld (t : Bool) (r : Relation) (s : List ℕ) : Type 0 where
   pub written : Written
   pub good : GoodWritten written
   pub text : writtenText written ≡ s
   pub is : relationOf written ≡ r
+  pub more : unsized (written .constant) ≡ t
 
 -- the hex digits behind "#", with their value
 unfoldable pub HashHeld : ℕ → List ℕ → ℕ → Type 0
@@ -100,8 +102,8 @@ PhaseHeld (code id c bytes d) s = (a : ℕ) × StringHeld id c bytes (92 ∷ 120
 -- what a byte b behind s leaves
 unfoldable pub PartHeld : Part → List ℕ → ℕ → Type 0
 PartHeld (on phase) s b = PhaseHeld phase (s ++ b ∷ [])
-PartHeld (whole r) s b = RelationHeld r (s ++ b ∷ [])
-PartHeld (past r) s b = RelationHeld r s
+PartHeld (whole r) s b = RelationHeld false r (s ++ b ∷ [])
+PartHeld (past r) s b = RelationHeld true r s
 PartHeld (stop why) s b = Unit {0}
 
 stopped : (why : Reason) (s : List ℕ) (b : ℕ) → PartHeld (stop why) s b
@@ -118,17 +120,26 @@ map-snoc : (s : List ℕ) (b : ℕ) → map lower (s ++ b ∷ []) ≡ map lower 
 map-snoc [] b = refl
 map-snoc (x ∷ s) b = ap (λ (l : List ℕ). lower x ∷ l) (map-snoc s b)
 
-held-lettered : (o : Option ℕ) (t : Bool) (w s : List ℕ) (b : ℕ) → map lower (s ++ b ∷ []) ≡ w → idNamed w ≡ o → startsName w ≡ t → PartHeld (lettered o t w) s b
+held-lettered : (o : Option ℕ) (t : Bool) (w s : List ℕ) (b : ℕ) → map lower (s ++ b ∷ []) ≡ w → idNamed w ≡ o → startsName w ≡ t → PartHeld
+    (lettered o t w) s b
 unfolding lettered PartHeld PhaseHeld
 held-lettered (some id) t w s b e h i =
-    record { item = grammar.name (s ++ b ∷ []); blanks = []; stands = unfold Stands in rw (e, h); are = unfold every in refl; text = unfold itemText in simp append-nil }
+    record {
+      item = grammar.name (s ++ b ∷ []);
+      blanks = [];
+      stands = unfold Stands in rw (e, h);
+      are = unfold every in refl;
+      text = unfold
+          itemText in simp append-nil;
+    }
 held-lettered none true w s b e h i = (e, h, i)
 held-lettered none false w s b e h i = tt
 
 -- letters behind others; the first letter stands behind none
 pub held-letters : (w s : List ℕ) (b : ℕ) → map lower s ≡ w → PartHeld (partOf (name w) b) s b
 unfolding partOf
-held-letters w s b e = held-lettered (idNamed (w ++ lower b ∷ [])) (startsName (w ++ lower b ∷ [])) (w ++ lower b ∷ []) s b (map-snoc s b ∙ ap (λ (l : List ℕ). l ++ lower b ∷ []) e) refl refl
+held-letters w s b e = held-lettered (idNamed (w ++ lower b ∷ [])) (startsName (w ++ lower b ∷ [])) (w ++ lower b ∷ []) s b
+    (map-snoc s b ∙ ap (λ (l : List ℕ). l ++ lower b ∷ []) e) refl refl
 
 held-hash : (n v : ℕ) (ds : List ℕ) (b : ℕ) → HashHeld n ds v → isHexDigit b ≡ true
     → PartHeld (cond (eqb n 3) (on (item (16 * v + hexOf b))) (on (hash (suc n) (16 * v + hexOf b)))) (35 ∷ ds) b
@@ -152,7 +163,14 @@ blank-more x b h i = tests.every-append isBlank x (b ∷ []) h (tests.every-one 
 
 item-blank : (id : ℕ) (s : List ℕ) (b : ℕ) → ItemHeld id s → isBlank b ≡ true → ItemHeld id (s ++ b ∷ [])
 item-blank id s b h i =
-    record { item = h .item; blanks = h .blanks ++ b ∷ []; stands = h .stands; are = blank-more (h .blanks) b (h .are) i; text = rw (h .text) (simp append-assoc) }
+    record {
+      item = h .item;
+      blanks = h .blanks ++ b ∷ [];
+      stands = h .stands;
+      are = blank-more (h .blanks) b (h .are) i;
+      text = rw (h .text)
+          (simp append-assoc);
+    }
 
 -- ---- fronts
 
@@ -181,13 +199,15 @@ front-blank id c s b h i =
     }
 
 -- a front and a constant are a relation
-relation-of : (id : ℕ) (c : Comparison) (u s : List ℕ) (k : Constant) → Front id c u → GoodConstant c k → s ≡ u ++ constantText k → RelationHeld (meant id c k) s
+relation-of : (id : ℕ) (c : Comparison) (u s : List ℕ) (k : Constant) → Front id c u → GoodConstant c k → s ≡ u ++ constantText k → RelationHeld (unsized k)
+    (meant id c k) s
 relation-of id c u s k h g e =
     record {
       written = record { item = h .item; id = id; before = h .before; comparison = c; behind = h .behind; constant = k };
       good = record { stands = h .stands; before = h .blank-before; behind = h .blank-behind; constant = g };
       text = unfold writtenText in rw (e, h .text) (simp append-assoc);
       is = refl;
+      more = refl;
     }
 
 -- ---- constants
@@ -204,7 +224,11 @@ opened id c s b h f g =
       front = h;
       equality = g;
       xs = [];
-      good = record { are = unfold goodCharacters in refl; short = unfold charactersBytes in omega arith; stars = unfold charactersBytes starsIn in omega arith };
+      good = record {
+        are = unfold goodCharacters in refl;
+        short = unfold charactersBytes in omega arith;
+        stars = unfold charactersBytes starsIn in omega arith;
+      };
       is = unfold charactersBytes in refl;
       text = unfold charactersText in refl;
     })
@@ -233,16 +257,23 @@ held-number id c v s b h =
           u = h .u;
           front = h .front;
           ds = h .ds ++ b ∷ [];
-          good = record { some = omega (arith, length-append (h .ds) (b ∷ [])); are = tests.every-append digit (h .ds) (b ∷ []) (h .good .are) (tests.every-one digit b e); fits = rw z f };
+          good = record {
+            some = omega (arith, length-append (h .ds) (b ∷ []));
+            are = tests.every-append digit (h .ds) (b ∷ []) (h .good .are)
+                (tests.every-one digit b e);
+            fits = rw z f;
+          };
           value = z;
           text = rw (h .text) (simp append-assoc);
         }
 
-    whole-number : RelationHeld (numberRelation id c (widthOf id v) v) s
-    whole-number = rw (← h .value) (unfold meant constantText GoodConstant in relation-of id c (h .u) s (grammar.number (h .ds)) (h .front) (h .good) (h .text))
+    whole-number : RelationHeld true (numberRelation id c (widthOf id v) v) s
+    whole-number = rw (← h .value) (unfold meant constantText GoodConstant unsized in relation-of id c (h .u) s (grammar.number (h .ds)) (h .front) (h .good)
+        (h .text))
 
-held-width : (id : ℕ) (c : Comparison) (v : ℕ) (u : List ℕ) (b : ℕ) → NumberHeld id c v u → isWidth b v ≡ true → RelationHeld (numberRelation id c (b - 48) v) ((u ++ 58 ∷ []) ++ b ∷ [])
-unfolding meant constantText GoodConstant
+held-width : (id : ℕ) (c : Comparison) (v : ℕ) (u : List ℕ) (b : ℕ) → NumberHeld id c v u → isWidth b v ≡ true → RelationHeld false
+    (numberRelation id c (b - 48) v) ((u ++ 58 ∷ []) ++ b ∷ [])
+unfolding meant constantText GoodConstant unsized
 held-width id c v u b h i =
     rw (← h .value)
     (relation-of id c (h .u) ((u ++ 58 ∷ []) ++ b ∷ []) (grammar.sized (h .ds) b) (h .front) (h .good, rw (h .value) i) (rw (h .text) (simp append-assoc)))
@@ -262,10 +293,12 @@ bytes-snoc (y ∷ xs) x = ap (λ (l : List ℕ). characterByte y ∷ l) (bytes-s
 good-snoc : (xs : List Character) (x : Character) → goodCharacters xs ≡ true → goodCharacter x ≡ true → goodCharacters (xs ++ x ∷ []) ≡ true
 unfolding goodCharacters
 good-snoc [] x h i = rw i
-good-snoc (y ∷ xs) x h i = tests.both-true (goodCharacter y) _ (tests.first-true (goodCharacter y) _ h) (good-snoc xs x (tests.second-true (goodCharacter y) _ h) i)
+good-snoc (y ∷ xs) x h i = tests.both-true (goodCharacter y) _ (tests.first-true (goodCharacter y) _ h)
+    (good-snoc xs x (tests.second-true (goodCharacter y) _ h) i)
 
 -- a character more
-string-more : (id : ℕ) (c : Comparison) (bytes w s t : List ℕ) (x : Character) (b : ℕ) → StringHeld id c bytes w s → goodCharacter x ≡ true → characterByte x ≡ b → w ++ t ≡ characterText x
+string-more : (id : ℕ) (c : Comparison) (bytes w s t : List ℕ) (x : Character) (b : ℕ) → StringHeld id c bytes w s → goodCharacter x ≡ true
+    → characterByte x ≡ b → w ++ t ≡ characterText x
     → length bytes < 255 → starsIn (bytes ++ b ∷ []) ≤ 4 → StringHeld id c (bytes ++ b ∷ []) [] (s ++ t)
 string-more id c bytes w s t x b h g e f i j =
     let z : charactersBytes (h .xs ++ x ∷ []) ≡ bytes ++ b ∷ [] = rw (bytes-snoc (h .xs) x, h .is, e) in
@@ -295,7 +328,8 @@ stars-kept bytes b h = by (eqb b 42) refl
 stars-now : (id : ℕ) (c : Comparison) (bytes w s : List ℕ) → StringHeld id c bytes w s → starsIn bytes ≤ 4
 stars-now id c bytes w s h = rw (h .is) at (h .good .stars)
 
-held-added : (id : ℕ) (c : Comparison) (bytes w s : List ℕ) (x : Character) (b d : ℕ) → StringHeld id c bytes w s → goodCharacter x ≡ true → characterByte x ≡ d → w ++ b ∷ [] ≡ characterText x
+held-added : (id : ℕ) (c : Comparison) (bytes w s : List ℕ) (x : Character) (b d : ℕ) → StringHeld id c bytes w s → goodCharacter x ≡ true → characterByte x ≡ d
+    → w ++ b ∷ [] ≡ characterText x
     → PartHeld (added id c bytes d) s b
 unfolding added PartHeld PhaseHeld
 held-added id c bytes w s x b d h g e f =
@@ -308,13 +342,17 @@ unfolding partOf PartHeld PhaseHeld
 held-string id c bytes s b h =
     by-test (eqb b 34) _ _ s b (λ e. rw (eqb-true b 34 e) closed)
     (λ e. by-test (eqb b 92) _ _ s b
-    (λ f. by-test (ltb (length bytes) 255) _ _ s b (λ g. rw (eqb-true b 92 f) (string-behind id c bytes [] s (92 ∷ []) h, ltb-true (length bytes) 255 g)) (λ g. tt))
-    (λ f. by-test (isPrinted b) _ _ s b (λ g. held-added id c bytes [] s (grammar.plain b) b b h (unfold goodCharacter in rw (e, f, g)) (unfold characterByte in refl) (unfold characterText in refl)) (λ g. tt)))
+    (λ f. by-test (ltb (length bytes) 255) _ _ s b (λ g. rw (eqb-true b 92 f) (string-behind id c bytes [] s (92 ∷ []) h, ltb-true (length bytes) 255 g))
+    (λ g. tt))
+    (λ f. by-test (isPrinted b) _ _ s b (λ g. held-added id c bytes [] s (grammar.plain b) b b h (unfold goodCharacter in rw (e, f, g))
+    (unfold characterByte in refl) (unfold characterText in refl)) (λ g. tt)))
   where
-    closed : RelationHeld (textRelation id c bytes) (s ++ 34 ∷ [])
-    closed = rw (← h .is) (unfold meant constantText GoodConstant in relation-of id c (h .u) (s ++ 34 ∷ []) (grammar.string (h .xs)) (h .front) (h .good, h .equality) (rw (h .text) (simp (append-assoc, append-nil))))
+    closed : RelationHeld false (textRelation id c bytes) (s ++ 34 ∷ [])
+    closed = rw (← h .is) (unfold meant constantText GoodConstant unsized in relation-of id c (h .u) (s ++ 34 ∷ []) (grammar.string (h .xs)) (h .front)
+        (h .good, h .equality) (rw (h .text) (simp (append-assoc, append-nil))))
 
-held-escape : (id : ℕ) (c : Comparison) (bytes s : List ℕ) (b : ℕ) → StringHeld id c bytes (92 ∷ []) s → length bytes < 255 → PartHeld (partOf (escape id c bytes) b) s b
+held-escape : (id : ℕ) (c : Comparison) (bytes s : List ℕ) (b : ℕ) → StringHeld id c bytes (92 ∷ []) s → length bytes < 255 → PartHeld
+    (partOf (escape id c bytes) b) s b
 unfolding partOf PartHeld PhaseHeld
 held-escape id c bytes s b h i =
     by-test (eqb b 34) _ _ s b (λ e. rw (eqb-true b 34 e) (quoted 34 (unfold goodCharacter in refl) (unfold starsIn in refl)))
@@ -353,5 +391,6 @@ held-part (coded id c bytes) b s h =
     by-test (isHexDigit b) _ _ s b (λ e. (b, string-behind id c bytes (92 ∷ 120 ∷ []) s (b ∷ []) (h .0), e, refl, h .1)) (λ e. tt)
 held-part (code id c bytes d) b s h =
     by-test (isHexDigit b) _ _ s b
-    (λ e. held-added id c bytes (92 ∷ 120 ∷ h .0 ∷ []) s (grammar.coded (h .0) b) b (16 * d + hexOf b) (h .1) (unfold goodCharacter in rw (h .2, e)) (unfold characterByte in rw (h .3)) (unfold characterText in refl))
+    (λ e. held-added id c bytes (92 ∷ 120 ∷ h .0 ∷ []) s (grammar.coded (h .0) b) b (16 * d + hexOf b) (h .1) (unfold goodCharacter in rw (h .2, e))
+    (unfold characterByte in rw (h .3)) (unfold characterText in refl))
     (λ e. tt)

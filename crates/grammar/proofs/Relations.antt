@@ -39,12 +39,18 @@ lower-high b c e h = by (leb 65 b) refl e
     by true f z = omega (arith, leb-true 65 b f)
     by false f z = omega arith
 
-hex-digits : (a b c d : ℕ) → every isHexDigit (a ∷ b ∷ c ∷ d ∷ []) ≡ true → (isHexDigit a ≡ true) × (isHexDigit b ≡ true) × (isHexDigit c ≡ true) × (isHexDigit d ≡ true)
+hex-digits : (a b c d : ℕ) → every isHexDigit (a ∷ b ∷ c ∷ d ∷ []) ≡ true
+    → (isHexDigit a ≡ true) × (isHexDigit b ≡ true) × (isHexDigit c ≡ true) × (isHexDigit d ≡ true)
 unfolding every
 hex-digits a b c d h =
     let i = tests.second-true (isHexDigit a) _ h in
-    let j = tests.second-true (isHexDigit b) _ i in
-    (tests.first-true (isHexDigit a) _ h, tests.first-true (isHexDigit b) _ i, tests.first-true (isHexDigit c) _ j, tests.first-true (isHexDigit d) _ (tests.second-true (isHexDigit c) _ j))
+    let j = tests.second-true (isHexDigit b) _ i in (
+      tests.first-true (isHexDigit a) _ h,
+      tests.first-true (isHexDigit b) _ i,
+      tests.first-true (isHexDigit c) _ j,
+      tests.first-true (isHexDigit d) _
+          (tests.second-true (isHexDigit c) _ j),
+    )
 
 -- a state in which letters are read as after the letters w: `want`, before any, or one inside a name
 abbrev pub Acts : State → List ℕ → Level → List Level → Type 0
@@ -69,7 +75,8 @@ module _ (l : Level) (ls : List Level) where
   next-letter w b c e h i = rw (e, h, i)
 
   -- the letters r behind w, spelled s
-  pub letters-run : (r : List ℕ) (st : State) (w s : List ℕ) (id p : ℕ) (bs : List ℕ) → Acts st w l ls → 0 < length r → names.walks w r ≡ true → idNamed (w ++ r) ≡ some id → map lower s ≡ r
+  pub letters-run : (r : List ℕ) (st : State) (w s : List ℕ) (id p : ℕ) (bs : List ℕ) → Acts st w l ls → 0 < length r → names.walks w r ≡ true → idNamed
+      (w ++ r) ≡ some id → map lower s ≡ r
       → Reach st p (s ++ bs) (inside (item id) l ls) bs
   letters-run [] st w s id p bs a n h i e = absurd (omega arith)
   letters-run (c ∷ r) st w [] id p bs a n h i e = let z : _≡_ {A = ℕ} 0 1 = cc in absurd (omega arith)
@@ -86,7 +93,8 @@ module _ (l : Level) (ls : List Level) where
       (λ q. letters-run (d ∷ r) (inside (name (w ++ c ∷ [])) l ls) (w ++ c ∷ []) s id q bs (inside-acts (w ++ c ∷ [])) (omega arith) (k .further) j g)
 
   -- a hex digit behind "#"
-  hash-digit : (n v b p : ℕ) (bs : List ℕ) → n < 3 → isHexDigit b ≡ true → Reach (inside (hash n v) l ls) p (b ∷ bs) (inside (hash (suc n) (16 * v + hexOf b)) l ls) bs
+  hash-digit : (n v b p : ℕ) (bs : List ℕ) → n < 3 → isHexDigit b ≡ true → Reach (inside (hash n v) l ls) p (b ∷ bs)
+      (inside (hash (suc n) (16 * v + hexOf b)) l ls) bs
   hash-digit n v b p bs h i = part-on l ls (hash n v) (hash (suc n) (16 * v + hexOf b)) p b bs (unfold partOf in rw (i, ne-eqb n 3 (λ z. omega arith)))
 
   hash-last : (v b p : ℕ) (bs : List ℕ) → isHexDigit b ≡ true → Reach (inside (hash 3 v) l ls) p (b ∷ bs) (inside (item (16 * v + hexOf b)) l ls) bs
@@ -95,7 +103,8 @@ module _ (l : Level) (ls : List Level) where
   pub item-runs : (i : Item) (id p : ℕ) (bs : List ℕ) → Stands i id → Reach (want l ls) p (itemText i ++ bs) (inside (item id) l ls) bs
   unfolding Stands itemText
   item-runs (grammar.name letters) id p bs h =
-      letters-run (map lower letters) (want l ls) [] letters id p bs want-acts (some-letter (map lower letters) h) (names.name-walks (map lower letters) id h) h refl
+      letters-run (map lower letters) (want l ls) [] letters id p bs want-acts (some-letter (map lower letters) h)
+      (names.name-walks (map lower letters) id h) h refl
     where
       no-letters : idNamed [] ≡ some id → ⊥
       no-letters z = names.not-empty id z
@@ -119,19 +128,23 @@ abbrev NotEqualSign : List ℕ → Type 0
 NotEqualSign bs = getD bs 0 0 ≡ 61 → ⊥
 
 module _ (id : ℕ) (l : Level) (ls : List Level) where
-  half-runs : (c : Comparison) (b p : ℕ) (bs : List ℕ) → partOf (item id) b ≡ on (half id c) → Reach (inside (item id) l ls) p (b ∷ 61 ∷ bs) (inside (constant id c) l ls) bs
+  half-runs : (c : Comparison) (b p : ℕ) (bs : List ℕ) → partOf (item id) b ≡ on (half id c) → Reach (inside (item id) l ls) p (b ∷ 61 ∷ bs)
+      (inside (constant id c) l ls) bs
   half-runs c b p bs h =
       then (part-on l ls (item id) (half id c) p b (61 ∷ bs) h) (λ q. part-on l ls (half id c) (constant id c) q 61 bs (unfold partOf in refl))
 
-  order-runs : (c : Comparison) (b p : ℕ) (bs : List ℕ) → partOf (item id) b ≡ on (order id c) → NotEqualSign bs → Reach (inside (item id) l ls) p (b ∷ bs) (inside (constant id c) l ls) bs
+  order-runs : (c : Comparison) (b p : ℕ) (bs : List ℕ) → partOf (item id) b ≡ on (order id c) → NotEqualSign bs → Reach (inside (item id) l ls) p (b ∷ bs)
+      (inside (constant id c) l ls) bs
   order-runs c b p bs h n =
       then (part-on l ls (item id) (order id c) p b bs h) (λ q. record { place = q; moves = refl; runs = steps.order-ends id c l ls q bs n })
 
-  or-equal-runs : (c : Comparison) (b p : ℕ) (bs : List ℕ) → partOf (item id) b ≡ on (order id c) → Reach (inside (item id) l ls) p (b ∷ 61 ∷ bs) (inside (constant id (orEqual c)) l ls) bs
+  or-equal-runs : (c : Comparison) (b p : ℕ) (bs : List ℕ) → partOf (item id) b ≡ on (order id c) → Reach (inside (item id) l ls) p (b ∷ 61 ∷ bs)
+      (inside (constant id (orEqual c)) l ls) bs
   or-equal-runs c b p bs h =
       then (part-on l ls (item id) (order id c) p b (61 ∷ bs) h) (λ q. part-on l ls (order id c) (constant id (orEqual c)) q 61 bs (unfold partOf in refl))
 
-  pub operator-runs : (c : Comparison) (p : ℕ) (bs : List ℕ) → NotEqualSign bs → Reach (inside (item id) l ls) p (operatorText c ++ bs) (inside (constant id c) l ls) bs
+  pub operator-runs : (c : Comparison) (p : ℕ) (bs : List ℕ) → NotEqualSign bs → Reach (inside (item id) l ls) p (operatorText c ++ bs)
+      (inside (constant id c) l ls) bs
   unfolding operatorText bytesOf
   operator-runs Equal p bs n = half-runs Equal 61 p bs (unfold partOf isBlank in refl)
   operator-runs Greater p bs n = order-runs Greater 62 p bs (unfold partOf isBlank in refl) n
@@ -149,10 +162,12 @@ module _ (id : ℕ) (c : Comparison) (l : Level) (ls : List Level) where
   digits-run [] v p bs h i = stay (inside (digits id c v) l ls) p bs
   digits-run (d ∷ ds) v p bs h i =
       let least : 10 * v + (d - 48) ≤ valueFrom (10 * v + (d - 48)) ds = tests.value-least (10 * v + (d - 48)) ds in
-      then (part-on l ls (digits id c v) (digits id c (10 * v + (d - 48))) p d (ds ++ bs) (steps.digit-more id c v d (tests.first-true (digit d) _ h) (omega arith)))
+      then (part-on l ls (digits id c v) (digits id c (10 * v + (d - 48))) p d (ds ++ bs)
+      (steps.digit-more id c v d (tests.first-true (digit d) _ h) (omega arith)))
       (λ q. digits-run ds (10 * v + (d - 48)) q bs (tests.second-true (digit d) _ h) i)
 
-  number-runs : (ds : List ℕ) (p : ℕ) (bs : List ℕ) → Digits ds → Reach (inside (constant id c) l ls) p (ds ++ bs) (inside (digits id c (valueFrom 0 ds)) l ls) bs
+  number-runs : (ds : List ℕ) (p : ℕ) (bs : List ℕ) → Digits ds → Reach (inside (constant id c) l ls) p (ds ++ bs)
+      (inside (digits id c (valueFrom 0 ds)) l ls) bs
   unfolding every valueFrom
   number-runs [] p bs h = absurd (omega (arith, h .some))
   number-runs (d ∷ ds) p bs h =
@@ -162,12 +177,14 @@ module _ (id : ℕ) (c : Comparison) (l : Level) (ls : List Level) where
       (λ q. digits-run ds (d - 48) q bs (tests.second-true (digit d) _ (h .are)) f))
 
   -- one character of a string
-  character-runs : (x : Character) (bytes : List ℕ) (p : ℕ) (bs : List ℕ) → goodCharacter x ≡ true → length bytes < 255 → starsIn (bytes ++ characterByte x ∷ []) ≤ 4
+  character-runs : (x : Character) (bytes : List ℕ) (p : ℕ) (bs : List ℕ) → goodCharacter x ≡ true → length bytes < 255 → starsIn
+      (bytes ++ characterByte x ∷ []) ≤ 4
       → Reach (inside (string id c bytes) l ls) p (characterText x ++ bs) (inside (string id c (bytes ++ characterByte x ∷ [])) l ls) bs
   unfolding goodCharacter characterText characterByte
   character-runs (plain b) bytes p bs g h i = part-on l ls (string id c bytes) (string id c (bytes ++ b ∷ [])) p b bs (plain-part (eqb b 34) refl g)
     where
-      plain-part : (t : Bool) → eqb b 34 ≡ t → cond t false (cond (eqb b 92) false (isPrinted b)) ≡ true → partOf (string id c bytes) b ≡ on (string id c (bytes ++ b ∷ []))
+      plain-part : (t : Bool) → eqb b 34 ≡ t → cond t false (cond (eqb b 92) false (isPrinted b)) ≡ true → partOf (string id c bytes) b ≡ on
+          (string id c (bytes ++ b ∷ []))
       plain-part true e z = absurd (tests.clash false z refl)
       plain-part false e z = not-escape (eqb b 92) refl z
         where
@@ -184,23 +201,29 @@ module _ (id : ℕ) (c : Comparison) (l : Level) (ls : List Level) where
   character-runs (coded a b) bytes p bs g h i =
       then (part-on l ls (string id c bytes) (escape id c bytes) p 92 (120 ∷ a ∷ b ∷ bs) (steps.string-escape id c bytes h))
       (λ p1. then (part-on l ls (escape id c bytes) (machine.coded id c bytes) p1 120 (a ∷ b ∷ bs) (unfold partOf in refl))
-      (λ p2. then (part-on l ls (machine.coded id c bytes) (code id c bytes (hexOf a)) p2 a (b ∷ bs) (unfold partOf in rw (tests.first-true (isHexDigit a) _ g)))
-      (λ p3. part-on l ls (code id c bytes (hexOf a)) (string id c (bytes ++ (16 * hexOf a + hexOf b) ∷ [])) p3 b bs (unfold partOf in rw (tests.second-true (isHexDigit a) _ g) (steps.adds id c bytes (16 * hexOf a + hexOf b) h i)))))
+      (λ p2. then (part-on l ls (machine.coded id c bytes) (code id c bytes (hexOf a)) p2 a (b ∷ bs)
+      (unfold partOf in rw (tests.first-true (isHexDigit a) _ g)))
+      (λ p3. part-on l ls (code id c bytes (hexOf a)) (string id c (bytes ++ (16 * hexOf a + hexOf b) ∷ [])) p3 b bs
+      (unfold partOf in rw (tests.second-true (isHexDigit a) _ g) (steps.adds id c bytes (16 * hexOf a + hexOf b) h i)))))
 
-  characters-run : (xs : List Character) (bytes : List ℕ) (p : ℕ) (bs : List ℕ) → goodCharacters xs ≡ true → length (bytes ++ charactersBytes xs) ≤ 255 → starsIn (bytes ++ charactersBytes xs) ≤ 4
+  characters-run : (xs : List Character) (bytes : List ℕ) (p : ℕ) (bs : List ℕ) → goodCharacters xs ≡ true → length (bytes ++ charactersBytes xs) ≤ 255
+      → starsIn (bytes ++ charactersBytes xs) ≤ 4
       → Reach (inside (string id c bytes) l ls) p (charactersText xs ++ bs) (inside (string id c (bytes ++ charactersBytes xs)) l ls) bs
   unfolding goodCharacters charactersText charactersBytes
   characters-run [] bytes p bs g h i = rw append-nil (stay (inside (string id c bytes) l ls) p bs)
   characters-run (x ∷ xs) bytes p bs g h i =
-      let split : bytes ++ characterByte x ∷ charactersBytes xs ≡ (bytes ++ characterByte x ∷ []) ++ charactersBytes xs = sym (append-assoc bytes (characterByte x ∷ []) (charactersBytes xs)) in
+      let split : bytes ++ characterByte x ∷ charactersBytes xs ≡ (bytes ++ characterByte x ∷ []) ++ charactersBytes
+      xs = sym (append-assoc bytes (characterByte x ∷ []) (charactersBytes xs)) in
       let h' : length ((bytes ++ characterByte x ∷ []) ++ charactersBytes xs) ≤ 255 = rw split at h in
       let i' : starsIn ((bytes ++ characterByte x ∷ []) ++ charactersBytes xs) ≤ 4 = rw split at i in
       rw (split, append-assoc (characterText x) (charactersText xs) bs)
-      (then (character-runs x bytes p (charactersText xs ++ bs) (tests.first-true (goodCharacter x) _ g) (omega (arith, h', length-append (bytes ++ characterByte x ∷ []) (charactersBytes xs), length-append bytes (characterByte x ∷ [])))
+      (then (character-runs x bytes p (charactersText xs ++ bs) (tests.first-true (goodCharacter x) _ g)
+      (omega (arith, h', length-append (bytes ++ characterByte x ∷ []) (charactersBytes xs), length-append bytes (characterByte x ∷ [])))
       (omega (arith, i', steps.stars-append (bytes ++ characterByte x ∷ []) (charactersBytes xs))))
       (λ q. characters-run xs (bytes ++ characterByte x ∷ []) q bs (tests.second-true (goodCharacter x) _ g) h' i'))
 
-  pub constant-runs : (k : Constant) (p : ℕ) (bs : List ℕ) → GoodConstant c k → Closes bs → Reach (inside (constant id c) l ls) p (constantText k ++ bs) (after-relation l ls (meant id c k)) bs
+  pub constant-runs : (k : Constant) (p : ℕ) (bs : List ℕ) → GoodConstant c k → Closes bs → Reach (inside (constant id c) l ls) p (constantText k ++ bs)
+      (after-relation l ls (meant id c k)) bs
   unfolding GoodConstant constantText meant
   constant-runs (grammar.number ds) p bs g h =
       then (number-runs ds p bs g) (λ q. record { place = q; moves = refl; runs = steps.number-ends id c l ls (valueFrom 0 ds) q bs h })
@@ -208,12 +231,14 @@ module _ (id : ℕ) (c : Comparison) (l : Level) (ls : List Level) where
       rw (append-assoc ds (58 ∷ w ∷ []) bs)
       (then (number-runs ds p (58 ∷ w ∷ bs) (g .0))
       (λ p1. then (part-on l ls (digits id c (valueFrom 0 ds)) (colon id c (valueFrom 0 ds)) p1 58 (w ∷ bs) (steps.digits-colon id c (valueFrom 0 ds)))
-      (λ p2. part-whole l ls (colon id c (valueFrom 0 ds)) (numberRelation id c (w - 48) (valueFrom 0 ds)) p2 w bs (steps.colon-width id c (valueFrom 0 ds) w (g .1)))))
+      (λ p2. part-whole l ls (colon id c (valueFrom 0 ds)) (numberRelation id c (w - 48) (valueFrom 0 ds)) p2 w bs
+      (steps.colon-width id c (valueFrom 0 ds) w (g .1)))))
   constant-runs (grammar.string xs) p bs g h =
       rw (append-assoc (charactersText xs) (34 ∷ []) bs)
       (then (part-on l ls (constant id c) (string id c []) p 34 (charactersText xs ++ 34 ∷ bs) (steps.wants-string id c (g .1)))
       (λ p1. then (characters-run xs [] p1 (34 ∷ bs) (g .0 .are) (g .0 .short) (g .0 .stars))
-      (λ p2. part-whole l ls (string id c (charactersBytes xs)) (textRelation id c (charactersBytes xs)) p2 34 bs (steps.string-end id c (charactersBytes xs)))))
+      (λ p2. part-whole l ls (string id c (charactersBytes xs)) (textRelation id c (charactersBytes xs)) p2 34 bs
+      (steps.string-end id c (charactersBytes xs)))))
 
 -- ---- relations
 
@@ -231,13 +256,16 @@ behind-first [] bs g n z = n z
 behind-first (b ∷ x) bs g n z = omega (arith, tests.blank-below b (tests.first-true (isBlank b) _ g))
 
 -- a relation, wherever it stands
-pub relation-runs : (r : Written) → GoodWritten r → (l : Level) (ls : List Level) (p : ℕ) (bs : List ℕ) → Closes bs → Reach (want l ls) p (writtenText r ++ bs) (after-relation l ls (relationOf r)) bs
+pub relation-runs : (r : Written) → GoodWritten r → (l : Level) (ls : List Level) (p : ℕ) (bs : List ℕ) → Closes bs → Reach (want l ls) p (writtenText r ++ bs)
+    (after-relation l ls (relationOf r)) bs
 unfolding writtenText
 relation-runs r g l ls p bs h =
     let k : List ℕ = constantText (r .constant) ++ bs in
     simp append-assoc
     (then (item-runs l ls (r .item) (r .id) p (r .before ++ (operatorText (r .comparison) ++ (r .behind ++ k))) (g .stands))
-    (λ p1. then (over-blanks (inside (item (r .id)) l ls) (item-still (r .id) l ls) (r .before) (g .before) p1 (operatorText (r .comparison) ++ (r .behind ++ k)))
-    (λ p2. then (operator-runs (r .id) l ls (r .comparison) p2 (r .behind ++ k) (behind-first (r .behind) k (g .behind) (constant-first (r .comparison) (r .constant) bs (g .constant))))
+    (λ p1. then (over-blanks (inside (item (r .id)) l ls) (item-still (r .id) l ls) (r .before) (g .before) p1
+    (operatorText (r .comparison) ++ (r .behind ++ k)))
+    (λ p2. then (operator-runs (r .id) l ls (r .comparison) p2 (r .behind ++ k)
+    (behind-first (r .behind) k (g .behind) (constant-first (r .comparison) (r .constant) bs (g .constant))))
     (λ p3. then (over-blanks (inside (constant (r .id) (r .comparison)) l ls) (constant-still (r .id) (r .comparison) l ls) (r .behind) (g .behind) p3 k)
     (λ p4. constant-runs (r .id) (r .comparison) l ls (r .constant) p4 bs (g .constant) h)))))

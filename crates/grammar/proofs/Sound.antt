@@ -15,7 +15,8 @@ use Rattle.grammar.specs.Formula as formula
 use Rattle.grammar.specs.Formula.{Formula, andAfter, orAfter}
 use Rattle.grammar.specs.Grammar.{Blanks, writtenText, relationOf, Sum, product, plus, Product, factor, times, Factor, relation, bracket}
 use Rattle.grammar.specs.Grammar.{textS, textP, textF, formulaS, formulaP, formulaF, GoodS, GoodP, GoodF, nestS, nestP, nestF, Reads}
-use Rattle.grammar.specs.Machine.{Phase, name, hash, Part, on, whole, past, stop, partOf, Level, level, fresh, State, want, inside, have, ampersand, bar, Move, go, halt}
+use Rattle.grammar.specs.Machine.{Phase, name, hash, Part, on, whole, past, stop, partOf, Level, level, fresh, State, want, inside, have, ampersand, bar}
+use Rattle.grammar.specs.Machine.{Move, go, halt}
 use Rattle.grammar.specs.Machine.{closed, after, taken, step, Outcome, accepted, refused, ended, endedIn, ending, moved, run, outcomeOf}
 use Rattle.grammar.specs.declared.Reason.{Reason}
 use Rattle.grammar.specs.declared.Reason.the-variants as reason
@@ -50,14 +51,16 @@ blank-more : (x : List ℕ) (b : ℕ) → Blanks x → isBlank b ≡ true → Bl
 blank-more x b h i = tests.every-append isBlank x (b ∷ []) h (tests.every-one isBlank b i)
 
 -- a blank more after a factor
-factor-blank : (n : ℕ) (t : Formula) (s : List ℕ) (b : ℕ) → isBlank b ≡ true → (x : Factor) → GoodF x → nestF x ≤ n → textF x ≡ s → formulaF x ≡ t → FactorHeld n t (s ++ b ∷ [])
+factor-blank : (n : ℕ) (t : Formula) (s : List ℕ) (b : ℕ) → isBlank b ≡ true → (x : Factor) → GoodF x → nestF x ≤ n → textF x ≡ s → formulaF x ≡ t
+    → FactorHeld n t (s ++ b ∷ [])
 unfolding GoodF nestF textF formulaF
 factor-blank n t s b z (relation i r j) g h e f =
     record { x = relation i r (j ++ b ∷ []); good = (g .0, g .1, blank-more j b (g .2) z); nest = h; text = rw (← e) (simp append-assoc); means = f }
 factor-blank n t s b z (bracket i y j) g h e f =
     record { x = bracket i y (j ++ b ∷ []); good = (g .0, g .1, blank-more j b (g .2) z); nest = h; text = rw (← e) (simp append-assoc); means = f }
 
-product-blank : (n : ℕ) (t : Formula) (s : List ℕ) (b : ℕ) → isBlank b ≡ true → (x : Product) → GoodP x → nestP x ≤ n → textP x ≡ s → formulaP x ≡ t → ProductHeld n t (s ++ b ∷ [])
+product-blank : (n : ℕ) (t : Formula) (s : List ℕ) (b : ℕ) → isBlank b ≡ true → (x : Product) → GoodP x → nestP x ≤ n → textP x ≡ s → formulaP x ≡ t
+    → ProductHeld n t (s ++ b ∷ [])
 unfolding GoodP nestP textP formulaP
 product-blank n t s b z (factor f) g h e r =
     let y = factor-blank n t s b z f g h e r in
@@ -138,10 +141,21 @@ at-more l ls w s x y h e = record { u = h .u; v = h .v; around = h .around; held
 
 past-more : (p : Formula) (o : Option Formula) (ls : List Level) (s x : List ℕ) → Past p o ls [] s → Past p o ls x (s ++ x)
 past-more p o ls s x h =
-    record { u = h .u; a = h .a; b = h .b; around = h .around; sum = h .sum; product = h .product; fits = h .fits; text = rw (h .text) (simp (append-assoc, append-nil)) }
+    record {
+      u = h .u;
+      a = h .a;
+      b = h .b;
+      around = h .around;
+      sum = h .sum;
+      product = h .product;
+      fits = h .fits;
+      text = rw (h .text)
+          (simp (append-assoc, append-nil));
+    }
 
 -- a factor is whole
-finish : (l : Level) (ls : List Level) (w s : List ℕ) (t : Formula) → At l ls w s → FactorHeld (16 - length ls) t w → Past (andAfter (l .product) t) (l .sum) ls [] s
+finish : (l : Level) (ls : List Level) (w s : List ℕ) (t : Formula) → At l ls w s → FactorHeld (16 - length ls) t w → Past (andAfter (l .product) t)
+    (l .sum) ls [] s
 finish l ls w s t h f =
     record {
       u = h .u;
@@ -155,8 +169,8 @@ finish l ls w s t h f =
     }
 
 -- a relation, behind blanks
-factor-of : (n : ℕ) (r : Relation) (k u : List ℕ) → Blanks k → RelationHeld r u → FactorHeld n (formula.relation r) (k ++ u)
-factor-of n r k u b h =
+factor-of : (n : ℕ) (t : Bool) (r : Relation) (k u : List ℕ) → Blanks k → RelationHeld t r u → FactorHeld n (formula.relation r) (k ++ u)
+factor-of n t r k u b h =
     record {
       x = relation k (h .written) [];
       good = unfold GoodF in (b, h .good, unfold every in refl);
@@ -235,21 +249,24 @@ held-after p o ls b s h =
 
 -- ---- a byte in a relation, and where a factor is wanted
 
-held-taken : (part : Part) (l : Level) (ls : List Level) (b : ℕ) (k u s : List ℕ) → Blanks k → PartHeld part u b → At l ls (k ++ u) s → MoveHeld (taken part l ls b) (s ++ b ∷ [])
+held-taken : (part : Part) (l : Level) (ls : List Level) (b : ℕ) (k u s : List ℕ) → Blanks k → PartHeld part u b → At l ls (k ++ u) s → MoveHeld
+    (taken part l ls b) (s ++ b ∷ [])
 unfolding taken MoveHeld Held PartHeld
 held-taken (on ph) l ls b k u s g h a = (k, u ++ b ∷ [], g, h, at-more l ls (k ++ u) s (b ∷ []) (k ++ (u ++ b ∷ [])) a (append-assoc k u (b ∷ [])))
 held-taken (whole r) l ls b k u s g h a =
     finish l ls (k ++ (u ++ b ∷ [])) (s ++ b ∷ []) (formula.relation r) (at-more l ls (k ++ u) s (b ∷ []) (k ++ (u ++ b ∷ [])) a (append-assoc k u (b ∷ [])))
-    (factor-of (16 - length ls) r k (u ++ b ∷ []) g h)
+    (factor-of (16 - length ls) false r k (u ++ b ∷ []) g h)
 held-taken (past r) l ls b k u s g h a =
-    held-after (andAfter (l .product) (formula.relation r)) (l .sum) ls b s (finish l ls (k ++ u) s (formula.relation r) a (factor-of (16 - length ls) r k u g h))
+    held-after (andAfter (l .product) (formula.relation r)) (l .sum) ls b s
+    (finish l ls (k ++ u) s (formula.relation r) a (factor-of (16 - length ls) true r k u g h))
 held-taken (stop why) l ls b k u s g h a = tt
 
 held-want : (l : Level) (ls : List Level) (b : ℕ) (s : List ℕ) → Held (want l ls) s → MoveHeld (step (want l ls) b) (s ++ b ∷ [])
 unfolding step MoveHeld Held
 held-want l ls b s h =
     by-test (isBlank b) _ _ (s ++ b ∷ []) (λ e. (h .0 ++ b ∷ [], blank-more (h .0) b (h .1) e, at-more l ls (h .0) s (b ∷ []) (h .0 ++ b ∷ []) (h .2) refl))
-    (λ e. by-test (eqb b 40) _ _ (s ++ b ∷ []) (λ f. by-test (ltb (length ls) 16) _ _ (s ++ b ∷ []) (λ g. rw (eqb-true b 40 f) (opened (ltb-true (length ls) 16 g))) (λ g. tt))
+    (λ e. by-test (eqb b 40) _ _ (s ++ b ∷ []) (λ f. by-test (ltb (length ls) 16) _ _ (s ++ b ∷ [])
+    (λ g. rw (eqb-true b 40 f) (opened (ltb-true (length ls) 16 g))) (λ g. tt))
     (λ f. by-test (eqb b 35) _ _ (s ++ b ∷ []) (λ g. rw (eqb-true b 35 g) hashed)
     (λ g. held-taken (partOf (name []) b) l ls b (h .0) [] s (h .1) (held-letters [] [] b refl) (rw append-nil (h .2)))))
   where
@@ -297,7 +314,14 @@ held-step (bar p o ls) b s h =
         v = (h .a ++ h .b) ++ 124 ∷ 124 ∷ [];
         around = h .around;
         fits = h .fits;
-        held = record { a = (h .a ++ h .b) ++ 124 ∷ 124 ∷ []; b = []; sum = unfold FrontS in (h .a ++ h .b, join-sum (16 - length ls) o p (h .a) (h .b) (h .sum) (h .product), refl); product = unfold FrontP in refl; text = simp append-nil };
+        held = record {
+          a = (h .a ++ h .b) ++ 124 ∷ 124 ∷ [];
+          b = [];
+          sum = unfold
+              FrontS in (h .a ++ h .b, join-sum (16 - length ls) o p (h .a) (h .b) (h .sum) (h .product), refl);
+          product = unfold FrontP in refl;
+          text = simp append-nil;
+        };
         text = rw (h .text) (simp (append-assoc, append-nil));
       },
     )) (λ e. tt)
@@ -317,17 +341,20 @@ same-formula a b e = cc
 no-end : (p : ℕ) (why : Reason) (t : Formula) (s : List ℕ) → refused p why ≡ accepted t → Reads s t
 no-end p why t s e = let z : _≡_ {A = ℕ} 0 1 = cc in absurd (omega arith)
 
-at-past : (q : Formula) (o : Option Formula) (ls : List Level) (p : ℕ) (t : Formula) (s : List ℕ) → Past q o ls [] s → ended (orAfter o q) ls p ≡ accepted t → Reads s t
+at-past : (q : Formula) (o : Option Formula) (ls : List Level) (p : ℕ) (t : Formula) (s : List ℕ) → Past q o ls [] s → ended (orAfter o q) ls p ≡ accepted t
+    → Reads s t
 unfolding ended
 at-past q o [] p t s h e = rw (← same-formula (orAfter o q) t e) (whole-text q o s h)
 at-past q o (l ∷ ls) p t s h e = no-end p reason.Bracket t s e
 
-at-part : (part : Part) (l : Level) (ls : List Level) (p : ℕ) (t : Formula) (k u s : List ℕ) → Blanks k → PartHeld part u 0 → At l ls (k ++ u) s → endedIn part l ls p ≡ accepted t → Reads s t
+at-part : (part : Part) (l : Level) (ls : List Level) (p : ℕ) (t : Formula) (k u s : List ℕ) → Blanks k → PartHeld part u 0 → At l ls (k ++ u) s
+    → endedIn part l ls p ≡ accepted t → Reads s t
 unfolding endedIn PartHeld
 at-part (on ph) l ls p t k u s g h a e = no-end p reason.Connective t s e
 at-part (whole r) l ls p t k u s g h a e = no-end p reason.Connective t s e
 at-part (past r) l ls p t k u s g h a e =
-    at-past (andAfter (l .product) (formula.relation r)) (l .sum) ls p t s (finish l ls (k ++ u) s (formula.relation r) a (factor-of (16 - length ls) r k u g h)) e
+    at-past (andAfter (l .product) (formula.relation r)) (l .sum) ls p t s
+    (finish l ls (k ++ u) s (formula.relation r) a (factor-of (16 - length ls) true r k u g h)) e
 at-part (stop why) l ls p t k u s g h a e = no-end p why t s e
 
 at-end : (st : State) (p : ℕ) (t : Formula) (s : List ℕ) → Held st s → ending st p ≡ accepted t → Reads s t

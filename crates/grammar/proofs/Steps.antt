@@ -33,7 +33,8 @@ unfolding starsIn
 stars-append [] b = omega arith
 stars-append (x ∷ a) b = by (stars-append a b) (eqb x 42)
   where
-    by : starsIn (a ++ b) ≡ starsIn a + starsIn b → (t : Bool) → cond t (suc (starsIn (a ++ b))) (starsIn (a ++ b)) ≡ cond t (suc (starsIn a)) (starsIn a) + starsIn b
+    by : starsIn (a ++ b) ≡ starsIn a + starsIn b → (t : Bool) → cond t (suc (starsIn (a ++ b))) (starsIn (a ++ b)) ≡ cond t (suc (starsIn a))
+        (starsIn a) + starsIn b
     by ih true = omega arith
     by ih false = ih
 
@@ -214,7 +215,8 @@ abbrev pub Closes : List ℕ → Type 0
 Closes bs = (digit (getD bs 0 0) ≡ false) × (getD bs 0 0 ≡ 58 → ⊥)
 
 module _ (id : ℕ) (c : Comparison) (l : Level) (ls : List Level) where
-  pub number-ends : (v p : ℕ) (bs : List ℕ) → Closes bs → run (inside (digits id c v) l ls) p bs ≡ run (after-relation l ls (numberRelation id c (widthOf id v) v)) p bs
+  pub number-ends : (v p : ℕ) (bs : List ℕ) → Closes bs → run (inside (digits id c v) l ls) p bs ≡ run
+      (after-relation l ls (numberRelation id c (widthOf id v) v)) p bs
   unfolding run ending endedIn partOf digit
   number-ends v p [] h = refl
   number-ends v p (b ∷ bs) h = unfold step taken in rw (digits-past id c v b (h .0) (h .1))

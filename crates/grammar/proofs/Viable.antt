@@ -17,7 +17,8 @@ use Rattle.names.specs.Names.{idNamed, startsName}
 use Rattle.grammar.specs.Formula.{Formula, relation, andAfter, orAfter}
 use Rattle.grammar.specs.Meaning.{orEqual, isWidth, numberRelation, textRelation, widthOf}
 use Rattle.grammar.specs.Grammar.{Reads, Begins, WrongPlace}
-use Rattle.grammar.specs.Machine.{Phase, name, hash, item, half, order, constant, digits, colon, string, escape, coded, code, Part, on, whole, past, stop, partOf, wanted, added}
+use Rattle.grammar.specs.Machine.{Phase, name, hash, item, half, order, constant, digits, colon, string, escape, coded, code, Part, on, whole, past, stop}
+use Rattle.grammar.specs.Machine.{partOf, wanted, added}
 use Rattle.grammar.specs.Machine.{Level, level, fresh, State, want, inside, have, ampersand, bar, Move, go, halt, closed, after, taken, step}
 use Rattle.grammar.specs.Machine.{Outcome, accepted, refused, ended, endedIn, ending, moved, run, outcomeOf}
 use Rattle.grammar.specs.declared.Comparison.{Comparison}
@@ -60,7 +61,8 @@ module _ (l : Level) (ls : List Level) where
   -- a number, which a blank ends
   ends-digits : (id : ℕ) (c : Comparison) (v : ℕ) → Ends (inside (digits id c v) l ls)
   ends-digits id c v =
-      ends-by 32 (inside (digits id c v) l ls) (after-relation l ls (numberRelation id c (widthOf id v) v)) (unfold step partOf digit taken after isBlank in refl)
+      ends-by 32 (inside (digits id c v) l ls) (after-relation l ls (numberRelation id c (widthOf id v) v))
+      (unfold step partOf digit taken after isBlank in refl)
       (ends-have (andAfter (l .product) (relation (numberRelation id c (widthOf id v) v))) (l .sum) ls)
 
   -- behind ":" the width 4 holds any number
@@ -87,7 +89,8 @@ module _ (l : Level) (ls : List Level) where
         rest = c .rest ++ e .rest;
         means = e .means;
         runs = λ p.
-            (let x = letters-run l ls (c .rest) (inside (name w) l ls) w (c .rest) (c .id) p (e .rest) (inside-acts l ls w) (names.more-letters w n c) (names.walks-on w n c) (c .is) (c .lowered) in
+            (let x = letters-run l ls (c .rest) (inside (name w) l ls) w (c .rest) (c .id) p (e .rest) (inside-acts l ls w) (names.more-letters w n c)
+            (names.walks-on w n c) (c .is) (c .lowered) in
             x .runs ∙ e .runs (x .place));
       }
 
@@ -126,7 +129,8 @@ module _ (l : Level) (ls : List Level) where
     ends-code : (bytes : List ℕ) (d : ℕ) → length bytes < 255 → Ends (inside (code id c bytes d) l ls)
     ends-code bytes d h =
         ends-on 48 (code id c bytes d) (string id c (bytes ++ (16 * d + 0) ∷ []))
-        (unfold partOf added lower hexValue in rw (ne-eqb (16 * d + 0) 42 (λ z. omega arith), lt-ltb (length bytes) 255 h)) (ends-string (bytes ++ (16 * d + 0) ∷ []))
+        (unfold partOf added lower hexValue in rw (ne-eqb (16 * d + 0) 42 (λ z. omega arith), lt-ltb (length bytes) 255 h))
+        (ends-string (bytes ++ (16 * d + 0) ∷ []))
 
     ends-coded : (bytes : List ℕ) → length bytes < 255 → Ends (inside (coded id c bytes) l ls)
     ends-coded bytes h = ends-on 48 (coded id c bytes) (code id c bytes 0) (unfold partOf lower hexValue in refl) (ends-code bytes 0 h)
@@ -216,7 +220,7 @@ part-place (whole r) l ls p q why e = refused-place p q reason.Connective why e
 part-place (past r) l ls p q why e = ended-place (orAfter (l .sum) (andAfter (l .product) (relation r))) ls p q why e
 part-place (stop w) l ls p q why e = refused-place p q w why e
 
-end-place : (st : State) (p q : ℕ) (why : Reason) → ending st p ≡ refused q why → p ≡ q
+pub end-place : (st : State) (p q : ℕ) (why : Reason) → ending st p ≡ refused q why → p ≡ q
 unfolding ending
 end-place (want l ls) p q why e = refused-place p q reason.Item why e
 end-place (inside ph l ls) p q why e = part-place (partOf ph 0) l ls p q why e
@@ -247,7 +251,8 @@ first-wrong text q why e =
     let r = wrong text (want fresh []) [] 0 q why held-start e in
     let z : q - 0 ≡ q = omega arith in
     let begins : outcomeOf (take q text ++ r .rest) ≡ accepted (r .means) = rw z at (r .begins) in
-    let never : q < length text → (more : List ℕ) → outcomeOf (take (q + 1) text ++ more) ≡ refused q why = (λ h more. rw (add-one q) (rw z at (r .never (omega arith) more))) in
+    let never : q < length text → (more : List ℕ) → outcomeOf (take (q + 1) text ++ more) ≡ refused q
+    why = (λ h more. rw (add-one q) (rw z at (r .never (omega arith) more))) in
     record {
       within = omega (arith, r .within);
       begins = record { rest = r .rest; means = r .means; reads = sound (take q text ++ r .rest) (r .means) begins };

@@ -98,6 +98,12 @@ pub data Constant : Type 0 where
   sized : List ℕ → ℕ → Constant
   string : List Character → Constant
 
+-- a number without a width, which further digits may follow
+unfoldable pub unsized : Constant → Bool
+unsized (number ds) = true
+unsized (sized ds w) = false
+unsized (string cs) = false
+
 -- ':' is 58
 unfoldable pub constantText : Constant → List ℕ
 constantText (number ds) = ds

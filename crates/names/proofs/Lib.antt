@@ -1,3 +1,4 @@
 pub mod Tests
 pub mod NameLaws
 pub mod RowLaws
+pub mod SearchLaws

@@ -1,21 +1,21 @@
 -- The public call: what it answers is the text's. Assumes nothing.
-use mathlib.Core.Path.{_≡_, refl, sym, ap, subst, _∙_}
+use mathlib.Core.Path.{_≡_, refl, sym, subst, _∙_}
 use mathlib.Core.List.{List, []}
 use Prim.Native.Nat.{ℕ, _+_, _≤_, _<_}
 use native.Mathlib.Omega.{arith}
 use lib.ListN.{length, getD}
 use Rattle.grammar.specs.Formula.{postfix, orAfter}
-use Rattle.grammar.specs.Machine.{want, have, fresh, accepted, refused, ended, ending, outcomeOf}
+use Rattle.grammar.specs.Machine.{have, refused, ended, ending, outcomeOf}
 use Rattle.grammar.specs.declared.Reason.{Reason}
 use Rattle.grammar.specs.declared.Reason.the-variants as reason
 use Rattle.grammar.proofs.Steps as steps
 use Rattle.grammar.proofs.Viable.{first-wrong}
-use Rattle.paper.specs.Contract.{SumIs, SumRead}
-use Rattle.paper.specs.Answer.{Answers, answers, delivered, deliveredFrom, answered, bytesOf}
+use Rattle.readings.specs.Contract.{SumIs, SumRead}
+use Rattle.paper.specs.Answer.{Answers, answers, deliveredFrom, answered, bytesOf}
 use Rattle.paper.specs.declared.Answer.the-variants as answer
-use Rattle.paper.specs.declared.sums.Reading.{Reading}
-use Rattle.paper.specs.declared.sums.Reading.the-variants.{At, Wrong}
-use Rattle.paper.proofs.Places as places
+use Rattle.readings.specs.declared.Reading.{Reading}
+use Rattle.readings.specs.declared.Reading.the-variants.{At, Wrong}
+use Rattle.tokens.proofs.Places as places
 use Rattle.paper.proofs.OutputLaws as output
 
 module _ (text out buffer : List ℕ) where

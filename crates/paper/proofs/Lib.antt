@@ -1,8 +1,4 @@
-pub mod Places
-pub mod TokenLaws
-pub mod ItemLaws
 pub mod OutputLaws
-pub mod ConstantLaws
-pub mod Readers
 pub mod Answering
 pub mod Promised
+pub mod Examples

@@ -1,37 +1,29 @@
 -- Bytes put one after the other, and the result's delivery. Assumes nothing.
-use mathlib.Core.Path.{_≡_, refl, sym, ap, subst, _∙_}
+use mathlib.Core.Path.{_≡_, refl}
 use mathlib.Core.Bool.{Bool, true, false, cond}
 use mathlib.Core.List.{List, [], _∷_, _++_}
-use Prim.Native.Nat.{ℕ, zero, suc, _+_, _-_, _%_, _/_, _≤_, _<_}
+use Prim.Native.Nat.{ℕ, _+_, _-_, _≤_, _<_}
 use native.Mathlib.Nat.{zero-add}
 use native.Mathlib.Omega.{arith}
 use native.Mathlib.Numerals.{add-one}
 use lib.Dec.{leb, eqb}
 use lib.ListN.{length, getD, set, take, drop}
-use lib.Seq.{sets, sets-eq, set-comm, set-set, paste-suc, take-at}
+use lib.Seq.{sets, sets-eq, paste-suc, take-at}
 use borrow.Author.Tests.{leb-true, le-leb, lt-leb, eqb-true}
-use Rattle.numbers.specs.Numbers.{two, four}
-use Rattle.lines.proofs.Writing.{joined}
 use Rattle.equation.specs.Relation.{width}
-use Rattle.grammar.specs.declared.Reason.{Reason}
-use Rattle.paper.specs.Answer.{Answers, answers, delivered, deliveredFrom}
+use Rattle.readings.proofs.PutLaws as puts
+use Rattle.paper.specs.Answer.{answers, delivered, deliveredFrom}
 use Rattle.paper.specs.declared.Answer.the-variants as answer
 
 -- ---- bytes
 
-pub put-more : (out now later : List ℕ) (n m : ℕ) (xs : List ℕ) (b : ℕ) → now ≡ sets out n xs → m ≡ n + length xs → later ≡ set now m b → later ≡ sets out n (xs ++ b ∷ [])
-put-more out now later n m xs b e h f = f ∙ rw (e, h) (joined out n xs (b ∷ []))
-
-pub put-all : (out now later : List ℕ) (n m : ℕ) (xs ys : List ℕ) → now ≡ sets out n xs → m ≡ n + length xs → later ≡ sets now m ys → later ≡ sets out n (xs ++ ys)
-put-all out now later n m xs ys e h f = f ∙ rw (e, h) (joined out n xs ys)
-
 module _ (out : List ℕ) (n w x y z : ℕ) (o1 o2 o3 o4 : List ℕ) (a b c d : ℕ) (ha : a ≡ n + 1) (e1 : o1 ≡ set out n w) where
   pub two-puts : b ≡ a + 1 → o2 ≡ set o1 a x → o2 ≡ sets out n (w ∷ x ∷ [])
-  two-puts hb e2 = put-more out o1 o2 n a (w ∷ []) x e1 ha e2
+  two-puts hb e2 = puts.put-more out o1 o2 n a (w ∷ []) x e1 ha e2
 
   pub four-puts : b ≡ a + 1 → c ≡ b + 1 → o2 ≡ set o1 a x → o3 ≡ set o2 b y → o4 ≡ set o3 c z → o4 ≡ sets out n (w ∷ x ∷ y ∷ z ∷ [])
   four-puts hb hc e2 e3 e4 =
-      put-more out o3 o4 n c (w ∷ x ∷ y ∷ []) z (put-more out o2 o3 n b (w ∷ x ∷ []) y (two-puts hb e2) (omega arith) e3) (omega arith) e4
+      puts.put-more out o3 o4 n c (w ∷ x ∷ y ∷ []) z (puts.put-more out o2 o3 n b (w ∷ x ∷ []) y (two-puts hb e2) (omega arith) e3) (omega arith) e4
 
 -- a width is 4 where it is neither 1 nor 2
 pub four-wide : (w : ℕ) → width w ≡ true → (w ≡ 1 → ⊥) → (w ≡ 2 → ⊥) → w ≡ 4
@@ -45,11 +37,6 @@ four-wide w h i j = by (eqb w 1) refl h
     by : (t : Bool) → eqb w 1 ≡ t → cond t true (cond (eqb w 2) true (eqb w 4)) ≡ true → w ≡ 4
     by true e z = absurd (i (eqb-true w 1 e))
     by false e z = by2 (eqb w 2) refl z
-
--- a byte before those put last may be put after them
-pub put-before : (l : List ℕ) (i j : ℕ) (b : ℕ) (xs : List ℕ) → i < j → set (sets l j xs) i b ≡ sets (set l i b) j xs
-put-before l i j b [] h = refl
-put-before l i j b (x ∷ xs) h = put-before (set l j x) i (suc j) b xs (omega arith) ∙ ap (λ (m : List ℕ). sets m (suc j) xs) (set-comm l j i x b (λ z. omega arith))
 
 -- ---- the delivery
 
@@ -75,10 +62,13 @@ unfolding deliveredFrom delivered
 from-buffer buffer bytes out m l e = rw e (by (leb (length bytes) 256) refl)
   where
     by : (t : Bool) → leb (length bytes) 256 ≡ t
-        → cond t (cond (leb (length bytes) (length out)) (answers (answer.Bytes (length bytes)) (take (length bytes) (sets buffer 0 bytes) ++ drop (length bytes) out)) (answers (answer.Refused 33) out)) (answers answer.Long out)
-        ≡ cond t (cond (leb (length bytes) (length out)) (answers (answer.Bytes (length bytes)) (bytes ++ drop (length bytes) out)) (answers (answer.Refused 33) out)) (answers answer.Long out)
+        → cond t (cond (leb (length bytes) (length out)) (answers (answer.Bytes (length bytes))
+        (take (length bytes) (sets buffer 0 bytes) ++ drop (length bytes) out)) (answers (answer.Refused 33) out)) (answers answer.Long out)
+        ≡ cond t (cond (leb (length bytes) (length out)) (answers (answer.Bytes (length bytes)) (bytes ++ drop (length bytes) out))
+        (answers (answer.Refused 33) out)) (answers answer.Long out)
     by false h = refl
     by true h =
         let fit : 0 + length bytes ≤ length buffer = omega (arith, leb-true (length bytes) 256 h) in
-        let s : take (length bytes) (sets buffer 0 bytes) ≡ bytes = rw (sets-eq bytes buffer 0 fit) (take-at bytes (drop (0 + length bytes) buffer) (length bytes) refl) in
+        let s : take (length bytes) (sets buffer 0 bytes) ≡ bytes = rw (sets-eq bytes buffer 0 fit)
+        (take-at bytes (drop (0 + length bytes) buffer) (length bytes) refl) in
         rw s

@@ -1,12 +1,12 @@
 -- What is promised holds. Assumes nothing.
-use mathlib.Core.Path.{_≡_, refl, sym, ap, subst, _∙_}
+use mathlib.Core.Path.{_≡_, refl, sym, ap, _∙_}
 use mathlib.Core.Bool.{Bool, true, false, cond}
-use mathlib.Core.List.{List, [], _∷_, _++_}
+use mathlib.Core.List.{List, _++_}
 use Prim.Native.Nat.{ℕ, _+_, _≤_, _<_}
 use native.Mathlib.Omega.{arith}
 use lib.Dec.{leb}
 use lib.ListN.{length, drop}
-use borrow.Author.Tests.{leb-true, leb-false, le-leb, lt-leb}
+use borrow.Author.Tests.{leb-true, le-leb, lt-leb}
 use Rattle.grammar.specs.Formula.{Formula, postfix}
 use Rattle.grammar.specs.Grammar.{Reads, WrongPlace}
 use Rattle.grammar.specs.Machine.{Outcome, accepted, refused, outcomeOf}
@@ -15,13 +15,16 @@ use Rattle.grammar.proofs.Complete.{complete}
 use Rattle.grammar.proofs.Sound.{sound, one-meaning}
 use Rattle.grammar.proofs.Viable.{first-wrong}
 use Rattle.grammar.proofs.Bytes.{text-parsed, text-valid, text-truth}
-use Rattle.paper.specs.Answer.{Answers, answers, delivered, answered, bytesOf}
+use Rattle.readings.specs.Table.{Told}
+use Rattle.readings.proofs.TableLaws.{told}
+use Rattle.paper.specs.Answer.{Answers, answers, delivered, answered}
 use Rattle.paper.specs.Promised.{Accepts, Promised}
 use Rattle.paper.specs.declared.Answer.the-variants as answer
 
 -- ---- the answer to a text of the grammar
 
-fits : (bytes out : List ℕ) → length bytes ≤ 256 → length bytes ≤ length out → delivered bytes out ≡ answers (answer.Bytes (length bytes)) (bytes ++ drop (length bytes) out)
+fits : (bytes out : List ℕ) → length bytes ≤ 256 → length bytes ≤ length out → delivered bytes out ≡ answers (answer.Bytes (length bytes))
+    (bytes ++ drop (length bytes) out)
 unfolding delivered
 fits bytes out h i = rw (le-leb (length bytes) 256 h, le-leb (length bytes) (length out) i)
 
@@ -54,7 +57,8 @@ unfolding delivered Said
 delivered-said bytes out n now = by (leb (length bytes) 256) (leb (length bytes) (length out)) refl
   where
     by : (s t : Bool) → leb (length bytes) 256 ≡ s
-        → cond s (cond t (answers (answer.Bytes (length bytes)) (bytes ++ drop (length bytes) out)) (answers (answer.Refused 33) out)) (answers answer.Long out) ≡ answers (answer.Bytes n) now
+        → cond s (cond t (answers (answer.Bytes (length bytes)) (bytes ++ drop (length bytes) out)) (answers (answer.Refused 33) out))
+        (answers answer.Long out) ≡ answers (answer.Bytes n) now
         → (n ≡ length bytes) × (n ≤ 256) × (now ≡ bytes ++ drop n out)
     by true true h e =
         let a : answer.Bytes (length bytes) ≡ answer.Bytes n = ap (λ (x : Answers). x .answer) e in
@@ -69,7 +73,8 @@ unfolding delivered
 delivered-right bytes out p why now = by (leb (length bytes) 256) (leb (length bytes) (length out))
   where
     by : (s t : Bool)
-        → cond s (cond t (answers (answer.Bytes (length bytes)) (bytes ++ drop (length bytes) out)) (answers (answer.Refused 33) out)) (answers answer.Long out) ≡ answers (answer.Wrong p why) now → ⊥
+        → cond s (cond t (answers (answer.Bytes (length bytes)) (bytes ++ drop (length bytes) out)) (answers (answer.Refused 33) out))
+        (answers answer.Long out) ≡ answers (answer.Wrong p why) now → ⊥
     by true true e = let a : answer.Bytes (length bytes) ≡ answer.Wrong p why = ap (λ (x : Answers). x .answer) e in let z : _≡_ {A = ℕ} 0 1 = cc in omega arith
     by true false e = let a : answer.Refused 33 ≡ answer.Wrong p why = ap (λ (x : Answers). x .answer) e in let z : _≡_ {A = ℕ} 0 1 = cc in omega arith
     by false t e = let a : answer.Long ≡ answer.Wrong p why = ap (λ (x : Answers). x .answer) e in let z : _≡_ {A = ℕ} 0 1 = cc in omega arith
@@ -81,7 +86,8 @@ accepted-by text out (accepted f) h n now e = let s = delivered-said (postfix f)
 accepted-by text out (refused p why) h n now e =
     let a : answer.Wrong (p + 1) why ≡ answer.Bytes n = ap (λ (x : Answers). x .answer) e in let z : _≡_ {A = ℕ} 0 1 = cc in absurd (omega arith)
 
-refused-by : (text out : List ℕ) (o : Outcome) → outcomeOf text ≡ o → (place : ℕ) (why : Reason) (now : List ℕ) → answered o out ≡ answers (answer.Wrong place why) now
+refused-by : (text out : List ℕ) (o : Outcome) → outcomeOf text ≡ o → (place : ℕ) (why : Reason) (now : List ℕ) → answered o out ≡ answers
+    (answer.Wrong place why) now
     → (q : ℕ) × (place ≡ q + 1) × WrongPlace text q × (now ≡ out)
 unfolding answered
 refused-by text out (accepted f) h place why now e = absurd (delivered-right (postfix f) out place why now e)
@@ -89,6 +95,16 @@ refused-by text out (refused p because) h place why now e =
     let a : answer.Wrong (p + 1) because ≡ answer.Wrong place why = ap (λ (x : Answers). x .answer) e in
     let k : p + 1 ≡ place = cc in
     (p, sym k, first-wrong text p because h, sym (ap (λ (x : Answers). x .out) e))
+
+reason-by : (text out : List ℕ) (o : Outcome) → outcomeOf text ≡ o → (place : ℕ) (why : Reason) (now : List ℕ)
+    → answered o out ≡ answers (answer.Wrong place why) now → (q : ℕ) × (place ≡ q + 1) × Told text q why
+unfolding answered
+reason-by text out (accepted f) h place why now e = absurd (delivered-right (postfix f) out place why now e)
+reason-by text out (refused p because) h place why now e =
+    let a : answer.Wrong (p + 1) because ≡ answer.Wrong place why = ap (λ (x : Answers). x .answer) e in
+    let k : p + 1 ≡ place = cc in
+    let j : because ≡ why = cc in
+    (p, sym k, told text p why (h ∙ ap (λ (r : Reason). refused p r) j))
 
 pub promised : Promised
 unfolding answered
@@ -99,4 +115,5 @@ promised =
       complete = accepts;
       long = λ text f r h out. rw (complete text f r) (too-long (postfix f) out h);
       wrong = λ text out place why now e. refused-by text out (outcomeOf text) refl place why now e;
+      reason = λ text out place why now e. reason-by text out (outcomeOf text) refl place why now e;
     }

@@ -1,4 +1,2 @@
 pub mod Answer
-pub mod Tokens
-pub mod Contract
 pub mod Promised

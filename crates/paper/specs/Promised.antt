@@ -12,6 +12,7 @@ use Rattle.equation.specs.declared.evaluation.Truth.the-variants.{No, Yes}
 use Rattle.grammar.specs.Formula.{Formula, postfix, trueOn, treeFrom}
 use Rattle.grammar.specs.Grammar.{Reads, WrongPlace}
 use Rattle.grammar.specs.declared.Reason.{Reason}
+use Rattle.readings.specs.Table.{Told}
 use Rattle.paper.specs.Answer.{answers, bytesOf}
 use Rattle.paper.specs.declared.Answer.the-variants as answer
 
@@ -36,3 +37,6 @@ pub record Promised : Type 0 where
   -- the place of any other text, counted from 1, is the first wrong one, and nothing is written
   pub wrong : (text out : List ℕ) (place : ℕ) (why : Reason) (now : List ℕ) → bytesOf text out ≡ answers (answer.Wrong place why) now
       → (q : ℕ) × (place ≡ q + 1) × WrongPlace text q × (now ≡ out)
+  -- "The reason is the one of the table": what is wanted at that place, and what stands there, give it
+  pub reason : (text out : List ℕ) (place : ℕ) (why : Reason) (now : List ℕ) → bytesOf text out ≡ answers (answer.Wrong place why) now
+      → (q : ℕ) × (place ≡ q + 1) × Told text q why

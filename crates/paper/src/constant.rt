@@ -3,24 +3,22 @@ use crate::output::put;
 use crate::output::put_at;
 use crate::output::put_head;
 use crate::output::put_number;
-use crate::sums::Reading;
-use crate::tokens::Amount;
-use crate::tokens::Character;
-use crate::tokens::Item;
-use crate::tokens::Sign;
-use crate::tokens::Size;
-use crate::tokens::amount_from;
-use crate::tokens::blanks;
-use crate::tokens::character_at;
-use crate::tokens::is_equality;
-use crate::tokens::item_at;
-use crate::tokens::operator_number;
-use crate::tokens::sign_at;
-use crate::tokens::size_at;
+use crate::sums::blanks;
 use grammar::Comparison;
 use grammar::Reason;
 use names::bytes::byte_of;
 use names::bytes::is_digit;
+use readings::Reading;
+use tokens::amounts::Number;
+use tokens::amounts::number_at;
+use tokens::items::Item;
+use tokens::items::item_at;
+use tokens::signs::Sign;
+use tokens::signs::is_equality;
+use tokens::signs::operator_number;
+use tokens::signs::sign_at;
+use tokens::strings::Character;
+use tokens::strings::character_at;
 ghost use mathlib.Core.Path.{_≡_};
 ghost use mathlib.Core.Bool.{true, false};
 ghost use mathlib.Core.List.{[], _∷_};
@@ -29,27 +27,20 @@ ghost use lib.ListN.{length, getD};
 ghost use Rattle.lines.specs.Numerals.{digit};
 ghost use Rattle.names.specs.Kinds.{isBlank};
 ghost use Rattle.equation.specs.Symbols.{starsIn};
-ghost use Rattle.paper.specs.Contract.{StringRead, StringConstantRead, ConstantRead, RelationRead};
+ghost use Rattle.readings.specs.Contract.{StringRead, StringConstantRead, ConstantRead, RelationRead};
 
 // A number from its first digit on.
-fn number_at(text: &[u8], at: usize, id: u16, c: Comparison, out: &mut [u8], n: usize) -> Reading
+fn number(text: &[u8], at: usize, id: u16, c: Comparison, out: &mut [u8], n: usize) -> Reading
     requires { ⌜ (at ≤ length (now text)) × (n + 12 ≤ 2 * at) × (digit (getD (now text) at 0) ≡ true) ⌝ }
     ensures { λ r. ⌜ ConstantRead (now (text .entry)) at id c (now (out .entry)) n r (now (out .exit)) ⌝ }
 {
-    let b = byte_of(text, at);
-    let a = amount_from(text, at + 1, (b - 48) as u32);
-    match a {
-        Amount::Large(p) => Reading::Wrong(p, Reason::Large),
-        Amount::Is(v, e) => {
-            let s = size_at(text, e, id, v);
-            match s {
-                Size::Wrong(p) => Reading::Wrong(p, Reason::Width),
-                Size::Is(size, q) => {
-                    let m = put_head(out, n, 128 + 16 * operator_number(c), id, size);
-                    let k = put_number(out, m, size, v);
-                    Reading::At(q, k)
-                }
-            }
+    let x = number_at(text, at, id);
+    match x {
+        Number::Wrong(p, why) => Reading::Wrong(p, why),
+        Number::Is(v, size, q) => {
+            let m = put_head(out, n, 128 + 16 * operator_number(c), id, size);
+            let k = put_number(out, m, size, v);
+            Reading::At(q, k)
         }
     }
 }
@@ -110,7 +101,7 @@ fn constant_at(text: &[u8], at: usize, id: u16, c: Comparison, out: &mut [u8], n
 {
     let b = byte_of(text, at);
     if is_digit(b) {
-        return number_at(text, at, id, c, out, n);
+        return number(text, at, id, c, out, n);
     }
     if b == 34 {
         if is_equality(c) {

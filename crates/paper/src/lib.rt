@@ -3,10 +3,9 @@
 mod constant;
 mod output;
 mod sums;
-mod tokens;
 
 use grammar::Reason;
-use sums::Reading;
+use readings::Reading;
 ghost use mathlib.Core.Path.{_≡_};
 ghost use Rattle.paper.specs.Answer.{answers, bytesOf};
 

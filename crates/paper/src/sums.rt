@@ -1,32 +1,24 @@
 // The readers of sums, products and factors: they call each other in a cycle, the brackets that may still be opened (`left`) and the remaining text falling.
 use crate::constant::relation;
 use crate::output::put;
-use crate::tokens::blanks;
 use grammar::Reason;
 use names::bytes::byte_of;
+use readings::Joiner;
+use readings::Reading;
+use readings::Start;
+use tokens::items::past_blanks;
 ghost use mathlib.Core.Path.{_≡_};
 ghost use Prim.Native.Nat.{_*_, _≤_};
 ghost use lib.ListN.{length};
-ghost use Rattle.paper.specs.Contract.{StartRead, joinAt, closedAt, FactorRead, ProductRead, SumRead};
+ghost use Rattle.tokens.specs.Places.{Skipped};
+ghost use Rattle.readings.specs.Contract.{StartRead, joinAt, closedAt, FactorRead, ProductRead, SumRead};
 
-// The place behind what was read, and how many bytes the output has then; or the first wrong place and the reason.
-pub enum Reading {
-    At(usize, usize),
-    Wrong(usize, Reason),
-}
-
-// What a factor begins with: a bracket, up to its end; a relation, from its place on; or a bracket too many.
-pub enum Start {
-    Open(usize),
-    Relation(usize),
-    Deep(usize),
-}
-
-// What stands where a connective may: none, half of one, a whole one.
-pub enum Joiner {
-    Other,
-    Half,
-    Whole,
+// Blanks passed over, as the machine passes over them.
+pub(crate) fn blanks(text: &[u8], at: usize) -> usize
+    requires { ⌜ at ≤ length (now text) ⌝ }
+    ensures { λ r. ⌜ Skipped (now (text .entry)) at r ⌝ }
+{
+    past_blanks(text, at)
 }
 
 // What a factor begins with, where so many further brackets may be opened.

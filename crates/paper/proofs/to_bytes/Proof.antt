@@ -17,8 +17,15 @@ enum-known-s c = search needs
 
 add-t12 : tie.Need-add-t12
 add-t12 c =
-    let a = c .before .before .before .before .before .before .before .before .args in
-    omega (arith, laws.place-within (a .text .now) (a .out .now) (replicate 256 0) (c .before .s .given .0 .0) (c .before .s .given .0 .1 .0) (c .before .before .before .before .sum .result) (c .before .before .before .before .sum .last .1 .1 .1 .0) (c .before .s .given .1) (c .before .before .before .before .sum .ensures), c .before .before .before .before .before .before .before .before .good .0 .0)
+    let b4 = c .before .before .before .before in
+    let b8 = b4 .before .before .before .before in
+    let a = b8 .args in
+    omega (
+      arith,
+      laws.place-within (a .text .now) (a .out .now) (replicate 256 0) (c .before .s .given .0 .0) (c .before .s .given .0 .1 .0) (b4 .sum .result)
+          (b4 .sum .last .1 .1 .1 .0) (c .before .s .given .1) (b4 .sum .ensures),
+      b8 .good .0 .0,
+    )
 
 enum-known-s-2 : tie.Need-enum-known-s-2
 enum-known-s-2 c = search needs
@@ -28,8 +35,11 @@ add-t15 c = search needs
 
 returns : tie.Need-returns
 returns c =
-    let a = c .before .before .before .before .before .before .before .before .before .args in
-    laws.text-over (a .text .now) (a .out .now) (replicate 256 0) (c .before .before .s2 .given .0 .0) (c .before .before .s2 .given .0 .1 .0) (c .before .before .before .before .before .sum .result) (c .before .before .before .before .before .sum .last .1 .1 .1 .0) (c .before .before .s2 .given .1) (c .before .before .before .before .before .sum .ensures) (c .if1 .taken)
+    let b5 = c .before .before .before .before .before in
+    let b9 = b5 .before .before .before .before in
+    let a = b9 .args in
+    laws.text-over (a .text .now) (a .out .now) (replicate 256 0) (c .before .before .s2 .given .0 .0) (c .before .before .s2 .given .0 .1 .0) (b5 .sum .result)
+    (b5 .sum .last .1 .1 .1 .0) (c .before .before .s2 .given .1) (b5 .sum .ensures) (c .if1 .taken)
 
 slice-aggregate-deliver : tie.Need-slice-aggregate-deliver
 slice-aggregate-deliver c = search needs
@@ -39,16 +49,24 @@ deliver-requires c κs = search needs
 
 returns-2 : tie.Need-returns-2
 returns-2 c =
-    let a = c .before .before .before .before .before .before .before .before .args in
-    laws.text-wrong (a .text .now) (a .out .now) (replicate 256 0) (c .before .s .given .0 .0) (c .before .s .given .0 .1 .0) (c .before .before .before .before .sum .result) (c .before .before .before .before .sum .last .1 .1 .1 .0) (c .before .s .given .1) (c .before .before .before .before .sum .ensures)
+    let b4 = c .before .before .before .before in
+    let b8 = b4 .before .before .before .before in
+    let a = b8 .args in
+    laws.text-wrong (a .text .now) (a .out .now) (replicate 256 0) (c .before .s .given .0 .0) (c .before .s .given .0 .1 .0) (b4 .sum .result)
+    (b4 .sum .last .1 .1 .1 .0) (c .before .s .given .1) (b4 .sum .ensures)
 
 same-length : tie.Need-same-length
 same-length c = search needs
 
 returns-3 : tie.Need-returns-3
 returns-3 c =
-    let a = c .before .before .before .before .before .before .before .before .before .before .before .before .before .before .args in
-    laws.text-whole (a .text .now) (a .out .now) (replicate 256 0) (c .before .before .before .before .before .before .before .s2 .given .0 .0) (c .before .before .before .before .before .before .before .s2 .given .0 .1 .0) (c .before .before .before .before .before .before .before .before .before .before .sum .result) (c .before .before .before .before .before .before .before .before .before .before .sum .last .1 .1 .1 .0) (c .before .before .before .before .before .before .before .s2 .given .1) (c .before .before .before .before .before .before .before .before .before .before .sum .ensures) _ refl (c .before .before .before .before .before .if1 .left) (c .before .before .deliver .ensures)
+    let b5 = c .before .before .before .before .before in
+    let b7 = b5 .before .before in
+    let b10 = b7 .before .before .before in
+    let b14 = b10 .before .before .before .before in
+    let a = b14 .args in
+    laws.text-whole (a .text .now) (a .out .now) (replicate 256 0) (b7 .s2 .given .0 .0) (b7 .s2 .given .0 .1 .0) (b10 .sum .result)
+    (b10 .sum .last .1 .1 .1 .0) (b7 .s2 .given .1) (b10 .sum .ensures) _ refl (b5 .if1 .left) (c .before .before .deliver .ensures)
 
 pub to-bytes-spec : {M : Type 1} → statement M
 to-bytes-spec =

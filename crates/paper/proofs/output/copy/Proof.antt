@@ -1,13 +1,8 @@
-use mathlib.Core.Path.{_≡_, refl, sym, ap, _∙_}
-use mathlib.Core.Bool.{Bool, true, false, cond}
-use mathlib.Core.List.{List, [], _∷_, _++_}
-use Prim.Native.Nat.{ℕ, _+_, _-_, _*_, _%_, _/_, _≤_, _<_}
+use mathlib.Core.Path.{_≡_, refl, ap, _∙_}
+use mathlib.Core.List.{List, _++_}
+use Prim.Native.Nat.{ℕ, _+_, _-_, _≤_}
 use native.Mathlib.Omega.{arith}
 use lib.ListN.{length, getD, set, take, drop, length-set}
-use borrow.Author.Needs.{needs}
-use Rattle.names.proofs.Tests as tests
-use Rattle.paper.proofs.Places as places
-use Rattle.paper.proofs.TokenLaws as laws
 use Rattle.paper.proofs.OutputLaws as output
 use Rattle.paper.proofs.output.copy.Statement.{statement}
 use Rattle.paper.proofs.output.copy.Tie as tie
@@ -35,11 +30,13 @@ loop-less c = omega arith
 
 loop-again : tie.Need-loop-again Inv-loop μ-loop
 loop-again c =
-    let a = c .before .before .before .args in
+    let b3 = c .before .before .before in
+    let a = b3 .args in
     let l = c .before .before .loop in (
       omega arith,
       simp length-set (l .inv .1),
-      ap (λ (x : List ℕ). set x (l .i) (getD (a .bytes .now) (l .i) 0)) (l .inv .2) ∙ output.copy-step (a .out .now) (a .bytes .now) (l .i) (omega arith) (omega arith),
+      ap (λ (x : List ℕ). set x (l .i) (getD (a .bytes .now) (l .i) 0)) (l .inv .2) ∙ output.copy-step (a .out .now) (a .bytes .now) (l .i) (omega arith)
+          (omega arith),
     )
 
 same-length : tie.Need-same-length Inv-loop μ-loop

@@ -1,15 +1,7 @@
-use mathlib.Core.Path.{_≡_, refl, sym, ap, _∙_}
-use mathlib.Core.Bool.{Bool, true, false, cond}
-use mathlib.Core.List.{List, [], _∷_, _++_}
-use Prim.Native.Nat.{ℕ, _+_, _-_, _*_, _%_, _/_, _≤_, _<_}
+use Prim.Native.Nat.{_-_, _%_, _/_}
 use native.Mathlib.Omega.{arith}
-use lib.ListN.{length, getD, set, take, drop, length-set}
 use borrow.Author.Needs.{needs}
-use Rattle.names.proofs.Tests as tests
-use Rattle.paper.proofs.Places as places
-use Rattle.paper.proofs.TokenLaws as laws
 use Rattle.paper.proofs.OutputLaws as output
-use borrow.Author.Needs.{needs}
 use Rattle.paper.proofs.output.put_head.Statement.{statement}
 use Rattle.paper.proofs.output.put_head.Tie as tie
 
@@ -36,14 +28,19 @@ same-length c = search needs
 
 returns : tie.Need-returns
 returns c =
-    let a = c .before .before .before .before .before .before .before .before .before .before .before .before .before .before .before .before .before .args in
-    let p = c .before .before .before .before .before .before .before .before .before .before .before .before .before .before .put in
-    let q = c .before .before .before .before .before .before .before .before .before .before .put2 in
-    let r = c .before .before .before .before .before .before .put3 in
+    let b6 = c .before .before .before .before .before .before in
+    let b10 = b6 .before .before .before .before in
+    let b14 = b10 .before .before .before .before in
+    let b17 = b14 .before .before .before in
+    let a = b17 .args in
+    let p = b14 .put in
+    let q = b10 .put2 in
+    let r = b6 .put3 in
     let s = c .before .before .put4 in (
       omega (arith, p .ensures .0, q .ensures .0, r .ensures .0, s .ensures .0),
       output.four-puts (a .out .now) (a .n) (a .code) (a .id % 256) (a .id / 256 % 256) (a .size) (p .last .0) (q .last .0) (r .last .0) (s .last .0)
-          (p .result) (q .result) (r .result) (s .result) (p .ensures .0) (p .ensures .1) (q .ensures .0) (r .ensures .0) (q .ensures .1) (r .ensures .1) (s .ensures .1),
+          (p .result) (q .result) (r .result) (s .result) (p .ensures .0) (p .ensures .1) (q .ensures .0) (r .ensures .0) (q .ensures .1) (r .ensures .1)
+          (s .ensures .1),
     )
 
 pub put-head-spec : {M : Type 1} → statement M

@@ -1,4 +1,4 @@
-use Rattle.paper.proofs.Readers as readers
+use Rattle.readings.proofs.Readers as readers
 use borrow.Author.Needs.{needs}
 use Rattle.paper.proofs.sums.begins.Statement.{statement}
 use Rattle.paper.proofs.sums.begins.Tie as tie

@@ -1,14 +1,9 @@
-use mathlib.Core.Path.{_≡_, refl, sym, ap, _∙_}
-use mathlib.Core.Bool.{Bool, true, false, cond}
-use mathlib.Core.List.{List, [], _∷_, _++_}
-use Prim.Native.Nat.{ℕ, _+_, _-_, _*_, _≤_, _<_}
-use native.Mathlib.Omega.{arith}
-use lib.Dec.{ltb, leb, eqb}
-use lib.ListN.{length, getD, set, take, drop}
+use mathlib.Core.Path.{sym, _∙_}
+use Prim.Native.Nat.{_-_}
+use lib.ListN.{length, getD}
 use borrow.Author.Needs.{needs}
-use borrow.Author.Tests.{ltb-true, ltb-false, lt-ltb, le-ltb, le-leb, lt-leb, eq-eqb, ne-eqb}
-use Rattle.paper.specs.Contract.{closedAt}
-use borrow.Author.Needs.{needs}
+use borrow.Author.Tests.{lt-ltb, le-ltb, eq-eqb, ne-eqb}
+use Rattle.readings.specs.Contract.{closedAt}
 use Rattle.paper.proofs.sums.close.Statement.{statement}
 use Rattle.paper.proofs.sums.close.Tie as tie
 
@@ -27,14 +22,24 @@ returns c =
 returns-2 : tie.Need-returns-2
 unfolding closedAt
 returns-2 c =
-    let a = c .before .before .before .before .args in
-    rw (ne-eqb (getD (a .text .now) (a .at) 0) 41 (λ z. c .before .if1 .left (c .before .before .byte-of .ensures ∙ z)), lt-ltb (a .at) (length (a .text .now)) (c .if2 .taken))
+    let b4 = c .before .before .before .before in
+    let a = b4 .args in
+    rw (
+      ne-eqb (getD (a .text .now) (a .at) 0) 41 (λ z. c .before .if1 .left (c .before .before .byte-of .ensures ∙ z)),
+      lt-ltb (a .at) (length (a .text .now))
+          (c .if2 .taken),
+    )
 
 returns-3 : tie.Need-returns-3
 unfolding closedAt
 returns-3 c =
-    let a = c .before .before .before .before .args in
-    rw (ne-eqb (getD (a .text .now) (a .at) 0) 41 (λ z. c .before .if1 .left (c .before .before .byte-of .ensures ∙ z)), le-ltb (a .at) (length (a .text .now)) (c .if2 .left))
+    let b4 = c .before .before .before .before in
+    let a = b4 .args in
+    rw (
+      ne-eqb (getD (a .text .now) (a .at) 0) 41 (λ z. c .before .if1 .left (c .before .before .byte-of .ensures ∙ z)),
+      le-ltb (a .at) (length (a .text .now))
+          (c .if2 .left),
+    )
 
 pub close-spec : {M : Type 1} → statement M
 close-spec = tie.close (tie.spec byte-of-requires add-t6 returns returns-2 returns-3)

@@ -1,14 +1,9 @@
-use mathlib.Core.Path.{_≡_, refl, sym, ap, _∙_}
-use mathlib.Core.Bool.{Bool, true, false, cond}
-use mathlib.Core.List.{List, [], _∷_, _++_}
-use Prim.Native.Nat.{ℕ, _+_, _-_, _*_, _≤_, _<_}
-use native.Mathlib.Omega.{arith}
-use lib.Dec.{ltb, leb, eqb}
-use lib.ListN.{length, getD, set, take, drop}
+use mathlib.Core.Path.{sym, _∙_}
+use Prim.Native.Nat.{_+_, _-_}
+use lib.ListN.{getD}
 use borrow.Author.Needs.{needs}
-use borrow.Author.Tests.{ltb-true, ltb-false, lt-ltb, le-ltb, le-leb, lt-leb, eq-eqb, ne-eqb}
-use Rattle.paper.specs.Contract.{joinAt}
-use borrow.Author.Needs.{needs}
+use borrow.Author.Tests.{eq-eqb, ne-eqb}
+use Rattle.readings.specs.Contract.{joinAt}
 use Rattle.paper.proofs.sums.join_at.Statement.{statement}
 use Rattle.paper.proofs.sums.join_at.Tie as tie
 
@@ -24,14 +19,26 @@ byte-of-requires-2 c κs = search needs
 returns : tie.Need-returns
 unfolding joinAt
 returns c =
-    let a = c .before .before .before .before .before .args in
-    rw (eq-eqb (getD (a .text .now) (a .at) 0) (a .b) (sym (c .before .before .before .byte-of .ensures) ∙ c .before .before .if1 .taken), eq-eqb (getD (a .text .now) (a .at + 1) 0) (a .b) (sym (c .before .byte-of2 .ensures) ∙ c .if2 .taken))
+    let b3 = c .before .before .before in
+    let b5 = b3 .before .before in
+    let a = b5 .args in
+    rw (
+      eq-eqb (getD (a .text .now) (a .at) 0) (a .b) (sym (b3 .byte-of .ensures) ∙ c .before .before .if1 .taken),
+      eq-eqb (getD (a .text .now) (a .at + 1) 0)
+          (a .b) (sym (c .before .byte-of2 .ensures) ∙ c .if2 .taken),
+    )
 
 returns-2 : tie.Need-returns-2
 unfolding joinAt
 returns-2 c =
-    let a = c .before .before .before .before .before .args in
-    rw (eq-eqb (getD (a .text .now) (a .at) 0) (a .b) (sym (c .before .before .before .byte-of .ensures) ∙ c .before .before .if1 .taken), ne-eqb (getD (a .text .now) (a .at + 1) 0) (a .b) (λ z. c .if2 .left (c .before .byte-of2 .ensures ∙ z)))
+    let b3 = c .before .before .before in
+    let b5 = b3 .before .before in
+    let a = b5 .args in
+    rw (
+      eq-eqb (getD (a .text .now) (a .at) 0) (a .b) (sym (b3 .byte-of .ensures) ∙ c .before .before .if1 .taken),
+      ne-eqb (getD (a .text .now) (a .at + 1) 0)
+          (a .b) (λ z. c .if2 .left (c .before .byte-of2 .ensures ∙ z)),
+    )
 
 returns-3 : tie.Need-returns-3
 unfolding joinAt

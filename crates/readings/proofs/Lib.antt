@@ -1,0 +1,4 @@
+pub mod PutLaws
+pub mod ConstantLaws
+pub mod Readers
+pub mod TableLaws

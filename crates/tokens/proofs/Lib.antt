@@ -1,0 +1,3 @@
+pub mod Places
+pub mod TokenLaws
+pub mod ItemLaws
