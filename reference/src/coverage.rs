@@ -4,7 +4,7 @@
 use std::collections::BTreeMap;
 use std::io::{self, Write};
 
-use crate::equation::{self, Equation};
+use crate::equation::{self, is_number, Comparison, Equation, Relation, Symbol};
 use crate::header;
 use crate::packet::{number, Framed, Packet, Type};
 use crate::script::{Call, Watch, LINE_MOST};
@@ -83,6 +83,13 @@ const ENDINGS: [&str; 6] = [
     "DL_ABORTED_RESP, DL_NAK_CMD before DATA_END",
 ];
 
+/// What an accepted SELECT asks of a file with several items of one id.
+const SEVERAL: [&str; 3] = [
+    "select, a relation met by an item that is not the first",
+    "select, a number relation met behind an item of a wrong width",
+    "select, both equal and not equal to one constant",
+];
+
 /// What is known of a receive call before it is made.
 struct Heard {
     framed: Framed,
@@ -92,6 +99,8 @@ struct Heard {
     downlink: Downlink,
     /// The ground of a refusal, should one be given.
     ground: String,
+    /// The rows of `SEVERAL` that are reached, should a SELECT be accepted.
+    several: Vec<&'static str>,
 }
 
 #[derive(Default)]
@@ -157,6 +166,7 @@ fn rows() -> Vec<String> {
     let mut rows: Vec<String> = SINGLE_ROWS
         .iter()
         .chain(&ENDINGS)
+        .chain(&SEVERAL)
         .map(|row| row.to_string())
         .collect();
     rows.extend(unexpected_rows());
@@ -293,6 +303,11 @@ impl Coverage {
         let asked = Type::of(*kind);
         let ground = &heard.ground;
         let name = packet.kind.name();
+        if packet.kind == Type::SelectResp {
+            for row in &heard.several {
+                self.count(*row);
+            }
+        }
         match packet.kind {
             Type::UlErrorResp | Type::DlErrorResp => {
                 let refusal = packet.information[0];
@@ -417,6 +432,64 @@ fn download_ground(server: &Server, session: &Session, information: &[u8]) -> St
     }
 }
 
+/// The rows of `SEVERAL` that a SELECT with this equation reaches.
+fn several_rows(server: &Server, framed: &Framed) -> Vec<&'static str> {
+    let equation = match framed {
+        Framed::Whole { kind, information } if Type::of(*kind) == Some(Type::SelectCmd) => {
+            Equation::parse(information)
+        }
+        _ => return Vec::new(),
+    };
+    let equation = match equation {
+        Ok(equation) => equation,
+        Err(_) => return Vec::new(),
+    };
+    let mut relations = Vec::new();
+    for symbol in equation.symbols() {
+        if let Symbol::Relation(relation) = symbol {
+            relations.push(relation);
+        }
+    }
+    let mut reached = [false; SEVERAL.len()];
+    for (place, file) in server.store.places.iter().enumerate() {
+        if matches!(file, Some(file) if file.is_complete()) {
+            note_several(&relations, &server.store.contents(place), &mut reached);
+        }
+    }
+    let rows = SEVERAL.iter().zip(reached).filter(|(_, reached)| *reached);
+    rows.map(|(row, _)| *row).collect()
+}
+
+/// Notes which rows of `SEVERAL` these relations reach on a file.
+fn note_several(relations: &[&Relation], file: &[u8], reached: &mut [bool; SEVERAL.len()]) {
+    for (at, relation) in relations.iter().enumerate() {
+        let first = match header::first(file, relation.id()) {
+            Some(first) if relation.holds(file) => first,
+            _ => continue,
+        };
+        if !relation.is_met_by(first) {
+            reached[0] = true;
+            reached[1] |= matches!(relation, Relation::Number { .. }) && !is_number(first);
+        }
+        let mut before = relations[..at].iter();
+        reached[2] |= before.any(|other| are_opposite(relation, other) && other.holds(file));
+    }
+}
+
+/// Whether one is "equal" and the other "not equal" to the same constant.
+fn are_opposite(one: &Relation, other: &Relation) -> bool {
+    let mut opposite = one.clone();
+    match &mut opposite {
+        Relation::Number { comparison, .. } => match comparison {
+            Comparison::Equal => *comparison = Comparison::NotEqual,
+            Comparison::NotEqual => *comparison = Comparison::Equal,
+            _ => return false,
+        },
+        Relation::Text { equal, .. } => *equal = !*equal,
+    }
+    opposite == *other
+}
+
 /// Why a call on that session would be refused.
 fn session_ground(server: &Server, call: Call) -> &'static str {
     let (session, grounds) = match call {
@@ -451,6 +524,7 @@ impl Watch for Coverage {
                         uplink: session.uplink,
                         downlink: session.downlink,
                         ground: ground(server, session, &framed),
+                        several: several_rows(server, &framed),
                         framed,
                     }
                 });

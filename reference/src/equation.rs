@@ -4,6 +4,9 @@
 //! An equation is postfix. A relation is a byte with bit 7 set, then an item
 //! as in a header; 01 is AND, 02 is OR, 00 is the end mark, which may be left
 //! out.
+//!
+//! "A relation holds if any item of that id in the header meets it. So a file
+//! to A and B is both equal to A and not equal to A." (request A2)
 
 use std::cmp::Ordering;
 
@@ -72,31 +75,38 @@ pub enum Relation {
 }
 
 impl Relation {
-    /// The truth of the relation on a file; false where the item is absent.
+    /// The id of the items that it asks about.
+    pub fn id(&self) -> u16 {
+        match self {
+            Relation::Number { id, .. } | Relation::Text { id, .. } => *id,
+        }
+    }
+
+    /// The truth of the relation on a file: it "holds if any item of that id
+    /// in the header meets it", so it is false where the item is absent.
     pub fn holds(&self, file: &[u8]) -> bool {
+        let items = header::each(file, self.id());
+        items.iter().any(|data| self.is_met_by(data))
+    }
+
+    /// Whether one item of the id, with these data, meets the relation. One not
+    /// 1, 2 or 4 bytes long meets no number relation, not equal included.
+    pub fn is_met_by(&self, data: &[u8]) -> bool {
         match self {
             Relation::Number {
                 comparison,
-                id,
                 constant,
-            } => match header::first(file, *id) {
-                Some(data) if is_number(data) => comparison.admits(number(data).cmp(constant)),
-                _ => false,
-            },
+                ..
+            } => is_number(data) && comparison.admits(number(data).cmp(constant)),
             Relation::Text {
-                equal,
-                id,
-                constant,
-            } => match header::first(file, *id) {
-                Some(data) => matches(constant, data) == *equal,
-                None => false,
-            },
+                equal, constant, ..
+            } => matches(constant, data) == *equal,
         }
     }
 }
 
 /// Numbers have 1, 2 or 4 bytes.
-fn is_number(data: &[u8]) -> bool {
+pub fn is_number(data: &[u8]) -> bool {
     matches!(data.len(), 1 | 2 | 4)
 }
 

@@ -109,6 +109,15 @@ pub fn first(file: &[u8], id: u16) -> Option<&[u8]> {
         .map(|item| item.data(file))
 }
 
+/// The data of every item with that id, in the header's order.
+pub fn each(file: &[u8], id: u16) -> Vec<&[u8]> {
+    items(file)
+        .iter()
+        .filter(|item| item.id == id)
+        .map(|item| item.data(file))
+        .collect()
+}
+
 /// How many destinations the file has.
 pub fn destinations(file: &[u8]) -> usize {
     items(file)

@@ -1,7 +1,7 @@
 //! Random equations: some that the files at hand meet, some that are refused.
 
-use crate::equation::Equation;
-use crate::header;
+use crate::equation::{is_number, Equation};
+use crate::header::{self, Item};
 use crate::packet::number;
 use crate::random::Random;
 
@@ -10,11 +10,12 @@ const MOST: usize = 256;
 
 /// An equation for SELECT_CMD, to be asked of these files.
 pub fn equation(random: &mut Random, files: &[Vec<u8>]) -> Vec<u8> {
-    match random.below(10) {
+    match random.below(12) {
         0..=2 => above(random, files),
         3..=6 => tree(random, files),
         7 if random.chance(1, 3) => full(random, files),
         7 => deep(random),
+        8 | 9 => of_one_id(random, files),
         _ => damaged(random, files),
     }
 }
@@ -51,6 +52,49 @@ fn above(random: &mut Random, files: &[Vec<u8>]) -> Vec<u8> {
     bytes
 }
 
+/// The file's items whose id stands in its header more than once.
+fn repeated(file: &[u8]) -> Vec<Item> {
+    let items = header::items(file);
+    let is_repeated = |item: &&Item| header::each(file, item.id).len() > 1;
+    items.iter().filter(is_repeated).copied().collect()
+}
+
+/// Two relations on items of one id of a file that has several: equal to A and
+/// equal to B, equal to A and not equal to A, and so on.
+fn of_one_id(random: &mut Random, files: &[Vec<u8>]) -> Vec<u8> {
+    let fitting: Vec<&Vec<u8>> = files
+        .iter()
+        .filter(|file| !repeated(file).is_empty())
+        .collect();
+    if fitting.is_empty() {
+        return tree(random, files);
+    }
+    let file = *random.pick(&fitting);
+    let id = random.pick(&repeated(file)).id;
+    let items = header::each(file, id);
+    let one = *random.pick(&items);
+    let other = if random.chance(1, 3) {
+        one
+    } else {
+        *random.pick(&items)
+    };
+    let mut bytes = equal_or_not(random, id, one);
+    bytes.extend(equal_or_not(random, id, other));
+    bytes.push(*random.pick(&[1, 1, 2]));
+    bytes
+}
+
+/// "Equal" or "not equal" to these data, as a number where they are one or as
+/// text; two such relations fit into a packet.
+fn equal_or_not(random: &mut Random, id: u16, data: &[u8]) -> Vec<u8> {
+    let kind = match random.below(2) {
+        0 if is_number(data) => 0,
+        _ => 3,
+    };
+    let code = *random.pick(&[0x80, 0xb0]) | kind;
+    relation(code, id, &data[..data.len().min(100)])
+}
+
 /// A relation on an item, mostly one that some file has.
 fn leaf(random: &mut Random, files: &[Vec<u8>]) -> Vec<u8> {
     let (id, data) = some_item(random, files);
@@ -65,7 +109,11 @@ fn some_item(random: &mut Random, files: &[Vec<u8>]) -> (u16, Vec<u8>) {
     let ids = [0, 0x02, 0x04, 0x0c, 0x12, 0x14, 0x18, 0x22, 0x0101, 0x1400];
     if !files.is_empty() && random.chance(5, 6) {
         let file = random.pick(files);
-        let items = header::items(file);
+        let mut items = header::items(file);
+        let repeated = repeated(file);
+        if !repeated.is_empty() && random.chance(1, 2) {
+            items = repeated;
+        }
         if !items.is_empty() {
             let item = random.pick(&items);
             return (item.id, item.data(file).to_vec());

@@ -38,6 +38,11 @@ const OTHERS: [u16; 14] = [
     0x10, 0x11, 0x18, 0x22, 0x22, 0x23, 0x24, 0x26, 0x0c, 0x0101, 0x0112, 0x0114, 0x0122, 0xffff,
 ];
 
+/// A title, which like a destination may stand in a header several times.
+const TITLE: u16 = 0x22;
+/// The lengths of items that are numbers, and of some that are none.
+const WIDTHS: [usize; 7] = [1, 2, 4, 0, 3, 5, 8];
+
 /// How files are to be made.
 #[derive(Clone, Copy, Debug)]
 pub struct Wishes {
@@ -82,6 +87,9 @@ pub fn sound(random: &mut Random, body: usize) -> Draft {
     for _ in 0..random.below(5) {
         let (id, data) = other_item(random);
         draft = draft.with_item(id, &data);
+    }
+    if random.chance(1, 2) {
+        add_several(random, &mut draft);
     }
     if random.chance(1, 80) {
         // More destinations than a byte can count.
@@ -136,6 +144,32 @@ fn other_item(random: &mut Random) -> (u16, Vec<u8>) {
         _ => random.pick(&WORDS).to_vec(),
     };
     (id, data)
+}
+
+/// Adds two or more items of one id, as "a letter to two people" has, anywhere
+/// behind the first eleven. Numbers and other widths stand among them.
+fn add_several(random: &mut Random, draft: &mut Draft) {
+    let id = match random.below(6) {
+        0..=2 => DESTINATION,
+        3 => TITLE,
+        _ => *random.pick(&OTHERS),
+    };
+    for _ in 0..random.between(2, 4) {
+        let data = match random.below(6) {
+            _ if id == DESTINATION && random.chance(1, 2) => random.pick(&STATIONS).to_vec(),
+            0 => random.pick(&STATIONS).to_vec(),
+            1 | 2 => random.pick(&WORDS).to_vec(),
+            _ => {
+                let mut number = vec![0; *random.pick(&WIDTHS)];
+                if let Some(lowest) = number.first_mut() {
+                    *lowest = random.below(5) as u8;
+                }
+                number
+            }
+        };
+        let at = random.between(11, draft.items.len());
+        draft.items.insert(at, (id, data));
+    }
 }
 
 /// A file with one fault or two.

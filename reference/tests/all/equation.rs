@@ -2,6 +2,7 @@
 
 use reference::draft::Draft;
 use reference::equation::{evaluate, matches, Equation, Fault};
+use reference::generator;
 use reference::random::Random;
 
 fn relation(code: u8, id: u16, constant: &[u8]) -> Vec<u8> {
@@ -265,17 +266,169 @@ fn absent_items_and_items_that_are_no_number() {
     }
 }
 
+/// A header of bytes written by hand: AA 55, a destination "A", an unlisted
+/// item, a destination "B" and the end mark. The body behind it would be a
+/// destination "C" if the header went on.
+const LETTER: [u8; 20] = [
+    0xaa, 0x55, 0x14, 0, 1, b'A', 0x30, 0, 0, 0x14, 0, 1, b'B', 0, 0, 0, 0x14, 0, 1, b'C',
+];
+
 #[test]
-fn the_first_item_with_the_id_counts() {
+fn a_letter_to_two_people() {
+    for (code, constant, expected) in [
+        (0x83, &b"A"[..], true),
+        (0xb3, b"A", true),
+        (0x83, b"B", true),
+        (0xb3, b"B", true),
+        (0x83, b"a", true),
+        (0x83, b"b", true),
+        (0x83, b"?", true),
+        // Every item meets "?", so none is not equal to it.
+        (0xb3, b"?", false),
+        (0x83, b"C", false),
+        (0xb3, b"C", true),
+        (0x83, b"AB", false),
+        (0x83, b"", false),
+        (0xb3, b"*", false),
+    ] {
+        let asked = relation(code, 0x14, constant);
+        assert_eq!(evaluate(&asked, &LETTER), Ok(expected), "{asked:x?}");
+    }
+    // "So a file to A and B is both equal to A and not equal to A."
+    let (to_a, to_b) = (relation(0x83, 0x14, b"A"), relation(0x83, 0x14, b"B"));
+    let not_to_a = relation(0xb3, 0x14, b"A");
+    for equation in [
+        joined(&[&to_a, &not_to_a, &[1]]),
+        joined(&[&to_a, &to_b, &[1]]),
+        joined(&[&to_a, &not_to_a, &[1], &to_b, &[1, 0]]),
+    ] {
+        assert_eq!(evaluate(&equation, &LETTER), Ok(true));
+        let one = Draft::new().with_item(0x14, b"A").bytes();
+        assert_eq!(evaluate(&equation, &one), Ok(false));
+    }
+}
+
+#[test]
+fn a_number_behind_an_item_of_a_wrong_width() {
+    for wrong in [&b""[..], b"abc", b"abcde", &[7; 8], &[7; 255]] {
+        let behind = Draft::new().with_item(0x30, wrong).with_item(0x30, &[7]);
+        let ahead = Draft::new().with_item(0x30, &[7]).with_item(0x30, wrong);
+        let between = behind.clone().with_item(0x30, wrong);
+        for file in [behind.bytes(), ahead.bytes(), between.bytes()] {
+            for (code, constant, expected) in [
+                (0x80, 7, true),
+                (0x80, 8, false),
+                (0x90, 6, true),
+                (0x90, 7, false),
+                (0xa0, 8, true),
+                (0xa0, 7, false),
+                // The item of a wrong width is not "not equal" to 7 either.
+                (0xb0, 7, false),
+                (0xb0, 8, true),
+                (0xc0, 7, true),
+                (0xc0, 8, false),
+                (0xd0, 7, true),
+                (0xd0, 6, false),
+            ] {
+                let asked = relation(code, 0x30, &[constant]);
+                assert_eq!(evaluate(&asked, &file), Ok(expected), "{asked:x?}");
+            }
+            // As text each of the two is an item like any other.
+            assert_eq!(evaluate(&relation(0x83, 0x30, &[7]), &file), Ok(true));
+            assert_eq!(evaluate(&relation(0xb3, 0x30, &[7]), &file), Ok(true));
+            assert_eq!(evaluate(&relation(0x83, 0x30, wrong), &file), Ok(true));
+        }
+    }
+}
+
+#[test]
+fn several_numbers_of_one_id() {
+    // 3 in one byte, 300 in two, 70,000 in four.
     let file = Draft::new()
-        .with_item(0x22, b"abc")
-        .with_item(0x22, &[7])
+        .with_item(0x30, &[3])
+        .with_item(0x30, &[0x2c, 0x01])
+        .with_item(0x30, &[0x70, 0x11, 0x01, 0])
         .bytes();
-    assert_eq!(evaluate(&relation(0x83, 0x22, b"abc"), &file), Ok(true));
-    assert_eq!(evaluate(&relation(0x83, 0x22, &[7]), &file), Ok(false));
-    // The first has no number's width, so no number relation holds.
-    assert_eq!(evaluate(&relation(0x80, 0x22, &[7]), &file), Ok(false));
-    assert_eq!(evaluate(&relation(0xb0, 0x22, &[7]), &file), Ok(false));
+    for code in 0..6 {
+        for constant in [0u32, 2, 3, 4, 299, 300, 301, 69_999, 70_000, 70_001] {
+            let asked = relation(0x80 | code << 4, 0x30, &constant.to_le_bytes());
+            let numbers = [3, 300, 70_000];
+            let expected = numbers.iter().any(|&left| compare(code, left, constant));
+            assert_eq!(evaluate(&asked, &file), Ok(expected), "{asked:x?}");
+        }
+    }
+    // Greater than 300 and less than 300, each met by another item.
+    let both = joined(&[
+        &relation(0x90, 0x30, &[0x2c, 0x01]),
+        &relation(0xa0, 0x30, &[0x2c, 0x01]),
+        &[1],
+    ]);
+    assert_eq!(evaluate(&both, &file), Ok(true));
+}
+
+#[test]
+fn not_equal_on_several_texts() {
+    let title = |texts: &[&[u8]]| {
+        let mut draft = Draft::new();
+        for text in texts {
+            draft = draft.with_item(0x22, text);
+        }
+        draft.bytes()
+    };
+    let not_land = relation(0xb3, 0x22, b"*LAND*");
+    for (texts, expected) in [
+        (&[][..], false),
+        (&[&b"Landrover"[..]][..], false),
+        (&[b"Landrover", b"land"], false),
+        (&[b"Landrover", b"sea"], true),
+        (&[b"sea", b"Landrover"], true),
+        (&[b"Landrover", b"land", b""], true),
+        (&[b"sea", b"sky"], true),
+    ] {
+        assert_eq!(evaluate(&not_land, &title(texts)), Ok(expected));
+    }
+}
+
+/// Whether data meet a relation of that code, by the paper's words.
+fn meets(code: u8, data: &[u8], constant: &[u8]) -> bool {
+    let value = |bytes: &[u8]| match *bytes {
+        [one] => Some(u32::from(one)),
+        [one, two] => Some(u32::from(one) + 256 * u32::from(two)),
+        [one, two, three, four] => Some(u32::from_le_bytes([one, two, three, four])),
+        _ => None,
+    };
+    match (code & 0x0f, value(data), value(constant)) {
+        (3, _, _) => matches_plainly(constant, data) == (code == 0x83),
+        (_, Some(left), Some(right)) => compare(code >> 4 & 7, left, right),
+        _ => false,
+    }
+}
+
+#[test]
+fn any_item_of_random_headers_may_meet_a_relation() {
+    let mut random = Random::new(12);
+    let (mut held, mut by_a_later) = (0, 0);
+    for _ in 0..3000 {
+        let draft = generator::sound(&mut random, 4);
+        let file = draft.bytes();
+        // Those behind the first eleven, whose data are not worked out.
+        let (id, near) = random.pick(&draft.items[11..]).clone();
+        let same = draft.items.iter().filter(|item| item.0 == id);
+        let data: Vec<&[u8]> = same.map(|item| &item.1[..]).collect();
+        for code in [0x80, 0x90, 0xa0, 0xb0, 0xc0, 0xd0, 0x83, 0xb3] {
+            let fits = code & 3 == 3 || [1, 2, 4].contains(&near.len());
+            let constant = if fits { &near[..] } else { &[2] };
+            if constant.iter().filter(|&&byte| byte == b'*').count() > 4 {
+                continue;
+            }
+            let asked = relation(code, id, constant);
+            let expected = data.iter().any(|data| meets(code, data, constant));
+            assert_eq!(evaluate(&asked, &file), Ok(expected), "{asked:x?}");
+            held += usize::from(expected);
+            by_a_later += usize::from(expected && !meets(code, data[0], constant));
+        }
+    }
+    assert!(held > 5000 && by_a_later > 1000, "{held}, {by_a_later}");
 }
 
 #[test]

@@ -1,7 +1,7 @@
 //! The header: each check, the order of any two, and the fields set at the end.
 
 use reference::draft::Draft;
-use reference::header::{check, destinations, first, items, set_server_fields, sum, Fault};
+use reference::header::{check, destinations, each, first, items, set_server_fields, sum, Fault};
 use reference::random::Random;
 
 /// The number that DATA_END gives to a whole file, 0 for none.
@@ -262,6 +262,26 @@ fn the_first_item_with_an_id() {
     assert_eq!(first(b"", 0x22), None);
     assert_eq!(first(b"\xaa\x55\x22\x00\x05ab", 0x22), None);
     assert_eq!(first(b"\xaa\x55\x22\x00\x02ab\x23", 0x22), Some(&b"ab"[..]));
+}
+
+#[test]
+fn every_item_with_an_id() {
+    let file = Draft::new()
+        .with_item(0x22, b"first")
+        .with_item(0x23, b"other")
+        .with_item(0x22, b"")
+        .with_item(0x0122, b"high byte")
+        .with_item(0x22, b"third")
+        .with_body(b"\x22\x00\x04body")
+        .bytes();
+    assert_eq!(each(&file, 0x22), [&b"first"[..], b"", b"third"]);
+    assert_eq!(each(&file, 0x23), [b"other"]);
+    assert_eq!(each(&file, 0x24), [b""; 0]);
+    assert_eq!(each(&file, 0), [b""; 0]);
+    assert_eq!(each(b"", 0x22), [b""; 0]);
+    // The second runs out, so it is none.
+    let cut = b"\xaa\x55\x22\x00\x02ab\x22\x00\x03cd";
+    assert_eq!(each(cut, 0x22), [b"ab"]);
 }
 
 #[test]

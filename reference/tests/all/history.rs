@@ -195,7 +195,8 @@ impl Driver {
         let body = self.random.below(700);
         let mut draft = Draft::new().with_body(&self.random.bytes(body));
         for _ in 0..self.random.below(3) {
-            draft = draft.with_item(0x14, b"G0K8KA");
+            let station = *self.random.pick(&["G0K8KA", "NK6K"]);
+            draft = draft.with_item(0x14, station.as_bytes());
         }
         if self.random.chance(1, 3) {
             draft = draft.with_item(0x22, b"Landrover");
@@ -259,19 +260,34 @@ fn the_store_is_what_the_packets_say() {
             driver.step();
             if step % 100 == 99 {
                 driver.model.agrees(&driver.desk.server);
-                let order: Vec<u32> = driver.model.order.iter().map(|(file, _)| *file).collect();
-                assert_eq!(pages_if_open(&driver.desk, &[]), order);
-                let titled: Vec<u32> = order
-                    .into_iter()
-                    .filter(|file| header::first(&driver.model.complete[file], 0x22).is_some())
-                    .collect();
-                let equation = b"\x83\x22\0\x06*land*";
-                assert_eq!(pages_if_open(&driver.desk, equation), titled);
+                pages_agree(&driver.desk, &driver.model);
             }
         }
         completed += driver.model.order.len();
     }
     assert!(completed > 100, "only {completed} files completed");
+}
+
+/// "Demand 3's paging reads with the mended meaning": the pages of an equation
+/// give every file with any item that meets it, once, oldest first.
+fn pages_agree(desk: &Desk, model: &Model) {
+    let order: Vec<u32> = model.order.iter().map(|(file, _)| *file).collect();
+    assert_eq!(pages_if_open(desk, &[]), order);
+    let with_any = |id: u16, passes: fn(&[u8]) -> bool| {
+        let mut files = order.clone();
+        files.retain(|file| {
+            let bytes = &model.complete[file];
+            let mut items = header::items(bytes).into_iter();
+            items.any(|item| item.id == id && passes(item.data(bytes)))
+        });
+        files
+    };
+    let titled = with_any(0x22, |_| true);
+    assert_eq!(pages_if_open(desk, b"\x83\x22\0\x06*land*"), titled);
+    let to_nk6k = with_any(0x14, |station| station == b"NK6K");
+    assert_eq!(pages_if_open(desk, b"\x83\x14\0\x04nk6k"), to_nk6k);
+    let to_another = with_any(0x14, |station| station != b"NK6K");
+    assert_eq!(pages_if_open(desk, b"\xb3\x14\0\x04nk6k"), to_another);
 }
 
 /// Pages whether session 1 is open or not.

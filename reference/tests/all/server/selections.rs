@@ -72,6 +72,32 @@ fn the_stored_header_is_compared() {
 }
 
 #[test]
+fn a_letter_to_two_people_is_found_under_each() {
+    let mut desk = Desk::opened();
+    for stations in [&["A"][..], &["A", "B"], &["B", "A"], &["B"], &[]] {
+        let mut draft = Draft::new();
+        for station in stations {
+            draft = draft.with_item(0x14, station.as_bytes());
+        }
+        desk.store(1, &draft.bytes());
+    }
+    for (equation, expected) in [
+        ("83 1400 01 41", &[1, 2, 3][..]),
+        ("83 1400 01 42", &[2, 3, 4]),
+        ("b3 1400 01 41", &[2, 3, 4]),
+        ("b3 1400 01 42", &[1, 2, 3]),
+        ("83 1400 01 41 b3 1400 01 41 01", &[2, 3]),
+        ("83 1400 01 41 83 1400 01 42 01", &[2, 3]),
+        ("83 1400 01 41 b3 1400 01 41 02", &[1, 2, 3, 4]),
+    ] {
+        let told = desk.hear(1, &select(&hex(equation)));
+        assert_eq!(told, [format!("SELECT_RESP 0{}00", expected.len())]);
+        let session = desk.server.sessions[0].as_ref().unwrap();
+        assert_eq!(session.selection.numbers, expected, "{equation}");
+    }
+}
+
+#[test]
 fn partials_and_later_files_are_not_selected() {
     let mut desk = Desk::opened();
     desk.open(2);
