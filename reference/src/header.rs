@@ -284,7 +284,14 @@ pub fn check(received: &[u8], announced: u32) -> Result<Header, Fault> {
     Ok(header)
 }
 
-/// Sets the four fields that are the server's at completion.
+/// The name of a file with that upload time: "the upload time in lower-case
+/// hexadecimal, eight digits", the highest first. (request A7)
+pub fn file_name(upload_time: u32) -> Vec<u8> {
+    format!("{upload_time:08x}").into_bytes()
+}
+
+/// Sets the five fields that are the server's at completion. header_checksum is
+/// the last, since it is the sum of the header as stored.
 pub fn set_server_fields(file: &mut [u8], header: &Header, file_number: u32, upload_time: u32) {
     let mut set = |id: u16, value: &[u8]| {
         let item = header.mandatory(id);
@@ -293,6 +300,7 @@ pub fn set_server_fields(file: &mut [u8], header: &Header, file_number: u32, upl
     set(FILE_NUMBER, &file_number.to_le_bytes());
     set(UPLOAD_TIME, &upload_time.to_le_bytes());
     set(LAST_MODIFIED_TIME, &upload_time.to_le_bytes());
+    set(FILE_NAME, &file_name(upload_time));
     let sum = header_sum(file, header);
     let item = header.mandatory(HEADER_CHECKSUM);
     file[item.at..item.after()].copy_from_slice(&sum.to_le_bytes());

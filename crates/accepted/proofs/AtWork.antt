@@ -11,8 +11,10 @@ use borrow.Author.Tests.{ltb-true}
 use lib.Dec.{ltb}
 use lib.ListN.{length, getD, take, drop}
 use Rattle.packet.specs.Frame.{packet}
+use Rattle.numbers.specs.Hex.{hexDigit}
 use Rattle.header.proofs.Examples.{smallest}
-use Rattle.header.specs.Header.{verdict, placeOf}
+use Rattle.header.specs.Items.{fieldsOf}
+use Rattle.header.specs.Header.{verdict, bytesOf}
 use Rattle.header.specs.Fields.{fieldsSet}
 use Rattle.table.specs.Given.{blocksFor, mostGiven}
 use Rattle.decide.specs.Words.{wordAt}
@@ -32,7 +34,7 @@ use Rattle.accepted.specs.Accepted as accepted-accepted
 use Rattle.accepted.specs.Accepted.{accepted, announced, reserved, total, numbersGiven, Completion, completion, completions, times}
 use Rattle.accepted.specs.Effect as effect
 use Rattle.accepted.specs.Effect.{Effect}
-use Rattle.accepted.specs.Agreement.{sizeOf, numberOf, Outside, OnlyFour, AreBytes, OfBytes, Listed, Stands, Agrees, EveryTranscript}
+use Rattle.accepted.specs.Agreement.{sizeOf, numberOf, OutsideAll, fiveSet, OnlyFive, AreBytes, OfBytes, Listed, Stands, Agrees, EveryTranscript}
 use Rattle.accepted.proofs.Passes.{output, rx, of, upload, dataEnd, opened, halfway, torn, beforeUpload, continued, rest, lostOnce, tooEarly, mended}
 use Rattle.accepted.proofs.Passes.{uploads, both}
 
@@ -175,7 +177,7 @@ module _ (every : EveryTranscript) where
   pub second-uploads : numberOf (sessionAt (pair uploads) 1 .up) ≡ 2
   second-uploads = two uploads .under 1 ∙ second-named
 
-  -- ---- "only the four", for links that bring bytes
+  -- ---- "only the" five, for links that bring bytes
 
   unfoldable bytesTest : List ℕ → Bool
   bytesTest [] = true
@@ -210,27 +212,32 @@ module _ (every : EveryTranscript) where
   pub largest-byte : AreBytes (255 ∷ [])
   largest-byte = (omega arith, tt)
 
-  four : OnlyFour smallest (fieldsSet 1 4 smallest)
-  four = subst (λ (bytes : List ℕ). OnlyFour bytes (fieldsSet 1 4 smallest)) all-accepted (one lostOnce .fields of-bytes 1 whole whole-found not-0)
+  five : OnlyFive smallest (fieldsSet 1 4 smallest)
+  five = subst (λ (bytes : List ℕ). OnlyFive bytes (fieldsSet 1 4 smallest)) all-accepted (one lostOnce .fields of-bytes 1 whole whole-found not-0)
 
-  -- bytes 4 and 9 stand just before and just behind file_number, and in none of the four items that the server sets
-  before : Outside 4 (placeOf 1 smallest) × Outside 4 (placeOf 6 smallest) × Outside 4 (placeOf 10 smallest) × Outside 4 (placeOf 18 smallest)
+  -- bytes 4 and 9 stand just before and just behind file_number, and in none of the five items that the server sets
+  before : OutsideAll 4 smallest fiveSet
   unfolding at-work
-  before = (inl (omega arith), inl (omega arith), inl (omega arith), inl (omega arith))
+  before = (inl (omega arith), (inl (omega arith), (inl (omega arith), (inl (omega arith), (inl (omega arith), tt)))))
 
-  behind : Outside 9 (placeOf 1 smallest) × Outside 9 (placeOf 6 smallest) × Outside 9 (placeOf 10 smallest) × Outside 9 (placeOf 18 smallest)
+  behind : OutsideAll 9 smallest fiveSet
   unfolding at-work
-  behind = (inr (omega arith), inl (omega arith), inl (omega arith), inl (omega arith))
+  behind = (inr (omega arith), (inl (omega arith), (inl (omega arith), (inl (omega arith), (inl (omega arith), tt)))))
 
   -- they stay as they were accepted: the item's length, 4, and the next item's id, 2
   pub around-number : (getD (fieldsSet 1 4 smallest) 4 0 ≡ 4) × (getD (fieldsSet 1 4 smallest) 9 0 ≡ 2)
   unfolding smallest
-  around-number = (four .rest 4 (before .0) (before .1) (before .2) (before .3), four .rest 9 (behind .0) (behind .1) (behind .2) (behind .3))
+  around-number = (five .rest 4 before, five .rest 9 behind)
 
   -- the length is that of what was accepted
   pub same-length : length (fieldsSet 1 4 smallest) ≡ 80
   unfolding smallest
-  same-length = four .size
+  same-length = five .size
+
+  -- the file that was completed at time 4 is named "00000004"
+  pub name-is : bytesOf 2 (fieldsOf (fieldsSet 1 4 smallest)) ≡ 48 ∷ 48 ∷ 48 ∷ 48 ∷ 48 ∷ 48 ∷ 48 ∷ 52 ∷ []
+  unfolding hexDigit
+  name-is = one lostOnce .named of-bytes 1 whole whole-found not-0
 
   -- with its fields set the file passes the checks as one of 80 bytes
   pub still-valid : verdict (fieldsSet 1 4 smallest) 80 ≡ 0

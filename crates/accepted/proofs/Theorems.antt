@@ -9,10 +9,11 @@ use native.Mathlib.Omega.{arith}
 use lib.Dec.{eqb}
 use lib.ListN.{length, take}
 use Rattle.packet.specs.Frame as frame
-use Rattle.header.specs.Header.{verdict, checkItems, placeOf}
+use Rattle.header.specs.Items.{fieldsOf}
+use Rattle.header.specs.Header.{verdict, bytesOf, checkItems}
 use Rattle.header.specs.Fields.{fieldsSet}
 use Rattle.header.proofs.Written.{Bytes}
-use Rattle.header.proofs.Set.{verdict-parts, set-verdict, set-length, set-kept, place-number, place-modified, place-sum, place-upload}
+use Rattle.header.proofs.Set.{verdict-parts, set-verdict, set-length, set-there, set-kept}
 use Rattle.session.specs.declared.reply.Answer.{Answer}
 use Rattle.session.specs.declared.reply.Answer.the-variants as answer
 use Rattle.decide.specs.Words.{wordAt}
@@ -29,7 +30,7 @@ use Rattle.accepted.specs.Exchange.{Exchange, sessionOf, sentIn, Transcr
 use Rattle.accepted.specs.Link.{heardBy, heardIn, infoOf, infoIn}
 use Rattle.accepted.specs.Events.{nothing, given, uploadOf, onGo, onSent, onAnswer, eventBy}
 use Rattle.accepted.specs.Accepted.{addedBy, accepted, reserved, total, numbersGiven, fromOne, blocksOf}
-use Rattle.accepted.specs.Agreement.{NumbersOnce, BlocksReserved, numberOf, Outside, OnlyFour, FourFields, StaysValid, Offered, Offers, OwnFile}
+use Rattle.accepted.specs.Agreement.{NumbersOnce, BlocksReserved, numberOf, OnlyFive, FiveFields, NamedByTime, StaysValid, Offered, Offers, OwnFile}
 use Rattle.accepted.specs.Agreement.{Agrees, EveryTranscript}
 use Rattle.accepted.proofs.Files.{found-number, number-some, numbers-rise, total-same, blocksIn, reserved-total, reserved-some}
 use Rattle.accepted.proofs.Lists.{from-one-length, from-one-rising}
@@ -60,25 +61,29 @@ module _ (m : Model) (t : Transcript) (y : Story m t) where
       ∙ sym (total-same (m .lastNumber) (blocksIn (m .files)) (reserved t) (λ k h. ap blocksOf (sym (y .standing k))))
       ∙ ap (λ (n : ℕ). total n (reserved t)) (sym count-given)
 
-  -- ".. with only the four server-set fields replaced"
-  only-four : (n time : ℕ) (file : List ℕ) → Bytes file → checkItems file ≡ 0 → OnlyFour file (fieldsSet n time file)
-  only-four n time file v e =
+  -- ".. with only the [five] server-set fields replaced"
+  only-five : (n time : ℕ) (file : List ℕ) → Bytes file → checkItems file ≡ 0 → OnlyFive file (fieldsSet n time file)
+  only-five n time file v e =
       record {
         size = set-length n time file;
-        rest = λ k a b c d.
-            set-kept n time file v e k (subst (Outside k) (place-number file v e) a) (subst (Outside k) (place-modified file v e) b)
-            (subst (Outside k) (place-sum file v e) c)
-            (subst (λ (s : ℕ). (k < placeOf 18 file .at) ⊎ (placeOf 18 file .at + s ≤ k)) (place-upload file v e .size) d);
+        rest = λ k o. set-kept n time file v e k (o .0, (o .1 .0, (o .1 .1 .0, (o .1 .1 .1 .0, tt)))) (o .1 .1 .1 .1 .0);
       }
 
   set-as : (n : ℕ) (f : File) → find n (m .files) ≡ some f → (f .time ≡ 0 → ⊥) → f .bytes ≡ fieldsSet (f .number) (f .time) (accepted t n)
   set-as n f e late = y .contents n f e .complete late
 
-  four-fields : FourFields m t
-  four-fields b n f e late =
+  five-fields : FiveFields m t
+  five-fields b n f e late =
       let acc = accepted t n in
-      subst (OnlyFour acc) (sym (set-as n f e late))
-      (only-four (f .number) (f .time) acc (accepted-bytes n t b) (verdict-parts acc (length acc) (y .contents n f e .checked late) .1))
+      subst (OnlyFive acc) (sym (set-as n f e late))
+      (only-five (f .number) (f .time) acc (accepted-bytes n t b) (verdict-parts acc (length acc) (y .contents n f e .checked late) .1))
+
+  -- the name reads back as it was set
+  named-by-time : NamedByTime m t
+  named-by-time b n f e late =
+      let acc = accepted t n in
+      ap (λ (file : List ℕ). bytesOf 2 (fieldsOf file)) (set-as n f e late)
+      ∙ set-there (f .number) (f .time) acc (accepted-bytes n t b) (verdict-parts acc (length acc) (y .contents n f e .checked late) .1) .1 .0
 
   -- an accepted file with its fields set is accepted again
   stays-valid : StaysValid m t
@@ -187,7 +192,8 @@ agrees m t y few =
       blocks = blocks-reserved m t y;
       contents = y .contents;
       under = y .under;
-      fields = four-fields m t y;
+      fields = five-fields m t y;
+      named = named-by-time m t y;
       valid = stays-valid m t y;
       offers = offers m t y few;
       own = own-stays m t y;

@@ -7,8 +7,10 @@ use mathlib.Core.List.{List, [], _∷_, map}
 use mathlib.Core.Option.{Option, none, some}
 use Prim.Native.Nat.{ℕ, _+_, _≤_, _<_}
 use lib.ListN.{length, getD}
+use Rattle.numbers.specs.Hex.{eight}
 use Rattle.header.specs.declared.scan.Place.{Place}
-use Rattle.header.specs.Header.{verdict, placeOf}
+use Rattle.header.specs.Items.{fieldsOf}
+use Rattle.header.specs.Header.{verdict, bytesOf, placeOf}
 use Rattle.header.specs.Fields.{fieldsSet}
 use Rattle.decide.specs.Words.{wordAt}
 use Rattle.calls.specs.Call.{Call, login, receive, request, lose, History}
@@ -60,9 +62,9 @@ Standing m t = (n : ℕ) → sizeOf (find n (m .files)) ≡ announced t n
 abbrev pub BlocksReserved : Model → Transcript → Type 0
 BlocksReserved m t = files.reserved (m .files) ≡ total (length (numbersGiven t)) (reserved t)
 
--- ---- "a complete file is the bytes accepted under its number, in order, with only the four server-set fields replaced"
+-- ---- "a complete file is the bytes accepted under its number, in order, with only the [five] server-set fields replaced"
 
--- a partial file is the bytes accepted; a complete one has its four fields set, and what was accepted passes the checks of DATA_END
+-- a partial file is the bytes accepted; a complete one has its five fields set, and what was accepted passes the checks of DATA_END
 pub record Holds (f : File) (bytes : List ℕ) : Type 0 where
   pub partial : f .time ≡ 0 → f .bytes ≡ bytes
   pub complete : (f .time ≡ 0 → ⊥) → f .bytes ≡ fieldsSet (f .number) (f .time) bytes
@@ -88,11 +90,19 @@ UnderNumber m t = (i : ℕ) → numberOf (sessionAt m i .up) ≡ uploadOf t i
 abbrev pub Outside : ℕ → Place → Type 0
 Outside k p = (k < p .at) ⊎ (p .at + p .size ≤ k)
 
--- "only the four": file_number (1), last_modified_time (6), header_checksum (10) and upload_time (12 hex)
-pub record OnlyFour (file now : List ℕ) : Type 0 where
+-- nor of any of several items'
+abbrev pub OutsideAll : ℕ → List ℕ → List ℕ → Type 0
+OutsideAll k file [] = Unit {0}
+OutsideAll k file (i ∷ is) = Outside k (placeOf i file) × OutsideAll k file is
+
+-- the five: file_number (1), file_name (2), last_modified_time (6), upload_time (12 hex) and header_checksum (10)
+abbrev pub fiveSet : List ℕ
+fiveSet = 1 ∷ 2 ∷ 6 ∷ 18 ∷ 10 ∷ []
+
+-- "only the" five
+pub record OnlyFive (file now : List ℕ) : Type 0 where
   pub size : length now ≡ length file
-  pub rest : (k : ℕ) → Outside k (placeOf 1 file) → Outside k (placeOf 6 file) → Outside k (placeOf 10 file) → Outside k (placeOf 18 file)
-      → getD now k 0 ≡ getD file k 0
+  pub rest : (k : ℕ) → OutsideAll k file fiveSet → getD now k 0 ≡ getD file k 0
 
 -- all are bytes
 abbrev pub AreBytes : List ℕ → Type 0
@@ -110,8 +120,13 @@ abbrev pub OfBytes : Transcript → Type 0
 OfBytes blank = Unit {0}
 OfBytes (t ▹ x) = OfBytes t × BringsBytes (x .call)
 
-abbrev pub FourFields : Model → Transcript → Type 0
-FourFields m t = OfBytes t → (n : ℕ) (f : File) → find n (m .files) ≡ some f → (f .time ≡ 0 → ⊥) → OnlyFour (accepted t n) (f .bytes)
+abbrev pub FiveFields : Model → Transcript → Type 0
+FiveFields m t = OfBytes t → (n : ℕ) (f : File) → find n (m .files) ≡ some f → (f .time ≡ 0 → ⊥) → OnlyFive (accepted t n) (f .bytes)
+
+-- "set file_name to the upload time in lower-case hexadecimal, eight digits": so a complete file is named (2)
+abbrev pub NamedByTime : Model → Transcript → Type 0
+NamedByTime m t =
+    OfBytes t → (n : ℕ) (f : File) → find n (m .files) ≡ some f → (f .time ≡ 0 → ⊥) → bytesOf 2 (fieldsOf (f .bytes)) ≡ eight (f .time)
 
 -- with its fields set a complete file passes the checks of DATA_END still, so whoever downloads it can check it
 abbrev pub StaysValid : Model → Transcript → Type 0
@@ -171,7 +186,8 @@ pub record Agrees (m : Model) (t : Transcript) : Type 0 where
   pub blocks : BlocksReserved m t
   pub contents : Contents m t
   pub under : UnderNumber m t
-  pub fields : FourFields m t
+  pub fields : FiveFields m t
+  pub named : NamedByTime m t
   pub valid : StaysValid m t
   pub offers : (c : Call) → Offers m t c
   pub own : (c : Call) → OwnFile m t c

@@ -8,7 +8,8 @@ use Rattle.back.specs.Answer.{Answers, answers, writtenOf}
 use Rattle.back.specs.declared.Answer.{Answer}
 use Rattle.back.specs.declared.Answer.the-variants as answer
 use Rattle.numbers.specs.Numbers.{number}
-use Rattle.lines.specs.Text.{digitsWithin, decimalOf, hexDigit}
+use Rattle.numbers.specs.Hex.{hexDigit}
+use Rattle.lines.specs.Text.{digitsWithin, decimalOf}
 use Rattle.equation.specs.Relation.{width}
 use Rattle.equation.specs.Symbols.{starsIn, goodText, goodNumber, good, connectiveOf, relationAt, tokenOf, follow, symbolsPast}
 use Rattle.equation.specs.Tree.{pushed, joined, result, bind, run, parse}

@@ -7,7 +7,8 @@ use native.Mathlib.Omega.{arith}
 use lib.ListN.{length, getD, take, drop, set, length-append}
 use lib.Seq.{sets, set-comm, set-out, drop-cons, drop-length, length-sets}
 use Rattle.numbers.specs.Numbers.{number}
-use Rattle.lines.specs.Text.{decimalOf, hexDigit}
+use Rattle.numbers.specs.Hex.{hexDigit}
+use Rattle.lines.specs.Text.{decimalOf}
 use Rattle.lines.proofs.TextLaws.{one-digit, more-digits, digits-more, digits-some}
 use Rattle.equation.specs.Relation.{operatorOf}
 use Rattle.equation.specs.Symbols.{good}

@@ -6,9 +6,10 @@ use equation::tokens::Token;
 use equation::tokens::read_token;
 use names::bytes::is_printed;
 use names::table::row_of;
+use numbers::hex_digit;
 use numbers::number16;
 use numbers::number32;
-use packet::bytes::store;
+use numbers::store;
 ghost use mathlib.Core.Path.{_≡_};
 ghost use mathlib.Core.Bool.{true};
 ghost use mathlib.Core.List.{List, [], _∷_, _++_};
@@ -16,7 +17,8 @@ ghost use Prim.Native.Nat.{ℕ, _+_, _≤_, _<_, _/_, _%_, max};
 ghost use lib.Dec.{ltb};
 ghost use lib.ListN.{length};
 ghost use Rattle.numbers.specs.Numbers.{number};
-ghost use Rattle.lines.specs.Text.{decimalOf, hexDigit};
+ghost use Rattle.numbers.specs.Hex.{hexDigit};
+ghost use Rattle.lines.specs.Text.{decimalOf};
 ghost use Rattle.equation.specs.Relation.{width};
 ghost use Rattle.equation.specs.Symbols.{good};
 ghost use Rattle.equation.specs.Holds.{relationOf};
@@ -78,13 +80,6 @@ fn put_all(s: &[u8], out: &mut [u8], n: usize) -> usize
         k = put(s[i], out, k);
     }
     k
-}
-
-fn hex_digit(n: u8) -> u8
-    requires { ⌜ n < 16 ⌝ }
-    ensures { λ r. ⌜ r ≡ hexDigit n ⌝ }
-{
-    if n < 10 { 48 + n } else { 87 + n }
 }
 
 // A byte in two hex digits.

@@ -79,7 +79,7 @@ unfoldable pub judgedAt : Last → ℕ → ℕ → List ℕ → List ℕ → Lis
 judgedAt last place clock disk owner table =
     cond (eqb (checkOf disk owner table place) 0) (timed (uploadTime clock (last .time))) (Rejected (checkOf disk owner table place))
 
--- "On success the server sets four fields"
+-- "On success the server sets" its fields, five with file_name
 unfoldable pub acceptedAs : ℕ → Session → Last → ℕ → Turn
 acceptedAs refused s last time =
     cond (eqb refused 0) (turnOf (withUp s up.Idle) (lastOf (last .number) time) Ack) (turnOf (withUp s up.Idle) last (Nak refused))

@@ -23,7 +23,7 @@ pub lost-once : heard day calls ≡
 unfolding computing
 lost-once = refl
 
--- one complete file, "with only the four server-set fields replaced": number 1, upload time 4
+-- one complete file, "with only the [five] server-set fields replaced": number 1, upload time 4
 pub lost-files : left day calls .files ≡ file 1 80 (completeAs 1 4) 4 ∷ []
 unfolding computing
 lost-files = refl

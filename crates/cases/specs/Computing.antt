@@ -1,6 +1,7 @@
 -- Whoever unfolds `computing` unfolds all that the cases compute with. Assumes nothing.
 use Prim.Native.Nat.{ℕ}
 use Rattle.numbers.specs.Numbers as byte-numbers
+use Rattle.numbers.specs.Hex as hex
 use Rattle.packet.specs.Packet as packet-packet
 use Rattle.text.specs.Match as text-match
 use Rattle.header.specs.Items as header-items
@@ -25,7 +26,7 @@ unfolding
     files.byTime uplink.uploadNew uplink.uploadContinued uplink.onUploadCmd uplink.dataTo uplink.onData uplink.dataEndTo uplink.onDataEnd
     downlink.destinationsIn downlink.downloadOf downlink.downloadNumbered downlink.onDownloadCmd downlink.dataDue downlink.onRequest
     downlink.fewerDestinations downlink.onDlAckCmd downlink.onDlNakCmd downlink.onDirCmd downlink.onSelectCmd machine.byType machine.endsIn
-    machine.onEvent machine.refusal machine.unless machine.step byte-numbers.number packet-packet.packetOf session-reply.tell
+    machine.onEvent machine.refusal machine.unless machine.step byte-numbers.number hex.hexDigit packet-packet.packetOf session-reply.tell
     header-items.headOf header-items.after header-items.walk header-items.marked header-items.fieldsOf header-header.listed
     header-header.every header-header.countIf header-header.bytesOf header-header.lengthIn header-header.lengthFits header-header.ordered
     header-header.proper header-header.complete header-header.sumOf header-header.checkItems header-header.checkValues header-header.verdict

@@ -20,12 +20,12 @@ fileWith offset sum items body =
 abbrev pub smallest : List ℕ
 smallest = fileWith 80 538 [] []
 
--- the same when it is complete, with a number, an upload time (both below 256) and the sum that they make
+-- the same when it is complete, with a number, an upload time (both below 10), the name that the time makes and the sum that they make
 unfoldable pub completeAs : ℕ → ℕ → List ℕ
 completeAs number time =
-    170 ∷ 85 ∷ 1 ∷ 0 ∷ 4 ∷ number ∷ 0 ∷ 0 ∷ 0 ∷ 2 ∷ 0 ∷ 8 ∷ 0 ∷ 0 ∷ 0 ∷ 0 ∷ 0 ∷ 0 ∷ 0 ∷ 0 ∷ 3 ∷ 0 ∷ 3 ∷ 0 ∷ 0 ∷ 0
+    170 ∷ 85 ∷ 1 ∷ 0 ∷ 4 ∷ number ∷ 0 ∷ 0 ∷ 0 ∷ 2 ∷ 0 ∷ 8 ∷ 48 ∷ 48 ∷ 48 ∷ 48 ∷ 48 ∷ 48 ∷ 48 ∷ (48 + time) ∷ 3 ∷ 0 ∷ 3 ∷ 0 ∷ 0 ∷ 0
     ∷ 4 ∷ 0 ∷ 4 ∷ 80 ∷ 0 ∷ 0 ∷ 0 ∷ 5 ∷ 0 ∷ 4 ∷ 0 ∷ 0 ∷ 0 ∷ 0 ∷ 6 ∷ 0 ∷ 4 ∷ time ∷ 0 ∷ 0 ∷ 0 ∷ 7 ∷ 0 ∷ 1 ∷ 0 ∷ 8 ∷ 0 ∷ 1 ∷ 0
-    ∷ 9 ∷ 0 ∷ 2 ∷ 0 ∷ 0 ∷ 10 ∷ 0 ∷ 2 ∷ two (538 + number + time + time)
+    ∷ 9 ∷ 0 ∷ 2 ∷ 0 ∷ 0 ∷ 10 ∷ 0 ∷ 2 ∷ two (922 + number + time + time + time)
     ++ 11 ∷ 0 ∷ 2 ∷ 80 ∷ 0 ∷ 18 ∷ 0 ∷ 4 ∷ time ∷ 0 ∷ 0 ∷ 0 ∷ 0 ∷ 0 ∷ 0 ∷ []
 
 -- a title (22h), and the file of 92 bytes with the title "Landrover" and that of 83 bytes with an empty one

@@ -50,7 +50,7 @@ late m i n offset f k e w =
     let z : c .file ≡ f = cc in
     λ y. c .time (ap (λ (g : File). g .time) z ∙ y)
 
--- THEOREM: what is brought is what was accepted, with the four fields set
+-- THEOREM: what is brought is what was accepted, with the five fields set
 pub from-pupil-to-pupil : FromPupilToPupil
 from-pupil-to-pupil s ok h session n f d cs only e =
     download-brings (modelAt s h) (sound-at s h) (named-at s h) session n 0 f d cs only .whole e

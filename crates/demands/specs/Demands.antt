@@ -20,10 +20,10 @@ pub record Demands : Type 0 where
   -- elsewhere the bytes that a link takes .. changes no packet sent and no state after it."
   pub real-answers : Demand2
   -- 3. "From an empty store, after any calls, links lost at any byte and clocks running backwards included: each storage block is free or belongs to
-  -- one file; no file number is given twice; a complete file is the bytes accepted under its number, in order, with only the four server-set fields
+  -- one file; no file number is given twice; a complete file is the bytes accepted under its number, in order, with only the [five] server-set fields
   -- replaced; a call changes no file but its own. Upload times rise strictly in order of completion."
   pub sound-store : (s : Start) → legal s ≡ true → (h : History) → Demand3 s h
-  -- with demand 2: who downloads a complete file is sent the bytes accepted under its number, the four fields set, whatever others do meanwhile
+  -- with demand 2: who downloads a complete file is sent the bytes accepted under its number, the five fields set, whatever others do meanwhile
   pub pupil-to-pupil : FromPupilToPupil
   -- the same from DOWNLOAD_CMD to DATA_END
   pub asked-and-sent : AskedAndSent

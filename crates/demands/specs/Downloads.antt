@@ -18,7 +18,7 @@ use Rattle.accepted.specs.Link.{linkBytes}
 use Rattle.accepted.specs.Accepted.{accepted}
 use Rattle.demands.specs.Demand3.{modelAt, transcriptAt}
 
--- the bytes accepted under a number, "in order, with only the four server-set fields replaced"
+-- the bytes accepted under a number, "in order, with only the [five] server-set fields replaced"
 abbrev pub acceptedSet : Start → History → ℕ → ℕ → List ℕ
 acceptedSet s h n time = fieldsSet n time (accepted (transcriptAt s h) n)
 

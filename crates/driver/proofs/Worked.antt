@@ -129,7 +129,7 @@ module _ (every : EveryDriver) (make : EveryMake) (machines : DriverPlays) where
   pub view-is : view (serverAt (reached small words calls .words)) (reached small words calls .lent) ≡ machine.run (empty 1 1 1 1) history
   view-is = plays .view ∙ ap (machine.run (empty 1 1 1 1)) calls-are
 
-  -- the next request is answered by 1; no byte is taken, and 82 are to be sent: DATA, with the file and its four fields set
+  -- the next request is answered by 1; no byte is taken, and 82 are to be sent: DATA, with the file and its five fields set
   pub sends-code : answered (reached small words calls) (asked pump two) .told .code ≡ 1
   unfolding computing calls machine.run callsOf further tellOf
   sends-code = plays .code (asked pump two) (omega arith)

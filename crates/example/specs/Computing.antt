@@ -2,6 +2,7 @@
 use Prim.Native.Nat.{ℕ}
 use lib.Count as bits
 use Rattle.numbers.specs.Numbers as numbers-numbers
+use Rattle.numbers.specs.Hex as numbers-hex
 use Rattle.packet.specs.Feed as packet-feed
 use Rattle.packet.specs.Frame as packet-frame
 use Rattle.packet.specs.Machine as packet-machine
@@ -73,7 +74,7 @@ unfolding
     lines-commands.commandOfFields lines-commands.commandOf lines-commands.rxBytes lines-commands.readBy lines-commands.readOf lines-lines.sentLine
     lines-lines.packetLine lines-lines.closedLine lines-lines.refusedLine lines-lines.errorLine lines-lines.blocksLine lines-lines.printedIn
     lines-numerals.digit lines-numerals.digits lines-numerals.valueFrom lines-numerals.decimalBy lines-numerals.decimalAt lines-numerals.hexValue
-    lines-numerals.isHex lines-numerals.bytesIn lines-numerals.hexIn lines-text.digitsWithin lines-text.decimalOf lines-text.hexDigit lines-text.hexOf
+    lines-numerals.isHex lines-numerals.bytesIn lines-numerals.hexIn lines-text.digitsWithin lines-text.decimalOf numbers-hex.hexDigit lines-text.hexOf
     input-input.lineLength input-input.foundOf input-input.findOf input-input.movedOf input-input.shiftOf input-parts.restOf script-calling.hearOf
     script-calling.callOf script-calling.heardOf script-calling.stillOf script-day.beginOf script-day.printsOf script-day.answeredOf script-day.turnOf
     script-day.stepOf script-day.stepBehind script-doing.restsOf script-doing.sessionOf script-doing.goesOn script-doing.heardOn script-doing.pumpedOn

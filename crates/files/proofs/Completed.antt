@@ -83,7 +83,7 @@ complete-kept disk owner table p time n e z =
 
 pub record CompleteLeaves (map disk owner table : List ℕ) (last latest p time : ℕ) (c : Writes) : Type 0 where
   pub file : recordAt (c .table) p ≡ completed time (recordAt table p)
-  -- "with only the four server-set fields replaced"
+  -- "with only the [five] server-set fields replaced"
   pub bytes : bytesAt (c .disk) owner (c .table) p ≡ fieldsSet (recordAt table p .number) time (bytesAt disk owner table p)
   pub others : (q : ℕ) → (q ≡ p → ⊥) → viewAt (c .disk) owner (c .table) q ≡ viewAt disk owner table q
   pub sound : latest < time → recordAt table p .received ≡ recordAt table p .size → Sound map owner (c .table) last time

@@ -22,7 +22,7 @@ completed time f = record { number = f .number; size = f .size; received = f .re
 unfoldable pub completeNumber : List ℕ → List ℕ → ℕ → File → ℕ
 completeNumber disk owner place f = after (placeNumber place f) (setNumber disk owner place (f .received))
 
--- "On success the server sets four fields"; the upload time is the record's too
+-- "On success the server sets" its fields, five with file_name (crates/header/specs/Fields.antt); the upload time is the record's too
 unfoldable pub completeOf : List ℕ → List ℕ → List ℕ → ℕ → ℕ → Writes
 completeOf disk owner table place time =
     cond (eqb (completeNumber disk owner place (recordAt table place)) 0)

@@ -9,6 +9,7 @@ use lib.ListN.{length}
 use borrow.Author.Tests.{eq-eqb, ne-eqb, eqb-true, eqb-false, ltb-true, le-leb, lt-leb, leb-true, leb-false}
 use Rattle.header.specs.Items.{Field}
 use Rattle.header.specs.Header.{listed, every, countIf, times, bytesOf, lengthIn, listedLength, lengthFits, fits, ordered, proper, complete, placeFrom}
+use Rattle.header.specs.Fields.{before}
 use Rattle.header.proofs.Machine.{clash}
 
 abbrev pub low : ℕ → Bool
@@ -314,11 +315,6 @@ length-of i n (x ∷ xs) l f h =
     go : (t : Bool) → eqb (x .id) i ≡ t → (1 ≤ times i xs → length (bytesOf i xs) ≡ suc n) → fits x ≡ true → length (cond t (x .bytes) (bytesOf i xs)) ≡ suc n
     go true e ih p = fit-length x i n (eqb-true (x .id) i e) l p
     go false e ih p = ih (omega (arith, times-miss i x xs (eqb-false (x .id) i e)))
-
--- how many bytes the d items after `last` take
-unfoldable pub before : ℕ → ℕ → ℕ
-before zero last = 0
-before (suc d) last = 3 + listedLength (suc last) + before d (suc last)
 
 some-length : (i : ℕ) → 0 < i → i ≤ 11 → listedLength i ≡ suc (listedLength i - 1)
 unfolding listed lengthIn

@@ -10,9 +10,10 @@ use lib.Seq.{take-append-seam, drop-append-add}
 use borrow.Author.Tests.{ne-eqb, eqb-false}
 use Rattle.header.specs.Items.{Field}
 use Rattle.header.specs.Header.{every, times, countIf, bytesOf, fits, placeFrom}
+use Rattle.header.specs.Fields.{before}
 use Rattle.header.specs.declared.scan.Place.{Place}
 use Rattle.header.proofs.Written.{raw, written, length-raw, written-three}
-use Rattle.header.proofs.Order.{Chain, before, times-miss, every-here, chain-length}
+use Rattle.header.proofs.Order.{Chain, times-miss, every-here, chain-length}
 
 -- an item that is there is found: its data lies between the first item's head and the end mark
 pub record Inside (p : Place) (n first end : ℕ) : Type 0 where

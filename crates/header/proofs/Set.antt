@@ -2,25 +2,28 @@
 use mathlib.Core.Path.{_≡_, refl, sym, ap, ap₂, _∙_, subst}
 use mathlib.Core.Logic.{_⊎_, ⊎-elim}
 use mathlib.Core.Bool.{Bool, true, false, cond}
-use mathlib.Core.List.{List, [], _∷_}
+use mathlib.Core.List.{List, [], _∷_, _++_}
 use Prim.Native.Nat.{ℕ, zero, suc, _+_, _-_, _%_, _≤_, _<_}
 use native.Mathlib.Omega.{arith}
-use lib.Dec.{ltb, eqb}
-use lib.ListN.{length, getD, set, take, drop, length-append}
-use lib.Seq.{sets, length-sets, getD-set-other}
-use borrow.Author.Tests.{eq-eqb, ne-eqb, eqb-true, eqb-false}
+use lib.Dec.{ltb, leb, eqb}
+use lib.ListN.{length, getD, set, take, drop, replicate, length-append}
+use lib.Seq.{sets, length-sets, getD-set-other, take-append-seam}
+use borrow.Author.Tests.{eq-eqb, ne-eqb, eqb-true, eqb-false, ltb-true, ltb-false, leb-true}
 use Rattle.numbers.specs.Numbers.{number, two, four, storedAt}
+use Rattle.numbers.specs.Hex.{eight}
 use Rattle.numbers.proofs.NumberLaws.{number-two, number-four, stored-at}
+use Rattle.numbers.proofs.HexLaws.{digit-byte}
 use Rattle.header.specs.Items.{Field, fieldsOf}
-use Rattle.header.specs.Header.{listed, times, bytesOf, lengthIn, listedLength, proper, complete, sumOf, headerLength, headerSum, checkItems, checkValues, verdict, placeFrom, placeOf, headerOf, refusedWith}
-use Rattle.header.specs.Fields.{serverSet, withFields, withSum, fieldsSet}
+use Rattle.header.specs.Header.{listed, every, times, bytesOf, lengthIn, listedLength, proper, complete, sumOf, headerLength, headerSum, checkItems, checkValues, verdict, placeFrom, placeOf, headerOf, refusedWith}
+use Rattle.header.specs.Fields.{serverSet, withFields, withSum, fieldsSet, before, placeIn, rowOf, rowAt, Settable}
+use Rattle.header.specs.declared.fields.FieldRow.{FieldRow}
 use Rattle.header.specs.declared.scan.Place.{Place}
 use Rattle.header.specs.declared.scan.Header.{Header}
 use Rattle.header.proofs.Written.{Bytes, written, Named}
-use Rattle.header.proofs.Order.{complete-parts, proper-parts, length-of, before, place-chain}
+use Rattle.header.proofs.Order.{complete-parts, proper-parts, length-of, place-chain}
 use Rattle.header.proofs.Values.{sum-of}
 use Rattle.header.proofs.Verdict.{Shape, shape, no-mark, no-end, header, fileOf, file-fields, file-length, file-header, file-body, file-items, file-sum, passed-both}
-use Rattle.header.proofs.Places.{place-inside, place-past, place-data}
+use Rattle.header.proofs.Places.{place-inside, place-data}
 use Rattle.header.proofs.Replace.{withBytes, Alike, alike-self, alike-trans, alike-count, alike-place, alike-named, alike-written, alike-bytes, alike-proper, alike-complete, alike-with, with-same, with-other, with-own, with-sum, place-store}
 
 -- ---- a file whose items DATA_END does not refuse
@@ -59,23 +62,25 @@ by-parts P f file v e =
 -- ---- rows of fields
 
 -- the row's item is there, and its data as long as the row's
-abbrev Fits : List Field → Field → Type 0
+abbrev pub Fits : List Field → Field → Type 0
 Fits is row = (1 ≤ times (row .id) is) × (length (row .bytes) ≡ length (bytesOf (row .id) is))
 
-abbrev AllFit : List Field → List Field → Type 0
+abbrev pub AllFit : List Field → List Field → Type 0
 AllFit is [] = Unit {0}
 AllFit is (row ∷ rows) = Fits is row × AllFit is rows
 
-alike-fit : (is js rows : List Field) → Alike is js → AllFit js rows → AllFit is rows
-alike-fit is js [] a f = tt
-alike-fit is js (row ∷ rows) a f =
-    ((rw (alike-count (λ n. eqb n (row .id)) is js a) (f .0 .0), f .0 .1 ∙ sym (alike-bytes (row .id) is js a)), alike-fit is js rows a (f .1))
+pub alike-fits : (i n : ℕ) (is js : List Field) → Alike is js → (1 ≤ times i js) × (n ≡ length (bytesOf i js)) → (1 ≤ times i is) × (n ≡ length (bytesOf i is))
+alike-fits i n is js a f = (rw (alike-count (λ k. eqb k i) is js a) (f .0), f .1 ∙ sym (alike-bytes i is js a))
 
-unfoldable itemsWith : List Field → List Field → List Field
+pub alike-fit : (is js rows : List Field) → Alike is js → AllFit js rows → AllFit is rows
+alike-fit is js [] a f = tt
+alike-fit is js (row ∷ rows) a f = (alike-fits (row .id) (length (row .bytes)) is js a (f .0), alike-fit is js rows a (f .1))
+
+unfoldable pub itemsWith : List Field → List Field → List Field
 itemsWith [] is = is
 itemsWith (row ∷ rows) is = itemsWith rows (withBytes (row .id) (row .bytes) is)
 
-alike-rows : (rows is : List Field) → AllFit is rows → Alike (itemsWith rows is) is
+pub alike-rows : (rows is : List Field) → AllFit is rows → Alike (itemsWith rows is) is
 unfolding itemsWith
 alike-rows [] is f = alike-self is
 alike-rows (row ∷ rows) is f =
@@ -130,11 +135,11 @@ abbrev pub NotIn : ℕ → List Field → Type 0
 NotIn j [] = Unit {0}
 NotIn j (row ∷ rows) = (j ≡ row .id → ⊥) × NotIn j rows
 
-abbrev Distinct : List Field → Type 0
+abbrev pub Distinct : List Field → Type 0
 Distinct [] = Unit {0}
 Distinct (row ∷ rows) = NotIn (row .id) rows × Distinct rows
 
-abbrev AllThere : List Field → List Field → Type 0
+abbrev pub AllThere : List Field → List Field → Type 0
 AllThere is [] = Unit {0}
 AllThere is (row ∷ rows) = (bytesOf (row .id) is ≡ row .bytes) × AllThere is rows
 
@@ -144,7 +149,7 @@ rows-other j [] is f = refl
 rows-other j (row ∷ rows) is f =
     rows-other j rows (withBytes (row .id) (row .bytes) is) (f .1) ∙ with-other (row .id) j (row .bytes) is (f .0)
 
-rows-data : (rows is : List Field) → AllFit is rows → Distinct rows → AllThere (itemsWith rows is) rows
+pub rows-data : (rows is : List Field) → AllFit is rows → Distinct rows → AllThere (itemsWith rows is) rows
 unfolding itemsWith
 rows-data [] is f d = tt
 rows-data (row ∷ rows) is f d =
@@ -162,6 +167,124 @@ rows-there : (rows is : List Field) → AllThere is rows → itemsWith rows is �
 unfolding itemsWith
 rows-there [] is f = refl
 rows-there (row ∷ rows) is f = ap (itemsWith rows) (with-own (row .id) (row .bytes) is (f .0)) ∙ rows-there rows is (f .1)
+
+-- ---- rows that can be set
+
+-- the row's item is mandatory and not header_checksum, and the row has as many bytes as the item's listed length
+unfoldable pub fitRow : Field → Bool
+fitRow row =
+    cond (eqb (row .id) 10) false (cond (eqb (length (row .bytes)) 0) false (eqb (listedLength (row .id)) (length (row .bytes))))
+
+-- no row has the id
+unfoldable pub absent : ℕ → List Field → Bool
+absent j [] = true
+absent j (row ∷ rows) = cond (eqb j (row .id)) false (absent j rows)
+
+-- each row is such a row, and no two have the same id
+unfoldable pub settable : List Field → Bool
+settable [] = true
+settable (row ∷ rows) = cond (fitRow row) (cond (absent (row .id) rows) (settable rows) false) false
+
+-- the server's rows can be set
+pub server-rows : (n t : ℕ) → settable (serverSet n t) ≡ true
+unfolding settable fitRow absent listed lengthIn
+server-rows n t = refl
+
+clash : {A : Type 0} → false ≡ true → A
+clash e = absurd (let z : _≡_ {A = ℕ} 0 1 = cc e in omega arith)
+
+record Mandatory (row : Field) : Type 0 where
+  listed-size : listedLength (row .id) ≡ length (row .bytes)
+  some : 1 ≤ length (row .bytes)
+  no-sum : row .id ≡ 10 → ⊥
+
+mandatory : (row : Field) → fitRow row ≡ true → Mandatory row
+unfolding fitRow
+mandatory row e = go (eqb (row .id) 10) refl (eqb (length (row .bytes)) 0) refl e
+  where
+    go : (a : Bool) → eqb (row .id) 10 ≡ a → (b : Bool) → eqb (length (row .bytes)) 0 ≡ b
+        → cond a false (cond b false (eqb (listedLength (row .id)) (length (row .bytes)))) ≡ true
+        → Mandatory row
+    go true p b q e = clash e
+    go false p true q e = clash e
+    go false p false q e =
+        let z = eqb-false (length (row .bytes)) 0 q in
+        record {
+          listed-size = eqb-true (listedLength (row .id)) (length (row .bytes)) e;
+          some = positive (length (row .bytes)) z;
+          no-sum = eqb-false (row .id) 10 p;
+        }
+      where
+        positive : (n : ℕ) → (n ≡ 0 → ⊥) → 1 ≤ n
+        positive zero z = absurd (z refl)
+        positive (suc n) z = omega arith
+
+absent-in : (j : ℕ) (rows : List Field) → absent j rows ≡ true → NotIn j rows
+unfolding absent
+absent-in j [] e = tt
+absent-in j (row ∷ rows) e = go (eqb j (row .id)) refl e (absent-in j rows)
+  where
+    go : (a : Bool) → eqb j (row .id) ≡ a → cond a false (absent j rows) ≡ true → (absent j rows ≡ true → NotIn j rows) → (j ≡ row .id → ⊥) × NotIn j rows
+    go true p e ih = clash e
+    go false p e ih = (eqb-false j (row .id) p, ih e)
+
+record Can (row : Field) (rows : List Field) : Type 0 where
+  fit : Mandatory row
+  apart : NotIn (row .id) rows
+  rest : settable rows ≡ true
+
+can : (row : Field) (rows : List Field) → settable (row ∷ rows) ≡ true → Can row rows
+unfolding settable
+can row rows e = go (fitRow row) refl (absent (row .id) rows) refl e
+  where
+    go : (a : Bool) → fitRow row ≡ a → (b : Bool) → absent (row .id) rows ≡ b → cond a (cond b (settable rows) false) false ≡ true → Can row rows
+    go true p true q e = record { fit = mandatory row p; apart = absent-in (row .id) rows q; rest = e }
+    go true p false q e = clash e
+    go false p b q e = clash e
+
+pub rows-distinct : (rows : List Field) → settable rows ≡ true → Distinct rows
+rows-distinct [] e = tt
+rows-distinct (row ∷ rows) e = let q = can row rows e in (q .apart, rows-distinct rows (q .rest))
+
+rows-no-sum : (rows : List Field) → settable rows ≡ true → NotIn 10 rows
+rows-no-sum [] e = tt
+rows-no-sum (row ∷ rows) e = let q = can row rows e in ((λ z. q .fit .no-sum (sym z)), rows-no-sum rows (q .rest))
+
+-- a listed item is among those that are there
+listed-times : (is : List Field) (rows : List (ℕ × ℕ)) (i k : ℕ)
+    → every (λ row. leb 1 (times (row .0) is)) rows ≡ true
+    → lengthIn rows i ≡ suc k
+    → 1 ≤ times i is
+unfolding every lengthIn
+listed-times is [] i k e l = absurd (omega arith)
+listed-times is (row ∷ rows) i k e l = go (leb 1 (times (row .0) is)) refl (eqb i (row .0)) refl e l (listed-times is rows i k)
+  where
+    go : (a : Bool) → leb 1 (times (row .0) is) ≡ a → (b : Bool) → eqb i (row .0) ≡ b
+        → cond a (every (λ row. leb 1 (times (row .0) is)) rows) false ≡ true
+        → cond b (row .1) (lengthIn rows i) ≡ suc k
+        → (every (λ row. leb 1 (times (row .0) is)) rows ≡ true → lengthIn rows i ≡ suc k → 1 ≤ times i is)
+        → 1 ≤ times i is
+    go true p true q e l ih = rw (eqb-true i (row .0) q) (leb-true 1 (times (row .0) is) p)
+    go true p false q e l ih = ih e l
+    go false p b q e l ih = clash e
+
+-- a listed item is there, with the listed length
+listed-there : (is : List Field) (i n : ℕ)
+    → proper is ≡ true
+    → complete is ≡ true
+    → listedLength i ≡ n
+    → 1 ≤ n
+    → (1 ≤ times i is) × (n ≡ length (bytesOf i is))
+unfolding complete
+listed-there is i zero p c l h = absurd (omega arith)
+listed-there is i (suc k) p c l h =
+    let t = listed-times is listed i k c l in (t, sym (length-of i k is l (proper-parts is p .fit) t))
+
+pub rows-fit-in : (rows is : List Field) → settable rows ≡ true → proper is ≡ true → complete is ≡ true → AllFit is rows
+rows-fit-in [] is e p c = tt
+rows-fit-in (row ∷ rows) is e p c =
+    let q = can row rows e in
+    (listed-there is (row .id) (length (row .bytes)) p c (q .fit .listed-size) (q .fit .some), rows-fit-in rows is (q .rest) p c)
 
 -- ---- the checks by the items
 
@@ -237,25 +360,13 @@ alike-check is js rest n a =
 
 -- ---- the fields set
 
--- a listed item is there, with the listed length
-listed-there : (is : List Field) (i k : ℕ)
-    → proper is ≡ true
-    → lengthIn listed i ≡ suc k
-    → times i is ≡ 1
-    → (1 ≤ times i is) × (suc k ≡ length (bytesOf i is))
-listed-there is i k p l e =
-    let h : 1 ≤ times i is = omega arith in (h, sym (length-of i k is l (proper-parts is p .fit) h))
-
-sum-there : (is : List Field) → proper is ≡ true → complete is ≡ true → (1 ≤ times 10 is) × (2 ≡ length (bytesOf 10 is))
+pub sum-there : (is : List Field) → proper is ≡ true → complete is ≡ true → (1 ≤ times 10 is) × (2 ≡ length (bytesOf 10 is))
 unfolding listed lengthIn
-sum-there is p c = listed-there is 10 1 p refl (complete-parts is p c .low 10 (omega arith) (omega arith))
+sum-there is p c = listed-there is 10 2 p c refl (omega arith)
 
 module _ (n t : ℕ) (is : List Field) (rest : List ℕ) (named : Named is) (p : proper is ≡ true) (c : complete is ≡ true) where
   rows-fit : AllFit is (serverSet n t)
-  unfolding listed lengthIn
-  rows-fit =
-      let q = complete-parts is p c in
-      (listed-there is 1 3 p refl (q .low 1 (omega arith) (omega arith)), (listed-there is 6 3 p refl (q .low 6 (omega arith) (omega arith)), (listed-there is 18 3 p refl (q .upload), tt)))
+  rows-fit = rows-fit-in (serverSet n t) is (server-rows n t) p c
 
   -- the items with the given fields, and with the sum too
   abbrev given : List Field
@@ -271,9 +382,7 @@ module _ (n t : ℕ) (is : List Field) (rest : List ℕ) (named : Named is) (p :
   given-alike = alike-rows (serverSet n t) is rows-fit
 
   sum-fit : (1 ≤ times 10 given) × (2 ≡ length (bytesOf 10 given))
-  sum-fit =
-      let r = sum-there is p c in
-      (rw (alike-count (λ k. eqb k 10) given is given-alike) (r .0), r .1 ∙ sym (alike-bytes 10 given is given-alike))
+  sum-fit = alike-fits 10 2 given is given-alike (sum-there is p c)
 
   final-alike : Alike final is
   final-alike = alike-trans final given is (alike-with 10 (two own) given (sum-fit .1)) given-alike
@@ -311,14 +420,9 @@ module _ (n t : ℕ) (is : List Field) (rest : List ℕ) (named : Named is) (p :
   final-own : bytesOf 10 final ≡ two own
   final-own = with-same 10 (two own) given (sum-fit .0)
 
-  distinct : Distinct (serverSet n t)
-  distinct = (((λ e. omega arith), ((λ e. omega arith), tt)), (((λ e. omega arith), tt), (tt, tt)))
-
-  no-sum : NotIn 10 (serverSet n t)
-  no-sum = ((λ e. omega arith), ((λ e. omega arith), ((λ e. omega arith), tt)))
-
   final-there : AllThere final (serverSet n t)
-  final-there = there-with 10 (two own) given (serverSet n t) no-sum (rows-data (serverSet n t) is rows-fit distinct)
+  final-there = there-with 10 (two own) given (serverSet n t) (rows-no-sum (serverSet n t) (server-rows n t))
+      (rows-data (serverSet n t) is rows-fit (rows-distinct (serverSet n t) (server-rows n t)))
 
   final-other : (j : ℕ) → NotIn j (serverSet n t) → (j ≡ 10 → ⊥) → bytesOf j final ≡ bytesOf j is
   final-other j a b = with-other 10 j (two own) given b ∙ rows-other j (serverSet n t) is a
@@ -329,9 +433,9 @@ module _ (n t : ℕ) (is : List Field) (rest : List ℕ) (named : Named is) (p :
   final-values : (announced : ℕ) → checkValues (fileOf is rest) announced ≡ 0 → checkValues (fileOf final rest) announced ≡ 0
   final-values announced e =
       let q = value-tests is rest named announced e in
-      let o11 = final-other 11 ((λ e. omega arith), ((λ e. omega arith), ((λ e. omega arith), tt))) (λ e. omega arith) in
-      let o4 = final-other 4 ((λ e. omega arith), ((λ e. omega arith), ((λ e. omega arith), tt))) (λ e. omega arith) in
-      let o9 = final-other 9 ((λ e. omega arith), ((λ e. omega arith), ((λ e. omega arith), tt))) (λ e. omega arith) in
+      let o11 = final-other 11 (absent-in 11 (serverSet n t) (unfold absent in refl)) (λ e. omega arith) in
+      let o4 = final-other 4 (absent-in 4 (serverSet n t) (unfold absent in refl)) (λ e. omega arith) in
+      let o9 = final-other 9 (absent-in 9 (serverSet n t) (unfold absent in refl)) (λ e. omega arith) in
       let l = alike-written final is final-alike in
       let s : own < 65536 = omega arith in
       file-values final rest final-named announced
@@ -348,7 +452,7 @@ module _ (n t : ℕ) (is : List Field) (rest : List ℕ) (named : Named is) (p :
 -- ---- THE LAWS of setting
 
 -- a file and its setting have the same length
-with-length : (rows : List Field) (file : List ℕ) → length (withFields rows file) ≡ length file
+pub with-length : (rows : List Field) (file : List ℕ) → length (withFields rows file) ≡ length file
 unfolding withFields
 with-length [] file = refl
 with-length (row ∷ rows) file =
@@ -368,6 +472,7 @@ set-length n t file = go (eqb (checkItems file) 0)
 
 pub record Reads (n t : ℕ) (file : List ℕ) : Type 0 where
   pub file-number : number (bytesOf 1 (fieldsOf file)) ≡ n
+  pub file-name : bytesOf 2 (fieldsOf file) ≡ eight t
   pub modified-time : number (bytesOf 6 (fieldsOf file)) ≡ t
   pub upload-time : number (bytesOf 18 (fieldsOf file)) ≡ t
   pub checksum : number (bytesOf 10 (fieldsOf file)) ≡ headerSum file
@@ -405,24 +510,12 @@ module _ (n t : ℕ) where
       ∙ file-body (final n t is rest m p c) rest (final-named n t is rest m p c)))
 
   -- the fields read back as they were set
-  read-back : (i : ℕ) (bs : List ℕ)
-      → ((is : List Field) (rest : List ℕ) (m : Named is) (p : proper is ≡ true) (c : complete is ≡ true) → bytesOf i (final n t is rest m p c) ≡ bs)
-      → (file : List ℕ)
-      → Bytes file
-      → checkItems file ≡ 0
-      → bytesOf i (fieldsOf (fieldsSet n t file)) ≡ bs
-  read-back i bs f =
-      by-parts (λ file. bytesOf i (fieldsOf (fieldsSet n t file)) ≡ bs)
-      (λ is rest m p c. rw (set-file n t is rest m p c) (ap (bytesOf i) (file-fields (final n t is rest m p c) rest (final-named n t is rest m p c)) ∙ f is rest m p c))
-
-  pub set-number : (file : List ℕ) → Bytes file → checkItems file ≡ 0 → bytesOf 1 (fieldsOf (fieldsSet n t file)) ≡ four n
-  set-number = read-back 1 (four n) (λ is rest m p c. final-there n t is rest m p c .0)
-
-  pub set-modified : (file : List ℕ) → Bytes file → checkItems file ≡ 0 → bytesOf 6 (fieldsOf (fieldsSet n t file)) ≡ four t
-  set-modified = read-back 6 (four t) (λ is rest m p c. final-there n t is rest m p c .1 .0)
-
-  pub set-upload : (file : List ℕ) → Bytes file → checkItems file ≡ 0 → bytesOf 18 (fieldsOf (fieldsSet n t file)) ≡ four t
-  set-upload = read-back 18 (four t) (λ is rest m p c. final-there n t is rest m p c .1 .1 .0)
+  pub set-there : (file : List ℕ) → Bytes file → checkItems file ≡ 0 → AllThere (fieldsOf (fieldsSet n t file)) (serverSet n t)
+  set-there =
+      by-parts (λ file. AllThere (fieldsOf (fieldsSet n t file)) (serverSet n t))
+      (λ is rest m p c. subst (λ (js : List Field). AllThere js (serverSet n t))
+      (sym (ap fieldsOf (set-file n t is rest m p c) ∙ file-fields (final n t is rest m p c) rest (final-named n t is rest m p c)))
+      (final-there n t is rest m p c))
 
   -- header_checksum is the sum of the header as it then is
   pub set-sum : (file : List ℕ)
@@ -440,10 +533,12 @@ module _ (n t : ℕ) where
   pub set-reads : (file : List ℕ) → Bytes file → checkItems file ≡ 0 → n < 4294967296 → t < 4294967296 → Reads n t (fieldsSet n t file)
   set-reads file v e a b =
       let s : headerSum (fieldsSet n t file) < 65536 = omega arith in
+      let r = set-there file v e in
       record {
-        file-number = ap number (set-number file v e) ∙ number-four n a;
-        modified-time = ap number (set-modified file v e) ∙ number-four t b;
-        upload-time = ap number (set-upload file v e) ∙ number-four t b;
+        file-number = ap number (r .0) ∙ number-four n a;
+        file-name = r .1 .0;
+        modified-time = ap number (r .1 .1 .0) ∙ number-four t b;
+        upload-time = ap number (r .1 .1 .1 .0) ∙ number-four t b;
         checksum = ap number (set-sum file v e) ∙ number-two (headerSum (fieldsSet n t file)) s;
       }
 
@@ -514,60 +609,70 @@ fixed d h =
     let z : 0 + suc d ≡ suc d = omega arith in
     ap (placeFrom (suc d) 2) (file-fields is rest m) ∙ (rw z at (place-chain 11 0 d 2 is refl h (complete-parts is p c .chain) (proper-parts is p .fit))))
 
-pub place-number : (file : List ℕ) → Bytes file → checkItems file ≡ 0 → placeOf 1 file ≡ placeAt 5 4
-unfolding before listed lengthIn
-place-number = fixed 0 (omega arith)
-
-pub place-modified : (file : List ℕ) → Bytes file → checkItems file ≡ 0 → placeOf 6 file ≡ placeAt 43 4
-unfolding before listed lengthIn
-place-modified = fixed 5 (omega arith)
-
+-- header_checksum's
 pub place-sum : (file : List ℕ) → Bytes file → checkItems file ≡ 0 → placeOf 10 file ≡ placeAt 63 2
 unfolding before listed lengthIn
 place-sum = fixed 9 (omega arith)
 
--- upload_time is behind them, inside the header
-pub record Upload (file : List ℕ) (p : Place) : Type 0 where
-  pub found : p .found ≡ true
-  pub size : p .size ≡ 4
-  pub behind : 73 ≤ p .at
-  pub within : p .at + 7 ≤ headerLength file
-  pub inside : headerLength file ≤ length file
+-- a mandatory item: it is where the code stores it, has the listed length, and lies inside the file
+pub record Standing (i n : ℕ) (file : List ℕ) : Type 0 where
+  pub place : placeOf i file .at ≡ placeIn (placeOf 18 file .at) i
+  pub size : placeOf i file .size ≡ n
+  pub inside : placeOf i file .at + n ≤ length file
 
-pub place-upload : (file : List ℕ) → Bytes file → checkItems file ≡ 0 → Upload file (placeOf 18 file)
-unfolding before listed lengthIn
-place-upload =
-    by-parts (λ file. Upload file (placeOf 18 file))
-    (λ is rest m p c.
-    let q = complete-parts is p c in
-    let u = q .upload in
-    let f = proper-parts is p .fit in
-    let l = length-of 18 3 is refl f (omega arith) in
-    let r = place-inside 18 2 is (omega arith) in
-    let w = r .within in
-    let b = place-past 11 0 18 2 is refl (omega arith) (q .chain) f (omega arith) in
-    let h = file-length is rest m in
-    let k = length-append (written is) rest in
-    rw (file-fields is rest m)
-    (record { found = r .found; size = r .size ∙ l; behind = omega arith; within = rw h (omega arith); inside = rw h (omega arith) }))
+-- a listed item above 0b is upload_time
+past-low : (d : ℕ) → 11 ≤ d → 1 ≤ listedLength (suc d) → suc d ≡ 18
+unfolding listed lengthIn
+past-low d h l =
+    go (eqb (suc d) 18) refl
+    (rw (
+      ne-eqb (suc d) 1 (λ z. omega arith),
+      ne-eqb (suc d) 2 (λ z. omega arith),
+      ne-eqb (suc d) 3 (λ z. omega arith),
+      ne-eqb (suc d) 4 (λ z. omega arith),
+      ne-eqb (suc d) 5 (λ z. omega arith),
+      ne-eqb (suc d) 6 (λ z. omega arith),
+      ne-eqb (suc d) 7 (λ z. omega arith),
+      ne-eqb (suc d) 8 (λ z. omega arith),
+      ne-eqb (suc d) 9 (λ z. omega arith),
+      ne-eqb (suc d) 10 (λ z. omega arith),
+      ne-eqb (suc d) 11 (λ z. omega arith),
+    ) at l)
+  where
+    go : (t : Bool) → eqb (suc d) 18 ≡ t → 1 ≤ cond t 4 0 → suc d ≡ 18
+    go true e l = eqb-true (suc d) 18 e
+    go false e l = absurd (omega arith)
+
+place-code : (i : ℕ) (file : List ℕ) → Bytes file → checkItems file ≡ 0 → 1 ≤ listedLength i → placeOf i file .at ≡ placeIn (placeOf 18 file .at) i
+unfolding placeIn
+place-code zero file v e l = unfold listed in unfold lengthIn in absurd (omega arith)
+place-code (suc d) file v e l = go (ltb d 11) refl
+  where
+    go : (t : Bool) → ltb d 11 ≡ t → placeOf (suc d) file .at ≡ cond t (2 + before d 0 + 3) (placeOf 18 file .at)
+    go true h = ap (λ (p : Place). p .at) (fixed d (ltb-true d 11 h) file v e)
+    go false h = ap (λ (i : ℕ). placeOf i file .at) (past-low d (ltb-false d 11 h) l)
+
+pub standing : (i n : ℕ) → listedLength i ≡ n → 1 ≤ n → (file : List ℕ) → Bytes file → checkItems file ≡ 0 → Standing i n file
+standing i n l h file v e =
+    let q = within file v e in
+    record { place = place-code i file v e (omega arith); size = q .0; inside = q .1 }
+  where
+    within : (file : List ℕ) → Bytes file → checkItems file ≡ 0 → (placeOf i file .size ≡ n) × (placeOf i file .at + n ≤ length file)
+    within =
+        by-parts (λ file. (placeOf i file .size ≡ n) × (placeOf i file .at + n ≤ length file))
+        (λ is rest m p c.
+        let f = listed-there is i n p c l h in
+        let r = place-inside i 2 is (f .0) in
+        let w = r .within in
+        let k = length-append (written is) rest in
+        rw (file-fields is rest m) ((r .size ∙ sym (f .1), omega (arith, f .1))))
 
 -- ---- setting as stores of bytes at those places
 
--- the three fields stored where they are
-abbrev pub stamped : ℕ → ℕ → ℕ → List ℕ → List ℕ
-stamped n t at file = sets (sets (sets file 5 (four n)) 43 (four t)) at (four t)
-
-stamped-rows : (n t : ℕ) (file : List ℕ)
-    → Bytes file
-    → checkItems file ≡ 0
-    → storedRows (serverSet n t) file file ≡ stamped n t (placeOf 18 file .at) file
-unfolding storedRows
-stamped-rows n t file v e =
-    ap₂ (λ (p q : Place). sets (sets (sets file (p .at) (four n)) (q .at) (four t)) (placeOf 18 file .at) (four t)) (place-number file v e) (place-modified file v e)
-
--- what a file with its three fields stored is
+-- what a file with its rows stored is
 pub record Stamped (n t : ℕ) (file now : List ℕ) : Type 0 where
   pub check : checkItems now ≡ 0
+  pub rows : withFields (serverSet n t) file ≡ now
   pub set : fieldsSet n t file ≡ sets now 63 (two (headerSum now))
 
 stamped-written : (n t : ℕ) (is : List Field) (rest : List ℕ) (m : Named is) (p : proper is ≡ true) (c : complete is ≡ true)
@@ -582,14 +687,82 @@ stamped-written n t is rest m p c v =
     subst (λ (now : List ℕ). Stamped n t (fileOf is rest) now) (sym g ∙ s)
     (record {
       check = alike-check (given n t is rest m p c) is rest m a ∙ passes n t is rest m p c;
+      rows = g;
       set = sum-stored n t is rest m p c ∙ ap (λ (q : Place). sets (fileOf (given n t is rest m p c) rest) (q .at) (two (headerSum (fileOf (given n t is rest m p c) rest)))) w;
     })
 
--- THE LAW for a setter in pieces: number at 5, time at 43 and at upload_time's place, then the sum of that at 63
-pub set-stored : (n t : ℕ) (file : List ℕ) → Bytes file → checkItems file ≡ 0 → Stamped n t file (stamped n t (placeOf 18 file .at) file)
+-- THE LAW for a setter in pieces: the rows at the places that the file as it was gives them, then the sum of that at 63
+pub set-stored : (n t : ℕ) (file : List ℕ) → Bytes file → checkItems file ≡ 0 → Stamped n t file (storedRows (serverSet n t) file file)
 set-stored n t file v e =
-    subst (λ (now : List ℕ). Stamped n t file now) (stamped-rows n t file v e)
-    (by-parts (λ l. Bytes l → Stamped n t l (storedRows (serverSet n t) l l)) (λ is rest m p c. stamped-written n t is rest m p c) file v e v)
+    by-parts (λ l. Bytes l → Stamped n t l (storedRows (serverSet n t) l l)) (λ is rest m p c. stamped-written n t is rest m p c) file v e v
+
+-- one row more, as the code stores it
+pub record Next (n t upload k : ℕ) (file : List ℕ) : Type 0 where
+  pub size : rowAt upload k (serverSet n t) .size ≤ length (rowAt upload k (serverSet n t) .bytes)
+  pub inside : rowAt upload k (serverSet n t) .at + length (take (rowAt upload k (serverSet n t) .size) (rowAt upload k (serverSet n t) .bytes)) ≤ length file
+  pub stored : storedAt (storedRows (take k (serverSet n t)) file file) (rowAt upload k (serverSet n t) .at)
+      (take (rowAt upload k (serverSet n t) .size) (rowAt upload k (serverSet n t) .bytes))
+      ≡ storedRows (take (suc k) (serverSet n t)) file file
+
+record NextIn (rows : List Field) (upload k : ℕ) (file now : List ℕ) : Type 0 where
+  size : rowAt upload k rows .size ≤ length (rowAt upload k rows .bytes)
+  inside : rowAt upload k rows .at + length (take (rowAt upload k rows .size) (rowAt upload k rows .bytes)) ≤ length file
+  stored : storedAt (storedRows (take k rows) file now) (rowAt upload k rows .at) (take (rowAt upload k rows .size) (rowAt upload k rows .bytes))
+      ≡ storedRows (take (suc k) rows) file now
+
+next-in : (rows : List Field) (k : ℕ) (file now : List ℕ) → settable rows ≡ true → k < length rows → Bytes file → checkItems file ≡ 0
+    → length now ≡ length file
+    → NextIn rows (placeOf 18 file .at) k file now
+unfolding rowAt storedRows
+next-in [] k file now s h v e l = absurd (omega arith)
+next-in (row ∷ rows) zero file now s h v e l =
+    let q = can row rows s .fit in
+    let g = standing (row .id) (length (row .bytes)) (q .listed-size) (q .some) file v e in
+    let b : take (length (row .bytes)) (row .bytes ++ replicate (8 - length (row .bytes)) 0) ≡ row .bytes =
+    take-append-seam (row .bytes) (replicate (8 - length (row .bytes)) 0) in
+    let i = g .inside in
+    record {
+      size = rw length-append (omega arith);
+      inside = rw (b, ← g .place) i;
+      stored = rw (b, ← g .place) (stored-at now (placeOf (row .id) file .at) (row .bytes) (omega arith));
+    }
+next-in (row ∷ rows) (suc k) file now s h v e l =
+    let r = next-in rows k file (sets now (placeOf (row .id) file .at) (row .bytes)) (can row rows s .rest) (omega arith) v e
+    (length-sets now (placeOf (row .id) file .at) (row .bytes) ∙ l) in
+    record { size = r .size; inside = r .inside; stored = r .stored }
+
+-- THE LAW of a row: what the code stores for row k, in a file with the rows before it, makes the file with row k too
+pub next-row : (n t upload k : ℕ) (file : List ℕ) → Settable file upload → Bytes file → k < 4 → Next n t upload k file
+next-row n t upload k file w v h =
+    let r = next-in (serverSet n t) k file file (server-rows n t) h v (w .items) refl in
+    subst (λ (u : ℕ). Next n t u k file) (sym (w .place)) (record { size = r .size; inside = r .inside; stored = r .stored })
+
+module _ (n t upload : ℕ) (file : List ℕ) (w : Settable file upload) (v : Bytes file) (k : ℕ) where
+  pub row-size : (row : FieldRow) → row ≡ rowAt upload k (serverSet n t) → k < 4 → row .size ≤ length (row .bytes)
+  row-size row e h = subst (λ (x : FieldRow). x .size ≤ length (x .bytes)) (sym e) (next-row n t upload k file w v h .size)
+
+  pub rows-step : (row : FieldRow) (now then : List ℕ)
+      → row ≡ rowAt upload k (serverSet n t)
+      → now ≡ storedRows (take k (serverSet n t)) file file
+      → then ≡ storedAt now (row .at) (take (row .size) (row .bytes))
+      → k < 4
+      → then ≡ storedRows (take (k + 1) (serverSet n t)) file file
+  rows-step row now then e o r h =
+      r
+      ∙ ap₂ (λ (x : FieldRow) (l : List ℕ). storedAt l (x .at) (take (x .size) (x .bytes))) e o
+      ∙ next-row n t upload k file w v h .stored
+      ∙ ap (λ (j : ℕ). storedRows (take j (serverSet n t)) file file) (let z : suc k ≡ k + 1 = omega arith in z)
+
+  pub rows-done : (now : List ℕ) → now ≡ storedRows (take k (serverSet n t)) file file → k ≡ 4 → now ≡ withFields (serverSet n t) file
+  rows-done now o z =
+      o ∙ ap (λ (j : ℕ). storedRows (take j (serverSet n t)) file file) z ∙ sym (set-stored n t file v (w .items) .rows)
+
+-- past the last row
+pub no-row : (upload k : ℕ) (rows : List Field) → length rows ≤ k → rowAt upload k rows ≡ rowOf 0 []
+unfolding rowAt
+no-row upload k [] h = refl
+no-row upload zero (row ∷ rows) h = absurd (omega arith)
+no-row upload (suc k) (row ∷ rows) h = no-row upload k rows (omega arith)
 
 -- ---- the header read, by its parts
 
@@ -611,45 +784,34 @@ pub header-passed : (w : ℕ) (file : List ℕ)
 unfolding headerOf
 header-passed w file e = rw e
 
--- THE LAW of the steps: what a setter does that reads the header, stores three fields, reads it again and stores the sum
-pub set-steps : (n t w : ℕ) (f₀ f₁ f₂ f₃ f₄ : List ℕ) (h k : Header)
-    → Bytes f₀
-    → h ≡ headerOf 18 f₀
-    → h .refusal ≡ 0
-    → f₁ ≡ storedAt f₀ 5 (four n)
-    → f₂ ≡ storedAt f₁ 43 (four t)
-    → f₃ ≡ storedAt f₂ (h .place .at) (four t)
-    → k ≡ headerOf w f₃
-    → f₄ ≡ storedAt f₃ 63 (two (k .sum))
-    → (0 ≡ checkItems f₀) × (f₄ ≡ fieldsSet n t f₀)
-set-steps n t w f₀ f₁ f₂ f₃ f₄ h k v a z e₁ e₂ e₃ b e₄ =
-    let e : checkItems f₀ ≡ 0 = sym (header-refusal 18 f₀) ∙ ap (λ (x : Header). x .refusal) (sym a) ∙ z in
-    let p : h .place ≡ placeOf 18 f₀ = ap (λ (x : Header). x .place) (a ∙ header-passed 18 f₀ e) in
-    let u = place-upload f₀ v e in
-    let u₁ = u .behind in
-    let u₂ = u .within in
-    let u₃ = u .inside in
-    let at : ℕ = placeOf 18 f₀ .at in
-    let g₁ : f₁ ≡ sets f₀ 5 (four n) = e₁ ∙ stored-at f₀ 5 (four n) (omega arith) in
-    let l₁ : length f₁ ≡ length f₀ = ap length g₁ ∙ length-sets f₀ 5 (four n) in
-    let g₂ : f₂ ≡ sets f₁ 43 (four t) = e₂ ∙ stored-at f₁ 43 (four t) (omega arith) in
-    let l₂ : length f₂ ≡ length f₁ = ap length g₂ ∙ length-sets f₁ 43 (four t) in
-    let g₃ : f₃ ≡ sets f₂ (placeOf 18 f₀ .at) (four t) =
-    e₃ ∙ ap (λ (x : Place). storedAt f₂ (x .at) (four t)) p ∙ stored-at f₂ (placeOf 18 f₀ .at) (four t) (omega arith) in
-    let l₃ : length f₃ ≡ length f₂ = ap length g₃ ∙ length-sets f₂ (placeOf 18 f₀ .at) (four t) in
-    let s : f₃ ≡ stamped n t (placeOf 18 f₀ .at) f₀ =
-    g₃ ∙ ap (λ (l : List ℕ). sets l (placeOf 18 f₀ .at) (four t)) (g₂ ∙ ap (λ (l : List ℕ). sets l 43 (four t)) g₁) in
-    (sym e, last f₃ f₄ k (subst (λ (l : List ℕ). Stamped n t f₀ l) (sym s) (set-stored n t f₀ v e)) b e₄ (omega arith))
-  where
-    last : (f₃ f₄ : List ℕ) (k : Header)
-        → Stamped n t f₀ f₃
-        → k ≡ headerOf w f₃
-        → f₄ ≡ storedAt f₃ 63 (two (k .sum))
-        → 65 ≤ length f₃
-        → f₄ ≡ fieldsSet n t f₀
-    last f₃ f₄ k q b e₄ l =
-        let m : k .sum ≡ headerSum f₃ = ap (λ (x : Header). x .sum) (b ∙ header-passed w f₃ (q .check)) in
-        e₄ ∙ stored-at f₃ 63 (two (k .sum)) (omega arith) ∙ ap (λ (x : ℕ). sets f₃ 63 (two x)) m ∙ sym (q .set)
+-- a header read that is not refused, and names where upload_time is
+pub settable-of : (file : List ℕ) (h : Header) → h ≡ headerOf 18 file → h .refusal ≡ 0 → Settable file (h .place .at)
+settable-of file h a z =
+    let e : checkItems file ≡ 0 = sym (header-refusal 18 file) ∙ ap (λ (x : Header). x .refusal) (sym a) ∙ z in
+    record { items = e; place = ap (λ (x : Header). x .place .at) (a ∙ header-passed 18 file e) }
+
+-- header_checksum lies inside the file
+pub sum-inside : (file : List ℕ) → Bytes file → checkItems file ≡ 0 → 65 ≤ length file
+sum-inside file v e =
+    let s = standing 10 2 (unfold listed in unfold lengthIn in refl) (omega arith) file v e .inside in
+    let p = ap (λ (x : Place). x .at) (place-sum file v e) in
+    omega arith
+
+-- THE LAW of the sum: what a setter does that has stored the rows, reads the header and stores its sum
+pub sum-step : (n t w : ℕ) (file f₁ f₂ : List ℕ) (k : Header)
+    → Bytes file
+    → checkItems file ≡ 0
+    → f₁ ≡ withFields (serverSet n t) file
+    → k ≡ headerOf w f₁
+    → f₂ ≡ storedAt f₁ 63 (two (k .sum))
+    → f₂ ≡ fieldsSet n t file
+sum-step n t w file f₁ f₂ k v e r b d =
+    let u = set-stored n t file v e in
+    let q = subst (λ (l : List ℕ). Stamped n t file l) (sym (r ∙ u .rows)) u in
+    let m : k .sum ≡ headerSum f₁ = ap (λ (x : Header). x .sum) (b ∙ header-passed w f₁ (q .check)) in
+    let s = sum-inside file v e in
+    let l = ap length r ∙ with-length (serverSet n t) file in
+    d ∙ stored-at f₁ 63 (two (k .sum)) (omega arith) ∙ ap (λ (x : ℕ). sets f₁ 63 (two x)) m ∙ sym (q .set)
 
 -- ---- which bytes change
 
@@ -668,24 +830,39 @@ sets-above (v ∷ vs) l i k h = sets-above vs (set l i v) (suc i) k (omega arith
 sets-apart : (vs l : List ℕ) (i k : ℕ) → Apart k i (length vs) → getD (sets l i vs) k 0 ≡ getD l k 0
 sets-apart vs l i k a = ⊎-elim (λ h. sets-below vs l i k h) (λ h. sets-above vs l i k h) a
 
--- only the bytes of the four fields
+-- byte k is none of an item's data
+abbrev pub Outside : ℕ → Place → Type 0
+Outside k p = (k < p .at) ⊎ (p .at + p .size ≤ k)
+
+-- nor of any row's
+abbrev pub OutsideRows : ℕ → List ℕ → List Field → Type 0
+OutsideRows k file [] = Unit {0}
+OutsideRows k file (row ∷ rows) = Outside k (placeOf (row .id) file) × OutsideRows k file rows
+
+rows-kept : (rows : List Field) (file now : List ℕ) (k : ℕ) → settable rows ≡ true → Bytes file → checkItems file ≡ 0 → OutsideRows k file rows
+    → getD (storedRows rows file now) k 0 ≡ getD now k 0
+unfolding storedRows
+rows-kept [] file now k s v e o = refl
+rows-kept (row ∷ rows) file now k s v e o =
+    let q = can row rows s in
+    let z = standing (row .id) (length (row .bytes)) (q .fit .listed-size) (q .fit .some) file v e .size in
+    rows-kept rows file (sets now (placeOf (row .id) file .at) (row .bytes)) k (q .rest) v e (o .1)
+    ∙ sets-apart (row .bytes) now (placeOf (row .id) file .at) k
+    (subst (λ (m : ℕ). (k < placeOf (row .id) file .at) ⊎ (placeOf (row .id) file .at + m ≤ k)) z (o .0))
+
+-- only the bytes of the rows and of header_checksum
 pub set-kept : (n t : ℕ) (file : List ℕ)
     → Bytes file
     → checkItems file ≡ 0
     → (k : ℕ)
-    → Apart k 5 4
-    → Apart k 43 4
-    → Apart k 63 2
-    → Apart k (placeOf 18 file .at) 4
+    → OutsideRows k file (serverSet n t)
+    → Outside k (placeOf 10 file)
     → getD (fieldsSet n t file) k 0 ≡ getD file k 0
-set-kept n t file v e k a b c d =
-    let at : ℕ = placeOf 18 file .at in
-    let now : List ℕ = stamped n t (placeOf 18 file .at) file in
+set-kept n t file v e k a b =
+    let now : List ℕ = storedRows (serverSet n t) file file in
     ap (λ (l : List ℕ). getD l k 0) (set-stored n t file v e .set)
-    ∙ sets-apart (two (headerSum now)) now 63 k c
-    ∙ sets-apart (four t) (sets (sets file 5 (four n)) 43 (four t)) (placeOf 18 file .at) k d
-    ∙ sets-apart (four t) (sets file 5 (four n)) 43 k b
-    ∙ sets-apart (four n) file 5 k a
+    ∙ sets-apart (two (headerSum now)) now 63 k (subst (Outside k) (place-sum file v e) b)
+    ∙ rows-kept (serverSet n t) file file k (server-rows n t) v e a
 
 -- ---- bytes stay bytes
 
@@ -698,24 +875,36 @@ pub bytes-sets : (vs l : List ℕ) (i : ℕ) → Bytes l → Bytes vs → Bytes 
 bytes-sets [] l i v w = v
 bytes-sets (x ∷ xs) l i v w = bytes-sets xs (set l i x) (suc i) (bytes-set l i x v (w .0)) (w .1)
 
+abbrev AllBytes : List Field → Type 0
+AllBytes [] = Unit {0}
+AllBytes (row ∷ rows) = Bytes (row .bytes) × AllBytes rows
+
+bytes-rows : (rows : List Field) (file now : List ℕ) → AllBytes rows → Bytes now → Bytes (storedRows rows file now)
+unfolding storedRows
+bytes-rows [] file now w v = v
+bytes-rows (row ∷ rows) file now w v =
+    bytes-rows rows file (sets now (placeOf (row .id) file .at) (row .bytes)) (w .1) (bytes-sets (row .bytes) now (placeOf (row .id) file .at) v (w .0))
+
+bytes-four : (n : ℕ) → Bytes (four n)
+bytes-four n = (omega arith, (omega arith, (omega arith, (omega arith, tt))))
+
+bytes-two : (n : ℕ) → Bytes (two n)
+bytes-two n = (omega arith, (omega arith, tt))
+
+bytes-eight : (n : ℕ) → Bytes (eight n)
+bytes-eight n = (digit-byte _, (digit-byte _, (digit-byte _, (digit-byte _, (digit-byte _, (digit-byte _, (digit-byte _, (digit-byte _, tt))))))))
+
+server-bytes : (n t : ℕ) → AllBytes (serverSet n t)
+server-bytes n t = (bytes-four n, (bytes-eight t, (bytes-four t, (bytes-four t, tt))))
+
 pub set-bytes : (n t : ℕ) (file : List ℕ) → Bytes file → Bytes (fieldsSet n t file)
 set-bytes n t file v = go (eqb (checkItems file) 0) refl
   where
-    bytes-four : (n : ℕ) → Bytes (four n)
-    bytes-four n = (omega arith, (omega arith, (omega arith, (omega arith, tt))))
-
-    bytes-two : (n : ℕ) → Bytes (two n)
-    bytes-two n = (omega arith, (omega arith, tt))
-
     go : (b : Bool) → eqb (checkItems file) 0 ≡ b → Bytes (fieldsSet n t file)
     go true e =
-        let now : List ℕ = stamped n t (placeOf 18 file .at) file in
+        let now : List ℕ = storedRows (serverSet n t) file file in
         rw (set-stored n t file v (eqb-true (checkItems file) 0 e) .set)
-        (bytes-sets (two (headerSum now)) now 63
-        (bytes-sets (four t) (sets (sets file 5 (four n)) 43 (four t)) (placeOf 18 file .at)
-        (bytes-sets (four t) (sets file 5 (four n)) 43 (bytes-sets (four n) file 5 v (bytes-four n)) (bytes-four t))
-        (bytes-four t))
-        (bytes-two (headerSum now)))
+        (bytes-sets (two (headerSum now)) now 63 (bytes-rows (serverSet n t) file file (server-bytes n t) v) (bytes-two (headerSum now)))
     go false e = rw (set-refused n t file (eqb-false (checkItems file) 0 e)) v
 
 -- ---- the data at a place

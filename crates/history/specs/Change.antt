@@ -53,7 +53,7 @@ pub record Receives (last : Last) (before : Files) (last′ : Last) (after : Fil
   pub others : Others before after place
   pub given : last′ ≡ last
 
--- a partial file that passes the checks of DATA_END: "On success the server sets four fields"; its upload time is above the last one given
+-- a partial file that passes the checks of DATA_END: "On success the server sets" its fields, five with file_name; its upload time is above the last one given
 pub record Completes (last : Last) (before : Files) (last′ : Last) (after : Files) : Type 0 where
   pub place : ℕ
   pub time : ℕ

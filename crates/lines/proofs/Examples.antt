@@ -7,7 +7,8 @@ use lib.ListN.{replicate}
 use Rattle.packet.specs.Names.{bytesOf, nameOf, names}
 use Rattle.lines.specs.declared.commands.Command.{Command}
 use Rattle.lines.specs.declared.commands.Command.the-variants.{Unreadable, Time, Open, Drop, Rx}
-use Rattle.lines.specs.Text.{digitsWithin, decimalOf, hexDigit, hexOf}
+use Rattle.numbers.specs.Hex.{hexDigit}
+use Rattle.lines.specs.Text.{digitsWithin, decimalOf, hexOf}
 use Rattle.lines.specs.Lines.{sentLine, packetLine, closedLine, refusedLine, errorLine, blocksLine, printed, printedIn}
 use Rattle.lines.specs.Numerals.{digit, digits, valueFrom, decimalBy, decimalAt, hexValue, isHex, bytesIn}
 use Rattle.lines.specs.Commands.{onto, fieldsOf, same, endsAt, numberIn, commandOfTwo, commandOfThree, commandOfFields}

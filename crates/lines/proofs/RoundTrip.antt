@@ -10,7 +10,9 @@ use lib.ListN.{length, getD}
 use Rattle.packet.specs.Names.{bytesOf}
 use Rattle.lines.specs.declared.commands.Number.the-variants as number
 use Rattle.lines.specs.declared.commands.Command.the-variants.{Rx}
-use Rattle.lines.specs.Text.{digitsWithin, decimalOf, hexDigit, hexOf}
+use Rattle.numbers.specs.Hex.{hexDigit}
+use Rattle.numbers.proofs.HexLaws.{digit-half}
+use Rattle.lines.specs.Text.{digitsWithin, decimalOf, hexOf}
 use Rattle.lines.specs.Numerals.{digit, digits, valueFrom, decimalBy, decimalAt, hexValue, isHex, bytesIn}
 use Rattle.lines.specs.Commands.{onto, fieldsOf, same, endsAt, numberIn, commandOfThree, commandOfFields, commandOf, rxBytes}
 use Rattle.lines.specs.Reading.{field}
@@ -21,8 +23,8 @@ use Rattle.lines.proofs.FieldLaws.{last-field, tab-no-hex}
 -- ---- hex
 
 pub hex-digit-back : (n : ℕ) → n < 16 → hexValue (hexDigit n) ≡ n
-unfolding hexValue hexDigit
-hex-digit-back n h = go (ltb n 10) refl
+unfolding hexValue
+hex-digit-back n h = rw (digit-half n h) (go (ltb n 10) refl)
   where
     go : (t : Bool) → ltb n 10 ≡ t → hexValue (cond t (48 + n) (87 + n)) ≡ n
     go true e =

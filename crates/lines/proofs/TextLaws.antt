@@ -9,7 +9,8 @@ use lib.Dec.{ltb}
 use lib.ListN.{length, drop, getD, length-append}
 use lib.Seq.{drop-cons}
 use native.Mathlib.Nat.{pow-succ'}
-use Rattle.lines.specs.Text.{digitsWithin, decimalOf, hexDigit, hexOf}
+use Rattle.numbers.specs.Hex.{hexDigit}
+use Rattle.lines.specs.Text.{digitsWithin, decimalOf, hexOf}
 
 -- ---- decimal
 

@@ -7,7 +7,8 @@ use native.Mathlib.Numerals.{add-one}
 use borrow.Author.Tests.{le-leb, lt-leb}
 use lib.ListN.{length, set, drop, getD, drop-of-length-le}
 use lib.Seq.{sets, sets-eq, set-comm}
-use Rattle.lines.specs.Text.{decimalOf, hexDigit, hexOf}
+use Rattle.numbers.specs.Hex.{hexDigit}
+use Rattle.lines.specs.Text.{decimalOf, hexOf}
 use Rattle.lines.proofs.TextLaws.{one-digit, digits-one, more-digits, digits-more, hex-next}
 use Rattle.lines.specs.Lines.{printed, printedIn}
 

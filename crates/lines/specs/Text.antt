@@ -1,8 +1,9 @@
 -- Numbers and bytes as text (document 01, "The script program": "a decimal clock", "Hex is lower-case, read or printed"). Assumes nothing.
-use mathlib.Core.Bool.{true, false, cond}
+use mathlib.Core.Bool.{true, false}
 use mathlib.Core.List.{List, [], _∷_, _++_}
 use Prim.Native.Nat.{ℕ, zero, suc, _+_, _/_, _%_}
 use lib.Dec.{ltb}
+use Rattle.numbers.specs.Hex.{hexDigit}
 
 -- the decimal digits of n in ASCII, in which "0" is 48; n has at most `most` digits more than one
 unfoldable pub digitsWithin : ℕ → ℕ → List ℕ
@@ -13,10 +14,6 @@ digitsWithin (suc most) n = elim (ltb n 10) [ true ↦ (48 + n) ∷ [] | false �
 -- the first digit.
 unfoldable pub decimalOf : ℕ → List ℕ
 decimalOf n = digitsWithin n n
-
--- a digit of a hex number in ASCII, in which "a" is 97
-unfoldable pub hexDigit : ℕ → ℕ
-hexDigit n = cond (ltb n 10) (48 + n) (87 + n)
 
 -- two digits a byte, the high one first
 unfoldable pub hexOf : List ℕ → List ℕ

@@ -2,7 +2,7 @@
 use crate::write::put_decimal;
 use crate::write::put_hex;
 use crate::write::width;
-use packet::bytes::store;
+use numbers::store;
 use packet::names::name_of;
 ghost use mathlib.Core.Path.{_≡_};
 ghost use Prim.Native.Nat.{_≤_};

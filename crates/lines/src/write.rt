@@ -1,9 +1,10 @@
 // Pieces of a line written at a place of the text: decimal numbers, hex bytes.
+use numbers::hex_digit;
 ghost use mathlib.Core.Path.{_≡_};
-ghost use Prim.Native.Nat.{_+_, _*_, _≤_, _<_};
+ghost use Prim.Native.Nat.{_+_, _*_, _≤_};
 ghost use lib.ListN.{length};
 ghost use lib.Seq.{sets};
-ghost use Rattle.lines.specs.Text.{decimalOf, hexDigit, hexOf};
+ghost use Rattle.lines.specs.Text.{decimalOf, hexOf};
 
 // How many decimal digits a number has.
 pub fn width(n: usize) -> usize
@@ -32,14 +33,6 @@ pub(crate) fn put_decimal(text: &mut [u8], at: usize, digits: usize, n: usize)
         i -= 1;
     }
     text[i] = 48 + rest as u8;
-}
-
-// A digit of a hex number.
-pub(crate) fn hex_digit(n: u8) -> u8
-    requires { ⌜ n < 16 ⌝ }
-    ensures { λ r. ⌜ r ≡ hexDigit n ⌝ }
-{
-    if n < 10 { 48 + n } else { 87 + n }
 }
 
 // Writes bytes in hex from byte `at` on.

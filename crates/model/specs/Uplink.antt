@@ -78,7 +78,7 @@ onData ignoring m i info = turn reply.Nothing m
 abbrev pub timeAt : ℕ → ℕ → ℕ
 timeAt clock last = cond (ltb clock (last + 1)) (last + 1) clock
 
--- "On success the server sets four fields: file_number, upload_time, last_modified_time .. and header_checksum" (`fieldsSet`).
+-- "On success the server sets .. file_number, upload_time, last_modified_time .. and header_checksum", and with them file_name (`fieldsSet`).
 abbrev pub completed : ℕ → File → File
 completed time f = file (f .number) (f .size) (fieldsSet (f .number) time (f .bytes)) time
 

@@ -1,1 +1,3 @@
 pub mod NumberLaws
+pub mod HexLaws
+pub mod Examples

@@ -1,5 +1,5 @@
 // The framing of one link. The bytes of an unfinished packet stay in a part of 258 bytes that the caller keeps for the link.
-use crate::bytes::store;
+use numbers::store;
 ghost use mathlib.Core.Path.{_≡_};
 ghost use Prim.Native.Nat.{_+_, _<_, _≤_};
 ghost use lib.ListN.{length, take, drop, replicate};

@@ -1,5 +1,5 @@
 // The plain pair: any packet of types 0 to 17 with up to 2,047 information bytes, written to and read from a slice.
-use crate::bytes::store;
+use numbers::store;
 ghost use mathlib.Core.Path.{_≡_};
 ghost use Rattle.packet.specs.Packet.{writeAnswer, leftIn, readAnswer};
 

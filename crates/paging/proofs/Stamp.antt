@@ -10,12 +10,13 @@ use lib.Seq.{sets, length-take-le, take-at, drop-at}
 use borrow.Author.Tests.{eqb-true, eqb-false, leb-true, le-leb}
 use Rattle.numbers.specs.Numbers.{two, four}
 use Rattle.header.specs.Items.{Field, Walk, headOf, walk, marked, fieldsOf}
-use Rattle.header.specs.Header.{listed, countIf, times, bytesOf, lengthIn, listedLength, proper, complete, headerSum, checkItems, placeFrom, placeOf}
-use Rattle.header.specs.Fields.{withFields, withSum, fieldsSet}
+use Rattle.header.specs.Header.{countIf, times, bytesOf, proper, complete, headerSum, checkItems, placeFrom, placeOf}
+use Rattle.header.specs.Fields.{serverSet, withFields, withSum, fieldsSet}
 use Rattle.header.proofs.Walk.{walk-broken, walk-end, walk-item}
-use Rattle.header.proofs.Order.{times-hit, times-miss, complete-parts, proper-parts, length-of}
+use Rattle.header.proofs.Order.{times-hit, times-miss, complete-parts}
 use Rattle.header.proofs.Verdict.{passed-both}
-use Rattle.header.proofs.Replace.{withBytes, Alike, alike-count, alike-bytes, alike-with, with-same, with-other, sets-mid}
+use Rattle.header.proofs.Replace.{withBytes, Alike, alike-count, alike-with, with-other, sets-mid}
+use Rattle.header.proofs.Set.{AllFit, alike-fit, alike-fits, itemsWith, alike-rows, rows-data, rows-distinct, rows-fit-in, server-rows, sum-there}
 use Rattle.equation.specs.Holds as holds
 
 -- ---- one item's data replaced
@@ -144,39 +145,15 @@ put (suc k) i at new pre bs s l h e = on (front i bs h) (put k)
             ∙ times-miss i _ _ (eqb-false (f .a + 256 * f .b) i t) in omega arith)
             (e ∙ ap (λ (is : List Field). length (bytesOf i is)) items ∙ unfold bytesOf in rw t))
 
--- ---- the four fields
+-- ---- the fields set
 
--- there is one item of an id, with data of this length
-abbrev Has : List Field → ℕ → ℕ → Type 0
-Has is i n = (times i is ≡ 1) × (length (bytesOf i is) ≡ n)
-
--- the items that the server sets
-record Settable (is : List Field) : Type 0 where
-  number : Has is 1 4
-  modified : Has is 6 4
-  upload : Has is 18 4
-  sum : Has is 10 2
-
-alike-has : (is js : List Field) → Alike is js → (i n : ℕ) → Has js i n → Has is i n
-alike-has is js a i n h = (alike-count (λ k. eqb k i) is js a ∙ h .0, alike-bytes i is js a ∙ h .1)
-
-alike-settable : (is js : List Field) → Alike is js → Settable js → Settable is
-alike-settable is js a s =
-    record {
-      number = alike-has is js a 1 4 (s .number);
-      modified = alike-has is js a 6 4 (s .modified);
-      upload = alike-has is js a 18 4 (s .upload);
-      sum = alike-has is js a 10 2 (s .sum);
-    }
-
--- a file with these items, which the server can set
+-- a file with these items
 record Holds (file : List ℕ) (is : List Field) : Type 0 where
   mark : marked file ≡ true
   fields : fieldsOf file ≡ is
-  settable : Settable is
 
 -- one of them is set
-set-one : (file : List ℕ) (is : List Field) (i : ℕ) (new : List ℕ) → Holds file is → Has is i (length new)
+set-one : (file : List ℕ) (is : List Field) (i : ℕ) (new : List ℕ) → Holds file is → (1 ≤ times i is) × (length new ≡ length (bytesOf i is))
     → Holds (sets file (placeOf i file .at) new) (withBytes i new is)
 unfolding marked fieldsOf
 set-one [] is i new h p = absurd (let z : _≡_ {A = ℕ} 0 1 = cc (h .mark) in omega arith)
@@ -187,10 +164,10 @@ set-one (a ∷ b ∷ bs) is i new h p = go (put (suc (length bs)) i 2 new (a ∷
     items = sym (ap (λ (t : Bool). cond t (walk 0 bs .items) []) (h .mark)) ∙ h .fields
 
     there : 1 ≤ times i (walk 0 bs .items)
-    there = let z = ap (times i) items ∙ p .0 in omega arith
+    there = let z = ap (times i) items in let y = p .0 in omega arith
 
     long : length new ≡ length (bytesOf i (walk 0 bs .items))
-    long = rw items (sym (p .1))
+    long = rw items (p .1)
 
     go : Put i 2 new (a ∷ b ∷ []) bs → Holds (sets (a ∷ b ∷ bs) (placeOf i (a ∷ b ∷ bs) .at) new) (withBytes i new is)
     go q =
@@ -200,35 +177,33 @@ set-one (a ∷ b ∷ bs) is i new h p = go (put (suc (length bs)) i 2 new (a ∷
         (record {
           mark = h .mark;
           fields = ap (λ (t : Bool). cond t (walk 0 (q .rest) .items) []) (h .mark) ∙ q .items ∙ ap (withBytes i new) items;
-          settable = alike-settable (withBytes i new is) is (alike-with i new is (sym (p .1))) (h .settable);
         })
 
--- a listed item is there, with the listed length
-listed-there : (is : List Field) (i k : ℕ) → proper is ≡ true → listedLength i ≡ suc k → times i is ≡ 1 → Has is i (suc k)
-listed-there is i k p l e =
-    (e, length-of i k is l (proper-parts is p .fit) (omega arith))
+-- one row after the other
+set-rows : (rows is : List Field) (file : List ℕ) → Holds file is → AllFit is rows → Holds (withFields rows file) (itemsWith rows is)
+unfolding withFields itemsWith
+set-rows [] is file h f = h
+set-rows (row ∷ rows) is file h f =
+    let js : List Field = withBytes (row .id) (row .bytes) is in
+    set-rows rows js (sets file (placeOf (row .id) file .at) (row .bytes)) (set-one file is (row .id) (row .bytes) h (f .0))
+    (alike-fit js is rows (alike-with (row .id) (row .bytes) is (f .0 .1)) (f .1))
 
-settable-items : (is : List Field) → proper is ≡ true → complete is ≡ true → Settable is
-unfolding listed lengthIn
-settable-items is p c =
-    let q = complete-parts is p c in
-    record {
-      number = listed-there is 1 3 p refl (q .low 1 (omega arith) (omega arith));
-      modified = listed-there is 6 3 p refl (q .low 6 (omega arith) (omega arith));
-      upload = listed-there is 18 3 p refl (q .upload);
-      sum = listed-there is 10 1 p refl (q .low 10 (omega arith) (omega arith));
-    }
+-- a file whose items are not refused
+record Passed (file : List ℕ) : Type 0 where
+  holds : Holds file (fieldsOf file)
+  proper : proper (fieldsOf file) ≡ true
+  complete : complete (fieldsOf file) ≡ true
 
-accepted-holds : (file : List ℕ) → checkItems file ≡ 0 → Holds file (fieldsOf file)
+passed : (file : List ℕ) → checkItems file ≡ 0 → Passed file
 unfolding checkItems
-accepted-holds file e = go (marked file) refl (walk 0 (drop 2 file) .whole) e
+passed file e = go (marked file) refl (walk 0 (drop 2 file) .whole) e
   where
     go : (m : Bool) → marked file ≡ m → (w : Bool)
         → _≡_ {A = ℕ} (cond m (cond w (cond (proper (fieldsOf file)) (cond (complete (fieldsOf file)) 0 6) 14) 14) 7) 0
-        → Holds file (fieldsOf file)
+        → Passed file
     go true m true e =
         let p = passed-both (fieldsOf file) 0 e refl in
-        record { mark = m; fields = refl; settable = settable-items (fieldsOf file) (p .0) (p .1) }
+        record { holds = record { mark = m; fields = refl }; proper = p .0; complete = p .1 }
     go true m false e = absurd (omega arith)
     go false m w e = absurd (omega arith)
 
@@ -253,44 +228,44 @@ one-of i (x ∷ xs) h = go (eqb (x .id) i) refl (one-of i xs)
     go false e ih = ih (sym (times-miss i x xs (eqb-false (x .id) i e)) ∙ h)
 
 module _ (n t : ℕ) (file : List ℕ) (e : checkItems file ≡ 0) where
-  abbrev first-set : List ℕ
-  first-set = sets file (placeOf 1 file .at) (four n)
+  abbrev rows : List Field
+  rows = serverSet n t
 
-  abbrev second-set : List ℕ
-  second-set = sets first-set (placeOf 6 first-set .at) (four t)
+  fit : AllFit (fieldsOf file) rows
+  fit = rows-fit-in rows (fieldsOf file) (server-rows n t) (passed file e .proper) (passed file e .complete)
 
-  abbrev third-set : List ℕ
-  third-set = sets second-set (placeOf 18 second-set .at) (four t)
+  -- the items with the rows, and with the sum too
+  abbrev given : List Field
+  given = itemsWith rows (fieldsOf file)
 
-  abbrev items-set : List Field
-  items-set = withBytes 18 (four t) (withBytes 6 (four t) (withBytes 1 (four n) (fieldsOf file)))
+  abbrev sum : List ℕ
+  sum = two (headerSum (withFields rows file))
 
-  third-holds : Holds third-set items-set
-  third-holds =
-      let h0 = accepted-holds file e in
-      let h1 = set-one file (fieldsOf file) 1 (four n) h0 (h0 .settable .number) in
-      let h2 = set-one first-set (withBytes 1 (four n) (fieldsOf file)) 6 (four t) h1 (h1 .settable .modified) in
-      set-one second-set (withBytes 6 (four t) (withBytes 1 (four n) (fieldsOf file))) 18 (four t) h2 (h2 .settable .upload)
+  abbrev final : List Field
+  final = withBytes 10 sum given
 
-  fields-set : fieldsSet n t file ≡ sets third-set (placeOf 10 third-set .at) (two (headerSum third-set))
-  unfolding fieldsSet withFields withSum
-  fields-set = rw e
+  given-alike : Alike given (fieldsOf file)
+  given-alike = alike-rows rows (fieldsOf file) fit
 
-  upload-there : Has (withBytes 6 (four t) (withBytes 1 (four n) (fieldsOf file))) 18 4
-  upload-there =
-      let h0 = accepted-holds file e in
-      let h1 = set-one file (fieldsOf file) 1 (four n) h0 (h0 .settable .number) in
-      let h2 = set-one first-set (withBytes 1 (four n) (fieldsOf file)) 6 (four t) h1 (h1 .settable .modified) in
-      h2 .settable .upload
+  sum-fit : (1 ≤ times 10 given) × (2 ≡ length (bytesOf 10 given))
+  sum-fit = alike-fits 10 2 given (fieldsOf file) given-alike (sum-there (fieldsOf file) (passed file e .proper) (passed file e .complete))
 
-  -- THE LAW: there is one upload_time, and it is read as it was set
+  final-holds : Holds (fieldsSet n t file) final
+  unfolding fieldsSet withSum
+  final-holds = rw e (set-one (withFields rows file) given 10 sum (set-rows rows (fieldsOf file) file (passed file e .holds) fit) sum-fit)
+
+  -- there is one upload_time
+  upload-once : times 18 final ≡ 1
+  upload-once =
+      alike-count (λ k. eqb k 18) final given (alike-with 10 sum given (sum-fit .1))
+      ∙ alike-count (λ k. eqb k 18) given (fieldsOf file) given-alike
+      ∙ complete-parts (fieldsOf file) (passed file e .proper) (passed file e .complete) .upload
+
+  -- THE LAW: it is read as it was set
   pub stamped : holds.bytesOf 18 (fieldsOf (fieldsSet n t file)) ≡ four t ∷ []
   stamped =
-      let h3 = third-holds in
-      let h4 = set-one third-set items-set 10 (two (headerSum third-set)) h3 (h3 .settable .sum) in
-      let final = withBytes 10 (two (headerSum third-set)) items-set in
-      ap (holds.bytesOf 18) (ap fieldsOf fields-set ∙ h4 .fields)
-      ∙ one-of 18 final (h4 .settable .upload .0)
+      ap (holds.bytesOf 18) (final-holds .fields)
+      ∙ one-of 18 final upload-once
       ∙ ap (λ (b : List ℕ). b ∷ [])
-      (with-other 10 18 (two (headerSum third-set)) items-set (λ z. omega arith)
-      ∙ with-same 18 (four t) (withBytes 6 (four t) (withBytes 1 (four n) (fieldsOf file))) (let k = upload-there .0 in omega arith))
+      (with-other 10 18 sum given (λ z. omega arith)
+      ∙ rows-data rows (fieldsOf file) fit (rows-distinct rows (server-rows n t)) .1 .1 .1 .0)

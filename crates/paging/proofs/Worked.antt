@@ -14,6 +14,7 @@ use Rattle.packet.specs.Frame.{packet}
 use Rattle.header.specs.Items.{headOf, after, walk, marked, fieldsOf}
 use Rattle.header.specs.Header.{listed, every, countIf, bytesOf, lengthIn, lengthFits, ordered, proper, complete, sumOf, checkItems, checkValues, verdict}
 use Rattle.header.specs.Header.{placeFrom}
+use Rattle.numbers.specs.Hex.{hexDigit}
 use Rattle.header.specs.Fields.{withFields, withSum, fieldsSet}
 use Rattle.equation.specs.Newer.{beforeMark, unmarkedPast, narrowed}
 use Rattle.equation.specs.Symbols.{starsIn, goodText, goodNumber, good, connectiveOf, relationAt, tokenOf, follow, symbolsPast}
@@ -74,7 +75,7 @@ pub met : Met
 unfolding
     uploaded third longest pieces rest reader smallest waitsFor piecesOnly isPiece handed pageIn newestOf pagedBy above number packetOf headOf after
     walk marked fieldsOf listed every countIf bytesOf lengthIn lengthFits ordered proper complete sumOf checkItems checkValues verdict placeFrom
-    withFields withSum fieldsSet beforeMark unmarkedPast starsIn goodText goodNumber good connectiveOf relationAt tokenOf follow symbolsPast width
+    withFields withSum fieldsSet hexDigit beforeMark unmarkedPast starsIn goodText goodNumber good connectiveOf relationAt tokenOf follow symbolsPast width
     compare textMeets numberMeets meets holds tree.pushed tree.joined tree.result tree.bind tree.run tree.parse tree.truth equation.said
     equation.answer equation.isYes equation.refusal equation.validityOf tell find changed without reserved uploading matching placed byTime uploadNew
     uploadContinued onUploadCmd dataTo onData dataEndTo onDataEnd onSelectCmd byType endsIn onEvent refusal unless step run

@@ -5,15 +5,16 @@ use grammar::Reason;
 use lines::numeral::Pairs;
 use lines::numeral::hex;
 use lines::write::width;
-use packet::bytes::store;
+use numbers::hex_digit;
+use numbers::store;
 use paper::to_bytes;
 ghost use mathlib.Core.Path.{_≡_};
-ghost use Prim.Native.Nat.{_+_, _*_, _≤_, _<_};
+ghost use Prim.Native.Nat.{_+_, _*_, _≤_};
 ghost use lib.Dec.{leb};
 ghost use lib.ListN.{length, take};
 ghost use lib.Seq.{sets};
 ghost use Rattle.lines.specs.Numerals.{bytesIn};
-ghost use Rattle.lines.specs.Text.{decimalOf, hexDigit, hexOf};
+ghost use Rattle.lines.specs.Text.{decimalOf, hexOf};
 ghost use Rattle.lines.specs.Lines.{printed, printedIn};
 ghost use Rattle.names.specs.Names.{beginsWith};
 ghost use Rattle.grammar.specs.Machine.{outcomeOf};
@@ -97,13 +98,6 @@ fn push(out: &mut [u8], n: usize, piece: &[u8]) -> usize
 {
     store(out, n, piece);
     n + piece.len()
-}
-
-fn hex_digit(n: u8) -> u8
-    requires { ⌜ n < 16 ⌝ }
-    ensures { λ r. ⌜ r ≡ hexDigit n ⌝ }
-{
-    if n < 10 { 48 + n } else { 87 + n }
 }
 
 fn push_hex(out: &mut [u8], n: usize, bytes: &[u8]) -> usize

@@ -2,20 +2,23 @@
 use mathlib.Core.Path.{_≡_, refl, sym, ap, _∙_, subst}
 use mathlib.Core.Bool.{true, false}
 use mathlib.Core.List.{List}
-use Prim.Native.Nat.{ℕ, _+_, _*_, _≤_, _<_}
+use Prim.Native.Nat.{ℕ, suc, _+_, _*_, _≤_, _<_}
 use native.Mathlib.Omega.{arith}
-use lib.ListN.{length}
+use lib.ListN.{length, take}
 use borrow.Author.Tests.{eq-eqb, ne-eqb, le-leb, lt-leb}
-use Rattle.numbers.specs.Numbers.{two, four, storedAt}
+use Rattle.numbers.specs.Numbers.{two, storedAt}
 use Rattle.blocks.specs.Owners.{blocks}
 use Rattle.blocks.specs.Contents.{stored}
 use Rattle.blocks.specs.Answers.{writeDisk}
 use Rattle.blocks.proofs.Answers.{disk-fits}
 use Rattle.header.specs.Header.{checkItems, headerOf}
-use Rattle.header.specs.Fields.{fieldsSet}
+use Rattle.header.specs.Items.{Field}
+use Rattle.header.specs.Fields.{serverSet, withFields, fieldsSet, rowAt}
+use Rattle.header.specs.Fields as header
+use Rattle.header.specs.declared.fields.FieldRow.{FieldRow}
 use Rattle.header.specs.declared.scan.Header.{Header}
 use Rattle.header.proofs.Written.{Bytes}
-use Rattle.header.proofs.Set.{set-length, set-steps, header-refusal, header-passed, place-upload}
+use Rattle.header.proofs.Set.{storedRows, with-length, set-length, next-row, row-size, rows-done, sum-inside, sum-step, header-refusal, header-passed}
 use Rattle.stored.specs.Answers.{fileAt, sizesFit, setNumber, setDisk}
 use Rattle.stored.specs.Settable.{Settable}
 use Rattle.stored.proofs.Feeding.{bytes-contents}
@@ -30,61 +33,78 @@ module _ (disk owner : List ℕ) (place received at : ℕ) (s : Settable disk ow
   size : length (fileAt disk owner place received) ≡ received
   size = file-length disk owner place received (s .sizes) bytes (s .room) disk refl
 
-  -- writing the three numbers and then the header's sum leaves the disk with the file stored anew
-  pub fields-written : (number time : ℕ) (d₁ d₂ d₃ d₄ : List ℕ) (k : Header)
-      → d₁ ≡ writeDisk disk owner place 5 (four number)
-      → d₂ ≡ writeDisk d₁ owner place 43 (four time)
-      → d₃ ≡ writeDisk d₂ owner place at (four time)
-      → k ≡ headerOf 10 (fileAt d₃ owner place received)
-      → d₄ ≡ writeDisk d₃ owner place 63 (two (k .sum))
-      → d₄ ≡ stored (place + 1) owner disk 0 (fieldsSet number time (fileAt disk owner place received))
-  fields-written number time d₁ d₂ d₃ d₄ k e₁ e₂ e₃ h e₄ =
-      let f₀ : List ℕ = fileAt disk owner place received in
-      let h₀ : Header = headerOf 18 (fileAt disk owner place received) in
-      let p : h₀ .place .at ≡ at = ap (λ (x : Header). x .place .at) (header-passed 18 (fileAt disk owner place received) (s .items)) ∙ sym (s .upload) in
-      let v = bytes-contents (place + 1) owner disk received b in
-      let u = place-upload (fileAt disk owner place received) v (s .items) in
-      let u₀ = s .upload in
-      let u₁ = u .behind in
-      let u₂ = u .within in
-      let u₃ = u .inside in
-      let l = size in
-      let c₁ = changed-write disk owner place received (s .sizes) bytes (s .room) disk f₀ 5 (four number) (changed-none disk owner (place + 1) received) (omega arith) in
-      let c₂ = changed-write disk owner place received (s .sizes) bytes (s .room) _ _ 43 (four time) c₁ (omega arith) in
-      let c₃ = changed-write disk owner place received (s .sizes) bytes (s .room) _ _ at (four time) c₂ (omega arith) in
-      joined number time d₁ d₂ d₃ d₄ k e₁ e₂ e₃ h e₄ p c₁ c₂ c₃ v (omega arith)
-    where
-      joined : (number time : ℕ) (d₁ d₂ d₃ d₄ : List ℕ) (k : Header)
-          → d₁ ≡ writeDisk disk owner place 5 (four number)
-          → d₂ ≡ writeDisk d₁ owner place 43 (four time)
-          → d₃ ≡ writeDisk d₂ owner place at (four time)
-          → k ≡ headerOf 10 (fileAt d₃ owner place received)
-          → d₄ ≡ writeDisk d₃ owner place 63 (two (k .sum))
-          → headerOf 18 (fileAt disk owner place received) .place .at ≡ at
-          → Changed disk owner (writeDisk disk owner place 5 (four number)) (place + 1) received (storedAt (fileAt disk owner place received) 5 (four number))
-          → Changed disk owner (writeDisk (writeDisk disk owner place 5 (four number)) owner place 43 (four time)) (place + 1) received
-          (storedAt (storedAt (fileAt disk owner place received) 5 (four number)) 43 (four time))
-          → Changed disk owner (writeDisk (writeDisk (writeDisk disk owner place 5 (four number)) owner place 43 (four time)) owner place at (four time)) (place + 1) received
-          (storedAt (storedAt (storedAt (fileAt disk owner place received) 5 (four number)) 43 (four time)) at (four time))
-          → Bytes (fileAt disk owner place received)
-          → 63 + 2 ≤ received
-          → d₄ ≡ stored (place + 1) owner disk 0 (fieldsSet number time (fileAt disk owner place received))
-      joined number time d₁ d₂ d₃ d₄ k e₁ e₂ e₃ h e₄ p c₁ c₂ c₃ v m =
-          let f₀ : List ℕ = fileAt disk owner place received in
-          let f₃ : List ℕ = storedAt (storedAt (storedAt (fileAt disk owner place received) 5 (four number)) 43 (four time)) at (four time) in
-          let q₃ : d₃ ≡ writeDisk (writeDisk (writeDisk disk owner place 5 (four number)) owner place 43 (four time)) owner place at (four time) =
-          e₃ ∙ ap (λ (x : List ℕ). writeDisk x owner place at (four time)) (e₂ ∙ ap (λ (x : List ℕ). writeDisk x owner place 43 (four time)) e₁) in
-          let c : Changed disk owner d₃ (place + 1) received (storedAt (storedAt (storedAt (fileAt disk owner place received) 5 (four number)) 43 (four time)) at (four time)) = subst (λ (x : List ℕ). Changed disk owner x (place + 1) received (storedAt (storedAt (storedAt (fileAt disk owner place received) 5 (four number)) 43 (four time)) at (four time))) (sym q₃) c₃ in
-          let c₄ = changed-write disk owner place received (s .sizes) bytes (s .room) d₃ (storedAt (storedAt (storedAt (fileAt disk owner place received) 5 (four number)) 43 (four time)) at (four time)) 63 (two (k .sum)) c m in
-          let r = set-steps number time 10 (fileAt disk owner place received) _ _ _ (storedAt (storedAt (storedAt (storedAt (fileAt disk owner place received) 5 (four number)) 43 (four time)) at (four time)) 63 (two (k .sum)))
-          (headerOf 18 (fileAt disk owner place received)) k v refl (header-refusal 18 (fileAt disk owner place received) ∙ s .items) refl refl
-          (ap (λ (x : ℕ). storedAt (storedAt (storedAt (fileAt disk owner place received) 5 (four number)) 43 (four time)) x (four time)) (sym p))
-          (h ∙ ap (headerOf 10) (c .own)) refl .1 in
-          e₄ ∙ changed-one disk owner (writeDisk d₃ owner place 63 (two (k .sum))) (stored (place + 1) owner disk 0 (fieldsSet number time (fileAt disk owner place received))) (place + 1) received
-          (fieldsSet number time (fileAt disk owner place received)) bytes
-          (subst (λ (x : List ℕ). Changed disk owner (writeDisk d₃ owner place 63 (two (k .sum))) (place + 1) received x) r c₄)
-          (stored-changed disk owner (place + 1) received (fieldsSet number time (fileAt disk owner place received)) bytes
-          (set-length number time (fileAt disk owner place received) ∙ size) (s .room))
+  abbrev file : List ℕ
+  file = fileAt disk owner place received
+
+  file-bytes : Bytes file
+  file-bytes = bytes-contents (place + 1) owner disk received b
+
+  in-header : header.Settable file at
+  in-header = record { items = s .items; place = s .upload }
+
+  module _ (number time : ℕ) where
+    abbrev rows : List Field
+    rows = serverSet number time
+
+    -- no row is written yet
+    pub rows-begun : Changed disk owner disk (place + 1) received (storedRows (take 0 rows) file file)
+    unfolding storedRows
+    rows-begun = changed-none disk owner (place + 1) received
+
+    -- the row has its bytes
+    pub row-fits : (k : ℕ) (row : FieldRow) → row ≡ rowAt at k rows → k < 4 → row .size ≤ length (row .bytes)
+    row-fits k row e h = row-size number time at file in-header file-bytes k row e h
+
+    -- row k is written behind those before it
+    pub row-written : (k : ℕ) (d d′ : List ℕ) (row : FieldRow)
+        → row ≡ rowAt at k rows
+        → d′ ≡ writeDisk d owner place (row .at) (take (row .size) (row .bytes))
+        → k < 4
+        → Changed disk owner d (place + 1) received (storedRows (take k rows) file file)
+        → Changed disk owner d′ (place + 1) received (storedRows (take (k + 1) rows) file file)
+    row-written k d d′ row e w h c =
+        let q = next-row number time at k file in-header file-bytes h in
+        let i = q .inside in
+        let l = size in
+        let z : suc k ≡ k + 1 = omega arith in
+        let c′ = changed-write disk owner place received (s .sizes) bytes (s .room) d (storedRows (take k rows) file file) (rowAt at k rows .at)
+        (take (rowAt at k rows .size) (rowAt at k rows .bytes)) c (omega arith) in
+        subst (λ (x : List ℕ). Changed disk owner x (place + 1) received (storedRows (take (k + 1) rows) file file))
+        (sym (w ∙ ap (λ (x : FieldRow). writeDisk d owner place (x .at) (take (x .size) (x .bytes))) e))
+        (subst (λ (x : List ℕ). Changed disk owner (writeDisk d owner place (rowAt at k rows .at) (take (rowAt at k rows .size) (rowAt at k rows .bytes))) (place + 1) received x)
+        (q .stored ∙ ap (λ (j : ℕ). storedRows (take j rows) file file) z) c′)
+
+    -- the disk with all rows written
+    with-rows : Changed disk owner (stored (place + 1) owner disk 0 (withFields rows file)) (place + 1) received (withFields rows file)
+    with-rows = stored-changed disk owner (place + 1) received (withFields rows file) bytes (with-length rows file ∙ size) (s .room)
+
+    pub rows-written : (k : ℕ) (d : List ℕ)
+        → Changed disk owner d (place + 1) received (storedRows (take k rows) file file)
+        → k ≡ 4
+        → d ≡ stored (place + 1) owner disk 0 (withFields rows file)
+    rows-written k d c z =
+        changed-one disk owner d (stored (place + 1) owner disk 0 (withFields rows file)) (place + 1) received (withFields rows file) bytes
+        (subst (λ (x : List ℕ). Changed disk owner d (place + 1) received x)
+        (rows-done number time at file in-header file-bytes k (storedRows (take k rows) file file) refl z) c)
+        with-rows
+
+    -- then the header's sum leaves the disk with the file stored anew
+    pub sum-written : (d₁ d₂ : List ℕ) (k : Header)
+        → d₁ ≡ stored (place + 1) owner disk 0 (withFields rows file)
+        → k ≡ headerOf 10 (fileAt d₁ owner place received)
+        → d₂ ≡ writeDisk d₁ owner place 63 (two (k .sum))
+        → d₂ ≡ stored (place + 1) owner disk 0 (fieldsSet number time file)
+    sum-written d₁ d₂ k e h w =
+        let c₁ = subst (λ (x : List ℕ). Changed disk owner x (place + 1) received (withFields rows file)) (sym e) with-rows in
+        let i = sum-inside file file-bytes (s .items) in
+        let l = size in
+        let c₂ = changed-write disk owner place received (s .sizes) bytes (s .room) d₁ (withFields rows file) 63 (two (k .sum)) c₁ (omega arith) in
+        let r = sum-step number time 10 file (withFields rows file) (storedAt (withFields rows file) 63 (two (k .sum))) k file-bytes (s .items) refl
+        (h ∙ ap (headerOf 10) (c₁ .own)) refl in
+        w ∙ changed-one disk owner (writeDisk d₁ owner place 63 (two (k .sum))) (stored (place + 1) owner disk 0 (fieldsSet number time file)) (place + 1) received
+        (fieldsSet number time file) bytes
+        (subst (λ (x : List ℕ). Changed disk owner (writeDisk d₁ owner place 63 (two (k .sum))) (place + 1) received x) r c₂)
+        (stored-changed disk owner (place + 1) received (fieldsSet number time file) bytes (set-length number time file ∙ size) (s .room))
 
 -- ---- the answers
 

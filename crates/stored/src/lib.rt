@@ -5,6 +5,8 @@
 use equation::evaluation::Truth;
 use equation::evaluation::outcome;
 use equation::evaluation::settle;
+use header::fields;
+use header::fields::FieldRow;
 use header::items::Head;
 use header::scan;
 use header::scan::Header;
@@ -12,12 +14,12 @@ use header::scan::Scan;
 ghost use mathlib.Core.Path.{_≡_};
 ghost use Prim.Native.Nat.{_+_, _*_, _≤_, _<_};
 ghost use lib.ListN.{length, take, drop};
-ghost use Rattle.numbers.specs.Numbers.{two, four};
+ghost use Rattle.numbers.specs.Numbers.{two};
 ghost use Rattle.blocks.specs.Contents.{stored};
 ghost use Rattle.blocks.specs.Answers.{diskFits, writeDisk};
 ghost use Rattle.header.specs.Items.{headOf, walk, fieldsOf};
 ghost use Rattle.header.specs.Header.{headerOf, refusedWith};
-ghost use Rattle.header.specs.Fields.{fieldsSet};
+ghost use Rattle.header.specs.Fields.{serverSet, withFields, fieldsSet};
 ghost use Rattle.header.specs.Scan.{startOf, scanFrom, headerFrom};
 ghost use Rattle.equation.specs.Marks.{settled, settledBy};
 ghost use Rattle.equation.specs.Parsed.{relationsBy};
@@ -144,17 +146,14 @@ fn refused_with(n: u8) -> Header
 
 // ---- setting the server's fields
 
-// Writes a 32-bit number at byte `at` of a file, across the border of two blocks too.
-fn write_number(disk: &mut [u8], owner: &[u16], place: u16, at: usize, n: u32)
-    ensures { λ r. ⌜ now (disk .exit) ≡ writeDisk (now (disk .entry)) (now (owner .entry)) place at (four n) ⌝ }
+// Writes a row of the fields at its place in a file, across the border of two blocks too.
+fn write_row(disk: &mut [u8], owner: &[u16], place: u16, row: FieldRow)
+    requires { ⌜ row .size ≤ length (row .bytes) ⌝ }
+    ensures { λ r. ⌜ now (disk .exit) ≡ writeDisk (now (disk .entry)) (now (owner .entry)) place (row .at) (take (row .size) (row .bytes)) ⌝ }
 {
-    let bytes = [
-        (n % 256) as u8,
-        (n / 256 % 256) as u8,
-        (n / 65536 % 256) as u8,
-        (n / 16777216 % 256) as u8,
-    ];
-    blocks::write(disk, owner, place, at, &bytes);
+    let bytes = row.bytes;
+    let size = row.size;
+    blocks::write(disk, owner, place, row.at, &bytes[0..size]);
 }
 
 // Writes a 16-bit number.
@@ -165,8 +164,27 @@ fn write_sum(disk: &mut [u8], owner: &[u16], place: u16, at: usize, n: u16)
     blocks::write(disk, owner, place, at, &bytes);
 }
 
-// Sets the fields of a file whose items are not refused, so that 01 to 0b have fixed places: file_number at 5, last_modified_time at 43,
-// upload_time at byte `at`, and then header_checksum at 63.
+// Writes the rows of the fields, one by one, in a file whose items are not refused and whose upload_time is at byte `at`.
+fn write_rows(
+    disk: &mut [u8],
+    owner: &[u16],
+    place: u16,
+    received: usize,
+    at: usize,
+    number: u32,
+    time: u32,
+)
+    requires { ⌜ Settable (now disk) (now owner) place received at ⌝ }
+    ensures { λ r. ⌜ now (disk .exit) ≡ stored (place + 1) (now (owner .entry)) (now (disk .entry)) 0 (withFields (serverSet number time) (fileAt (now (disk .entry)) (now (owner .entry)) place received)) ⌝ }
+{
+    let mut k = 0;
+    while k < fields::ROWS {
+        write_row(disk, owner, place, fields::row_at(k, number, time, at));
+        k += 1;
+    }
+}
+
+// Sets the fields of such a file: the rows, and then header_checksum, whose place is fixed.
 fn write_fields(
     disk: &mut [u8],
     owner: &[u16],
@@ -179,14 +197,12 @@ fn write_fields(
     requires { ⌜ Settable (now disk) (now owner) place received at ⌝ }
     ensures { λ r. ⌜ now (disk .exit) ≡ stored (place + 1) (now (owner .entry)) (now (disk .entry)) 0 (fieldsSet number time (fileAt (now (disk .entry)) (now (owner .entry)) place received)) ⌝ }
 {
-    write_number(disk, owner, place, 5, number);
-    write_number(disk, owner, place, 43, time);
-    write_number(disk, owner, place, at, time);
+    write_rows(disk, owner, place, received, at, number, time);
     let sum = header_at(disk, owner, place, received, 10).sum;
     write_sum(disk, owner, place, 63, sum);
 }
 
-// Sets file_number, last_modified_time, upload_time and header_checksum of the file at a place: 0; or a refusal, and nothing written.
+// Sets file_number, file_name, last_modified_time, upload_time and header_checksum of the file at a place: 0; or a refusal, and nothing written.
 pub fn set_fields(
     disk: &mut [u8],
     owner: &[u16],

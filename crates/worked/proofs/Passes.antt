@@ -18,6 +18,7 @@ unfoldable pub use Rattle.accepted.proofs.Passes.{opened, halfway, torn, before
 use Rattle.packet.specs.Frame as packet-frame
 use Rattle.packet.specs.Machine as packet-machine
 use Rattle.numbers.specs.Numbers as byte-numbers
+use Rattle.numbers.specs.Hex as hex
 use Rattle.packet.specs.Packet as packet-packet
 use Rattle.session.specs.Expected as session-expected
 use Rattle.session.specs.Reply as session-reply
@@ -144,12 +145,12 @@ downloading40 = lostOnce ▸ rx 12 (download 40 0)
 abbrev pub two : List Call
 two = request 1 output ∷ request 1 output ∷ []
 
--- the file as it is when it is complete: number 1, times 4, and the sum 0223 for 021a
+-- the file as it is when it is complete: number 1, times 4, the name "00000004", and the sum 03a7 for 021a
 unfoldable pub complete80 : List ℕ
 complete80 =
-    170 ∷ 85 ∷ 1 ∷ 0 ∷ 4 ∷ 1 ∷ 0 ∷ 0 ∷ 0 ∷ 2 ∷ 0 ∷ 8 ∷ 0 ∷ 0 ∷ 0 ∷ 0 ∷ 0 ∷ 0 ∷ 0 ∷ 0 ∷ 3 ∷ 0 ∷ 3 ∷ 0 ∷ 0 ∷ 0 ∷ 4 ∷ 0 ∷
+    170 ∷ 85 ∷ 1 ∷ 0 ∷ 4 ∷ 1 ∷ 0 ∷ 0 ∷ 0 ∷ 2 ∷ 0 ∷ 8 ∷ 48 ∷ 48 ∷ 48 ∷ 48 ∷ 48 ∷ 48 ∷ 48 ∷ 52 ∷ 3 ∷ 0 ∷ 3 ∷ 0 ∷ 0 ∷ 0 ∷ 4 ∷ 0 ∷
     4 ∷ 80 ∷ 0 ∷ 0 ∷ 0 ∷ 5 ∷ 0 ∷ 4 ∷ 0 ∷ 0 ∷ 0 ∷ 0 ∷ 6 ∷ 0 ∷ 4 ∷ 4 ∷ 0 ∷ 0 ∷ 0 ∷ 7 ∷ 0 ∷ 1 ∷ 0 ∷ 8 ∷ 0 ∷ 1 ∷ 0 ∷ 9 ∷
-    0 ∷ 2 ∷ 0 ∷ 0 ∷ 10 ∷ 0 ∷ 2 ∷ 35 ∷ 2 ∷ 11 ∷ 0 ∷ 2 ∷ 80 ∷ 0 ∷ 18 ∷ 0 ∷ 4 ∷ 4 ∷ 0 ∷ 0 ∷ 0 ∷ 0 ∷ 0 ∷ 0 ∷ []
+    0 ∷ 2 ∷ 0 ∷ 0 ∷ 10 ∷ 0 ∷ 2 ∷ 167 ∷ 3 ∷ 11 ∷ 0 ∷ 2 ∷ 80 ∷ 0 ∷ 18 ∷ 0 ∷ 4 ∷ 4 ∷ 0 ∷ 0 ∷ 0 ∷ 0 ∷ 0 ∷ 0 ∷ []
 
 pub small-legal : legal small ≡ true
 unfolding small server-check.sizesFit server-check.roomFits
@@ -265,7 +266,7 @@ unfolding
     stored-answers.setDisk header-items.headOf header-items.after header-items.walk header-items.marked header-items.fieldsOf header-header.listed
     header-header.every header-header.countIf header-header.bytesOf header-header.lengthIn header-header.lengthFits header-header.ordered
     header-header.proper header-header.complete header-header.sumOf header-header.checkItems header-header.checkValues header-header.verdict
-    header-header.placeFrom header-fields.withFields header-fields.withSum header-fields.fieldsSet files-uploads.beginAt files-uploads.beginIn
+    header-header.placeFrom header-fields.withFields header-fields.withSum header-fields.fieldsSet hex.hexDigit files-uploads.beginAt files-uploads.beginIn
     files-uploads.beginWith files-uploads.placeNumber files-uploads.roomNumber files-uploads.appendNumber files-uploads.appendOf
     files-uploads.discardNumber files-uploads.discardOf files-completion.checkOf files-completion.completeNumber files-completion.completeOf
     files-sound.soundTest decide-uplink.onContinued decide-uplink.onUpload decide-uplink.onData decide-uplink.onEnd decide-uplink.onUplink

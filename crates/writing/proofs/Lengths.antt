@@ -10,7 +10,8 @@ use lib.ListN.{length, length-append}
 use borrow.Author.Tests.{leb-true}
 use Rattle.numbers.specs.Numbers.{number}
 use Rattle.packet.specs.Names.{bytesOf}
-use Rattle.lines.specs.Text.{decimalOf, hexDigit}
+use Rattle.numbers.specs.Hex.{hexDigit}
+use Rattle.lines.specs.Text.{decimalOf}
 use Rattle.lines.proofs.TextLaws.{digits-most-32}
 use Rattle.equation.specs.Relation.{operatorOf, kindOf}
 use Rattle.equation.specs.Holds.{Relation}

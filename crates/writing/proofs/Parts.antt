@@ -11,7 +11,8 @@ use lib.Seq.{take-at, length-take-le}
 use borrow.Author.Tests.{lt-ltb, le-ltb, eq-eqb, ne-eqb, eqb-true, eqb-false}
 use Rattle.numbers.specs.Numbers.{number}
 use Rattle.packet.specs.Names.{bytesOf}
-use Rattle.lines.specs.Text.{decimalOf, hexDigit}
+use Rattle.numbers.specs.Hex.{hexDigit}
+use Rattle.lines.specs.Text.{decimalOf}
 use Rattle.equation.specs.Relation.{kindOf, operatorOf, width}
 use Rattle.equation.specs.Symbols.{goodNumber, good}
 use Rattle.equation.specs.Holds.{Relation, relationOf}

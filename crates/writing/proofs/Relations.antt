@@ -11,7 +11,9 @@ use borrow.Author.Tests.{ltb-true, ltb-false, leb-true, lt-ltb, le-ltb, lt-leb, 
 use Rattle.numbers.specs.Numbers.{number, four}
 use Rattle.packet.specs.Names.{bytesOf}
 use Rattle.text.specs.Match.{lower}
-use Rattle.lines.specs.Text.{decimalOf, hexDigit}
+use Rattle.numbers.specs.Hex.{hexDigit}
+use Rattle.numbers.proofs.HexLaws.{digit-half}
+use Rattle.lines.specs.Text.{decimalOf}
 use Rattle.lines.specs.Numerals.{digit, valueFrom}
 use Rattle.lines.specs.Commands.{same}
 use Rattle.lines.proofs.TextLaws.{one-digit, more-digits, digits-some}
@@ -40,8 +42,8 @@ pub record Whole (r : Relation) : Type 0 where
 -- ---- items
 
 hex-lower : (n : ℕ) → n < 16 → lower (hexDigit n) ≡ hexDigit n
-unfolding lower hexDigit
-hex-lower n h = by (ltb n 10) refl
+unfolding lower
+hex-lower n h = rw (digit-half n h) (by (ltb n 10) refl)
   where
     by : (t : Bool) → ltb n 10 ≡ t
         → cond (leb 65 (cond t (48 + n) (87 + n))) (cond (leb (cond t (48 + n) (87 + n)) 90) (cond t (48 + n) (87 + n) + 32) (cond t (48 + n) (87 + n)))

@@ -10,7 +10,8 @@ use lib.Dec.{eqb}
 use lib.ListN.{length}
 use Rattle.numbers.specs.Numbers.{number}
 use Rattle.packet.specs.Names.{bytesOf}
-use Rattle.lines.specs.Text.{decimalOf, hexDigit}
+use Rattle.numbers.specs.Hex.{hexDigit}
+use Rattle.lines.specs.Text.{decimalOf}
 use Rattle.equation.specs.Relation.{operatorOf, kindOf}
 use Rattle.equation.specs.Holds.{Relation}
 use Rattle.names.specs.Names.{nameOf}

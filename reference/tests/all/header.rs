@@ -1,7 +1,9 @@
 //! The header: each check, the order of any two, and the fields set at the end.
 
 use reference::draft::Draft;
-use reference::header::{check, destinations, each, first, items, set_server_fields, sum, Fault};
+use reference::header::{
+    check, destinations, each, file_name, first, items, set_server_fields, sum, Fault,
+};
 use reference::random::Random;
 
 /// The number that DATA_END gives to a whole file, 0 for none.
@@ -352,22 +354,104 @@ fn a_header_longer_than_its_offset_can_say() {
     assert_eq!(fault(&beyond.without(0x02)), Some(Fault::Missing));
 }
 
+/// "The upload time in lower-case hexadecimal, eight digits": the bytes of each
+/// name, written by hand.
 #[test]
-fn the_four_fields_of_the_smallest_file() {
+fn names_as_in_orbit() {
+    let names: [(u32, [u8; 8]); 10] = [
+        (0, [0x30, 0x30, 0x30, 0x30, 0x30, 0x30, 0x30, 0x30]),
+        (1, [0x30, 0x30, 0x30, 0x30, 0x30, 0x30, 0x30, 0x31]),
+        (9, [0x30, 0x30, 0x30, 0x30, 0x30, 0x30, 0x30, 0x39]),
+        (10, [0x30, 0x30, 0x30, 0x30, 0x30, 0x30, 0x30, 0x61]),
+        (15, [0x30, 0x30, 0x30, 0x30, 0x30, 0x30, 0x30, 0x66]),
+        (16, [0x30, 0x30, 0x30, 0x30, 0x30, 0x30, 0x31, 0x30]),
+        (1000, [0x30, 0x30, 0x30, 0x30, 0x30, 0x33, 0x65, 0x38]),
+        (
+            0x1234_5678,
+            [0x31, 0x32, 0x33, 0x34, 0x35, 0x36, 0x37, 0x38],
+        ),
+        (
+            0x9abc_def0,
+            [0x39, 0x61, 0x62, 0x63, 0x64, 0x65, 0x66, 0x30],
+        ),
+        (u32::MAX, [0x66, 0x66, 0x66, 0x66, 0x66, 0x66, 0x66, 0x66]),
+    ];
+    for (time, name) in names {
+        assert_eq!(file_name(time), name);
+    }
+    // Each digit by each value: the highest four bits come first.
+    for place in 0..8 {
+        for (value, digit) in b"0123456789abcdef".iter().enumerate() {
+            let mut name = *b"00000000";
+            name[place] = *digit;
+            let time = (value as u32) << (28 - 4 * place);
+            assert_eq!(file_name(time), name);
+        }
+    }
+}
+
+#[test]
+fn the_five_fields_of_the_smallest_file() {
     let mut file = F80.to_vec();
     let header = check(&file, 80).unwrap();
     set_server_fields(&mut file, &header, 1, 1);
     let mut expected = F80.to_vec();
     expected[5] = 1;
+    expected[12..20].copy_from_slice(b"00000001");
     expected[43] = 1;
-    expected[63..65].copy_from_slice(&[0x1d, 0x02]);
+    // 021a, three ones, and the name's 7 times 30 and once 31.
+    expected[63..65].copy_from_slice(&[0x9e, 0x03]);
     expected[73] = 1;
     assert_eq!(file, expected);
     assert_eq!(verdict(&file), 0);
 }
 
+/// The smallest file as stored under number 01020304 at time a1b2c3d4, written
+/// by hand. Its sum is 021a of the sent one, 0a of the number, twice 02ea of
+/// the time and 0254 of the name.
+const STORED: [u8; 80] = [
+    0xaa, 0x55, 0x01, 0, 4, 0x04, 0x03, 0x02, 0x01, 0x02, 0, 8, 0x61, 0x31, 0x62, 0x32, 0x63, 0x33,
+    0x64, 0x34, 0x03, 0, 3, 0, 0, 0, 0x04, 0, 4, 0x50, 0, 0, 0, 0x05, 0, 4, 0, 0, 0, 0, 0x06, 0, 4,
+    0xd4, 0xc3, 0xb2, 0xa1, 0x07, 0, 1, 0, 0x08, 0, 1, 0, 0x09, 0, 2, 0, 0, 0x0a, 0, 2, 0x4c, 0x0a,
+    0x0b, 0, 2, 0x50, 0, 0x12, 0, 4, 0xd4, 0xc3, 0xb2, 0xa1, 0, 0, 0,
+];
+
 #[test]
-fn only_the_four_fields_change() {
+fn what_was_sent_in_the_five_fields_does_not_matter() {
+    assert_eq!(verdict(&STORED), 0);
+    let (zeros, other) = ([0; 8], [0xff; 8]);
+    for name in [&zeros, b"PUPIL   ", b"A1B2C3D4", b"a1b2c3d4", &other] {
+        for number in [0u32, 0x0102_0304, u32::MAX] {
+            let mut draft = Draft::new();
+            draft.set(0x02, name);
+            for id in [0x01, 0x06, 0x12] {
+                draft.set(id, &number.to_le_bytes());
+            }
+            let mut file = draft.bytes();
+            let header = check(&file, 80).unwrap();
+            set_server_fields(&mut file, &header, 0x0102_0304, 0xa1b2_c3d4);
+            assert_eq!(file, STORED);
+            // Once more changes nothing.
+            set_server_fields(&mut file, &header, 0x0102_0304, 0xa1b2_c3d4);
+            assert_eq!(file, STORED);
+        }
+    }
+}
+
+/// The name by the digits' own arithmetic, from the lowest up.
+fn name_plainly(time: u32) -> Vec<u8> {
+    let mut rest = time;
+    let mut name = Vec::new();
+    for _ in 0..8 {
+        let digit = (rest % 16) as u8;
+        name.insert(0, if digit < 10 { 48 + digit } else { 87 + digit });
+        rest /= 16;
+    }
+    name
+}
+
+#[test]
+fn only_the_five_fields_change() {
     let mut random = Random::new(4);
     for _ in 0..300 {
         let mut draft = Draft::new().without(0x12);
@@ -392,7 +476,8 @@ fn only_the_four_fields_change() {
         assert_eq!(first(&stored, 0x01), Some(&number.to_le_bytes()[..]));
         assert_eq!(first(&stored, 0x06), Some(&time.to_le_bytes()[..]));
         assert_eq!(first(&stored, 0x12), Some(&time.to_le_bytes()[..]));
-        let set = [0x01, 0x06, 0x0a, 0x12];
+        assert_eq!(first(&stored, 0x02), Some(&name_plainly(time)[..]));
+        let set = [0x01, 0x02, 0x06, 0x0a, 0x12];
         for (at, (new, old)) in stored.iter().zip(&sent).enumerate() {
             let own = header.items.iter().any(|item| {
                 set.contains(&item.id) && (item.at..item.at + item.length).contains(&at)

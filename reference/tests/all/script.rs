@@ -225,8 +225,9 @@ fn downloads_are_pumped_after_the_line() {
     let stored = to_hex(&{
         let mut file = hex(F80);
         file[5] = 1;
+        file[12..20].copy_from_slice(b"00000001");
         file[43] = 1;
-        file[63] = 0x1d;
+        file[63..65].copy_from_slice(&[0x9e, 0x03]);
         file[73] = 1;
         file
     });

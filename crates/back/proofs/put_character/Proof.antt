@@ -5,7 +5,7 @@ use Prim.Native.Nat.{_/_, _%_}
 use native.Mathlib.Omega.{arith}
 use lib.ListN.{length}
 use borrow.Author.Needs.{needs}
-use Rattle.lines.specs.Text.{hexDigit}
+use Rattle.numbers.specs.Hex.{hexDigit}
 use Rattle.writing.proofs.Parts as parts
 use Rattle.back.proofs.Pieces as pieces
 use Rattle.back.proofs.put_character.Statement.{statement}

@@ -72,7 +72,7 @@ impl Model {
         }
     }
 
-    /// A complete file is the bytes accepted with the four fields replaced.
+    /// A complete file is the bytes accepted with the five fields replaced.
     fn completed(&mut self, server: &Server, clock: u32, file: u32) {
         let accepted = self.partials.remove(&file).unwrap();
         let stored = server.store.contents(server.store.find(file).unwrap());

@@ -12,11 +12,45 @@ fn the_smallest_file_at_clock_0() {
     desk.store(1, &f80());
     let stored = desk.contents(1).unwrap();
     assert_eq!(stored[5..9], hex("01000000"));
+    assert_eq!(stored[12..20], hex("3030303030303031"));
     assert_eq!(stored[43..47], hex("01000000"));
-    assert_eq!(stored[63..65], hex("1d02"));
+    assert_eq!(stored[63..65], hex("9e03"));
     assert_eq!(stored[73..77], hex("01000000"));
     assert_eq!(desk.server.store.file(0).upload_time, Some(1));
     assert_eq!(desk.hear(1, &select_above(0)), ["SELECT_RESP 0100"]);
+}
+
+/// "At completion set file_name to the upload time", which need not be the
+/// clock: two files of one second have two names.
+#[test]
+fn the_name_is_the_upload_time() {
+    let mut desk = Desk::opened();
+    let mut draft = Draft::new();
+    draft.set(0x02, b"PUPIL   ");
+    for (clock, name) in [
+        (0x000f_fffe, b"000ffffe"),
+        (0x000f_fffe, b"000fffff"),
+        (5, b"00100000"),
+        (0xfedc_ba98, b"fedcba98"),
+        (0, b"fedcba99"),
+        (0, b"fedcba9a"),
+        (u32::MAX, b"ffffffff"),
+    ] {
+        desk.clock = clock;
+        let number = desk.store(1, &draft.bytes());
+        assert_eq!(desk.contents(number).unwrap()[12..20], name[..]);
+    }
+}
+
+#[test]
+fn a_partial_keeps_the_name_that_was_sent() {
+    let mut desk = Desk::opened();
+    let mut draft = Draft::new();
+    draft.set(0x02, b"PUPIL   ");
+    desk.hear(1, &[upload(80), data(&draft.bytes())].concat());
+    assert_eq!(desk.contents(1), Some(draft.bytes()));
+    desk.hear(1, &data_end());
+    assert_eq!(desk.contents(1).unwrap()[12..20], b"00000001"[..]);
 }
 
 #[test]
@@ -83,6 +117,7 @@ fn a_field_across_two_blocks_that_are_no_neighbours() {
     assert_eq!(desk.server.store.file(place).blocks, [0, 2, 3]);
     let stored = desk.contents(4).unwrap();
     assert_eq!(stored[254..258], hex("d4c3b2a1"));
+    assert_eq!(stored[12..20], b"a1b2c3d4"[..]);
     assert_eq!(stored[258..], file[258..]);
     assert_eq!(stored[65..254], file[65..254]);
 }

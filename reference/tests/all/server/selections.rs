@@ -57,6 +57,7 @@ fn the_stored_header_is_compared() {
     let mut draft = Draft::new();
     draft.set(0x01, &hex("99999999"));
     draft.set(0x12, &hex("99999999"));
+    draft.set(0x02, b"PUPIL   ");
     desk.clock = 500;
     desk.store(1, &draft.bytes());
     for (equation, count) in [
@@ -65,6 +66,12 @@ fn the_stored_header_is_compared() {
         ("80 1200 02 f401", 1),
         ("80 0600 02 f401", 1),
         ("80 0500 01 00", 1),
+        // file_name, as sent and as stored: "000001f4", in either case.
+        ("83 0200 08 505550494c202020", 0),
+        ("b3 0200 08 505550494c202020", 1),
+        ("83 0200 08 3030303030316634", 1),
+        ("83 0200 08 3030303030314634", 1),
+        ("b3 0200 08 3030303030316634", 0),
     ] {
         let told = desk.hear(1, &select(&hex(equation)));
         assert_eq!(told, [format!("SELECT_RESP 0{count}00")]);

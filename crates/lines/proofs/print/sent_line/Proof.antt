@@ -6,7 +6,7 @@ use Rattle.lines.proofs.print.sent_line.Lts as lts
 use Rattle.lines.proofs.write.put_decimal.Reads as put-decimal-reads
 use Rattle.lines.proofs.write.put_hex.Reads as put-hex-reads
 use Rattle.lines.proofs.write.width.Reads as width-reads
-use Rattle.packet.proofs.bytes.store.Reads as store-reads
+use Rattle.numbers.proofs.store.Reads as store-reads
 use Rattle.packet.proofs.names.name_of.Reads as name-of-reads
 use native.Mathlib.Omega.{arith}
 use mathlib.Core.Path.{sym}

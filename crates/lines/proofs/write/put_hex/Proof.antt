@@ -2,8 +2,9 @@ use Rattle.lines.proofs.write.put_hex.Statement.{statement}
 use Rattle.lines.proofs.write.put_hex.Tie as tie
 use Rattle.lines.proofs.write.put_hex.Reads as reads
 use Rattle.lines.proofs.write.put_hex.Lts as lts
-use Rattle.lines.proofs.write.hex_digit.Reads as hex-digit-reads
+use Rattle.numbers.proofs.hex_digit.Reads as hex-digit-reads
 use native.Mathlib.Omega.{arith}
+use borrow.Author.Needs.{needs}
 use mathlib.Core.Path.{_≡_, refl}
 use Prim.Native.Nat.{_≤_, _-_, _+_, _*_}
 use lib.ListN.{length, drop, length-set}
@@ -28,13 +29,13 @@ shared-slice-read-b : tie.Need-shared-slice-read-b Inv-loop μ-loop
 shared-slice-read-b c = omega arith
 
 hex-digit-requires : tie.Need-hex-digit-requires Inv-loop μ-loop
-hex-digit-requires c κs = omega (arith, c .shared-slice-known2 .given (c .before .before .loop .i))
+hex-digit-requires c κs = search needs
 
 slice-write-text : tie.Need-slice-write-text Inv-loop μ-loop
 slice-write-text c = omega arith
 
 hex-digit-requires-2 : tie.Need-hex-digit-requires-2 Inv-loop μ-loop
-hex-digit-requires-2 c κs = omega arith
+hex-digit-requires-2 c κs = search needs
 
 add-text : tie.Need-add-text Inv-loop μ-loop
 add-text c = omega arith

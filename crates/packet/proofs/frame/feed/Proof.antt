@@ -9,7 +9,7 @@ use Rattle.packet.proofs.frame.feed.Statement.{statement}
 use Rattle.packet.proofs.frame.feed.Tie as tie
 use Rattle.packet.proofs.frame.feed.Reads as reads
 use Rattle.packet.proofs.frame.feed.Lts as lts
-use Rattle.packet.proofs.bytes.store.Reads as store-reads
+use Rattle.numbers.proofs.store.Reads as store-reads
 use Rattle.packet.proofs.frame.mark_of.Reads as mark-of-reads
 use Rattle.packet.proofs.frame.run_length.Reads as run-length-reads
 

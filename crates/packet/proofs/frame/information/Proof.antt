@@ -5,7 +5,7 @@ use Rattle.packet.proofs.frame.information.Statement.{statement}
 use Rattle.packet.proofs.frame.information.Tie as tie
 use Rattle.packet.proofs.frame.information.Reads as reads
 use Rattle.packet.proofs.frame.information.Lts as lts
-use Rattle.packet.proofs.bytes.store.Reads as store-reads
+use Rattle.numbers.proofs.store.Reads as store-reads
 
 slice-aggregate-store : tie.Need-slice-aggregate-store
 slice-aggregate-store c = search needs

@@ -8,7 +8,7 @@ use Rattle.packet.proofs.plain.write_packet.Statement.{statement}
 use Rattle.packet.proofs.plain.write_packet.Tie as tie
 use Rattle.packet.proofs.plain.write_packet.Reads as reads
 use Rattle.packet.proofs.plain.write_packet.Lts as lts
-use Rattle.packet.proofs.bytes.store.Reads as store-reads
+use Rattle.numbers.proofs.store.Reads as store-reads
 
 returns : tie.Need-returns
 unfolding leftIn

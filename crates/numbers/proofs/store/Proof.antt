@@ -4,11 +4,11 @@ use mathlib.Core.Path.{_≡_}
 use lib.ListN.{length, length-set}
 use lib.Seq.{paste}
 use borrow.Author.Needs.{needs}
 use Rattle.numbers.proofs.NumberLaws.{refused-at, accepted-at, unstored-at, stored-none, stored-next, stored-all}
-use Rattle.packet.proofs.bytes.store.Statement.{statement}
-use Rattle.packet.proofs.bytes.store.Tie as tie
-use Rattle.packet.proofs.bytes.store.Reads as reads
-use Rattle.packet.proofs.bytes.store.Lts as lts
+use Rattle.numbers.proofs.store.Statement.{statement}
+use Rattle.numbers.proofs.store.Tie as tie
+use Rattle.numbers.proofs.store.Reads as reads
+use Rattle.numbers.proofs.store.Lts as lts
 
 abbrev Inv-loop : tie.InvT-loop
 Inv-loop to₀ at from i₀ to i = (i ≤ length from) × (length to ≡ length to₀) × (at + length from ≤ length to₀) × (to ≡ paste to₀ at from i)
