@@ -64,21 +64,24 @@ fn beyond<'a>(proved: &'a mut Proved, second: &Server) -> &'a mut [u64] {
     &mut proved.state[HEAD + SESSION * second.sizes.sessions..HEAD + SESSION * 4]
 }
 
-/// Makes the call on both; the words of sessions beyond those in use stay, and are none of the second program's.
-fn same(proved: &Proved, second: &Server, call: &Call) -> Answer {
+/// Makes the call on both; the words of sessions beyond those in use stay, and are none of the second program's. The answer, and whether the next
+/// call is refused by 35.
+fn same(proved: &Proved, second: &Server, call: &Call) -> (Answer, bool) {
     let (mut proved, mut second) = (proved.clone(), second.clone());
     let mut output = vec![0xee; call.room];
     proved.out.clone_from(&output);
-    let ghosts = beyond(&mut proved, &second).to_vec();
+    let untouched = beyond(&mut proved, &second).to_vec();
     let got = on_proved(&mut proved, call);
     let want = on_second(&mut second, call, &mut output);
     assert_eq!(got, want, "{call}");
     assert_eq!(proved.out, output, "{call}");
-    assert_eq!(*beyond(&mut proved, &second), ghosts, "{call}");
+    assert_eq!(*beyond(&mut proved, &second), untouched, "{call}");
     beyond(&mut proved, &second).fill(0);
     same_words(&proved, &second).unwrap_or_else(|what| panic!("{call}: {what}"));
     same_bytes(&proved, &second).unwrap_or_else(|what| panic!("{call}: {what}"));
-    got
+    let refused = judge(&proved).refused;
+    assert_eq!(proved.lose(0), Answer::Refused(refused.unwrap_or(34)));
+    (got, refused == Some(35))
 }
 
 /// A packet that says 2, to UPLOAD_CMD.
@@ -99,7 +102,7 @@ fn accepted(whole: &Proved, change: &Change, name: &str) -> Proved {
 #[test]
 fn a_state_that_calls_would_not_make_is_answered_as_its_words_say() {
     let mut tried = [0; KEPT.len()];
-    let mut refused_by_2 = 0;
+    let (mut refused_by_2, mut refused_next) = (0, [0; KEPT.len()]);
     for seed in 2_400_000..2_400_120 {
         let mut random = Random::new(seed);
         let pair = run_same(seed).pair;
@@ -110,7 +113,9 @@ fn a_state_that_calls_would_not_make_is_answered_as_its_words_say() {
                 let mut second = pair.second.clone();
                 follow(&mut second, &proved);
                 for call in calls(&second) {
-                    refused_by_2 += usize::from(is_2(&same(&proved, &second, &call)));
+                    let (answer, next) = same(&proved, &second, &call);
+                    refused_by_2 += usize::from(is_2(&answer));
+                    refused_next[at] += usize::from(next);
                 }
                 tried[at] += 1;
             }
@@ -119,10 +124,10 @@ fn a_state_that_calls_would_not_make_is_answered_as_its_words_say() {
     for ((name, _), count) in KEPT.iter().zip(tried) {
         assert!(20 <= count, "{name}: broken in {count} states only");
     }
-    assert!(
-        20 <= refused_by_2,
-        "another session uploads: {refused_by_2}"
-    );
+    assert!(20 <= refused_by_2, "{refused_by_2}");
+    // one of two sessions on a file ends its upload: the other names no partial file any more
+    assert_eq!(refused_next[..2], [0, 0]);
+    assert!(20 <= refused_next[2], "{}", refused_next[2]);
 }
 
 /// Two complete files of 80 bytes, in the first two blocks.
