@@ -105,7 +105,9 @@ tried-star ps [] s =
     rw (z, tried-nil (drop (suc (fitting ps [])) ps) (behind (drop (suc (fitting ps [])) ps)), none-compared ps, tried-nil ps (behind ps))
 tried-star ps (t ∷ ts) s =
     tried-cons ps (behind ps) t ts
-    ∙ ap (λ (x : Bool). compared ps (t ∷ ts) + cond x (behind ps (drop (fitting ps (t ∷ ts)) (t ∷ ts))) (cond (bothEnd ps (t ∷ ts)) 0 (tried ps (behind ps) ts))) s
+    ∙ ap
+    (λ (x : Bool). compared ps (t ∷ ts) + cond x (behind ps (drop (fitting ps (t ∷ ts)) (t ∷ ts))) (cond (bothEnd ps (t ∷ ts)) 0 (tried ps (behind ps) ts)))
+    s
     ∙ ap (λ (n : ℕ). compared ps (t ∷ ts) + n) (behind-next ps (t ∷ ts) (drop (fitting ps (t ∷ ts)) (t ∷ ts)) s)
 
 -- at both ends, and where no text is left, nothing more is counted
@@ -251,7 +253,9 @@ onward-star ps ts back mark s =
 pub turn-compared : (ps ts : List ℕ) (back mark c : ℕ)
     → c ≡ compared (take (length ps - back) (drop back ps)) (take (length ts - mark) (drop mark ts)) → c ≡ compared (drop back ps) (drop mark ts)
 turn-compared ps ts back mark c e =
-    rw (take-all (length ps - back) (drop back ps) (omega (arith, length-drop back ps)), take-all (length ts - mark) (drop mark ts) (omega (arith, length-drop mark ts))) at e
+    let p = take-all (length ps - back) (drop back ps) (omega (arith, length-drop back ps)) in
+    let t = take-all (length ts - mark) (drop mark ts) (omega (arith, length-drop mark ts)) in
+    rw (p, t) at e
 
 module _ (ps ts : List ℕ) (back mark k c n : ℕ) (t : Turn ps ts back mark k) (e : c ≡ compared (drop back ps) (drop mark ts)) where
   -- a sum that goes on
@@ -278,20 +282,25 @@ module _ (ps ts : List ℕ) (back mark k c n : ℕ) (t : Turn ps ts back mark k)
         ap (λ (z : ℕ). upTo64 (n + z))
         (tried-done (drop back ps) (behind (drop back ps)) (drop mark ts) no-star (sym (at-stop (drop back ps) (drop mark ts) no-star) ∙ m) ∙ sym e)
 
-    pub count-next : matches (drop back ps) (drop mark ts) ≡ false → upTo64 (n + onward ps ts back mark) ≡ upTo64 (upTo64 (n + c) + onward ps ts back (mark + 1))
+    pub count-next : matches (drop back ps) (drop mark ts) ≡ false
+        → upTo64 (n + onward ps ts back mark) ≡ upTo64 (upTo64 (n + c) + onward ps ts back (mark + 1))
     count-next m =
         more (onward ps ts back mark) (onward ps ts back (mark + 1))
-        (tried-next (drop back ps) (behind (drop back ps)) (drop mark ts) no-star (sym (at-stop (drop back ps) (drop mark ts) no-star) ∙ m) ∙ rw (e, drop-drop 1 mark ts))
+        (tried-next (drop back ps) (behind (drop back ps)) (drop mark ts) no-star (sym (at-stop (drop back ps) (drop mark ts) no-star) ∙ m)
+        ∙ rw (e, drop-drop 1 mark ts))
 
 -- ---- `counted_match`: one run, then after the star
 
 module _ (ps ts : List ℕ) (k c : ℕ) (f : k ≡ fitting ps ts) (e : c ≡ compared ps ts) where
   pub first-count-star : starAt ps k ≡ true
       → upTo64 (comparisons ps ts)
-      ≡ upTo64 (c + tried (take (length ps - (k + 1)) (drop (k + 1) ps)) (behind (take (length ps - (k + 1)) (drop (k + 1) ps))) (take (length ts - k) (drop k ts)))
+      ≡ upTo64
+      (c + tried (take (length ps - (k + 1)) (drop (k + 1) ps)) (behind (take (length ps - (k + 1)) (drop (k + 1) ps))) (take (length ts - k) (drop k ts)))
   unfolding comparisons
   first-count-star s =
-      rw (take-all (length ps - (k + 1)) (drop (k + 1) ps) (omega (arith, length-drop (k + 1) ps)), take-all (length ts - k) (drop k ts) (omega (arith, length-drop k ts)), add-one k, e, f)
+      let x = take-all (length ps - (k + 1)) (drop (k + 1) ps) (omega (arith, length-drop (k + 1) ps)) in
+      let y = take-all (length ts - k) (drop k ts) (omega (arith, length-drop k ts)) in
+      rw (x, y, add-one k, e, f)
       (ap upTo64 (rw (rw f at s) (ap (λ (z : ℕ). compared ps ts + z) (behind-next ps ts (drop (fitting ps ts) ts) (rw f at s)))))
 
   pub first-count-stop : starAt ps k ≡ false → c ≤ 18446744073709551615 → upTo64 (comparisons ps ts) ≡ c
