@@ -1,4 +1,4 @@
 -- The definitions of files that lie in blocks.
 pub mod Answers
-pub mod Laid
+pub mod Cursor
 pub mod Settable

@@ -12,9 +12,10 @@ use header::scan;
 use header::scan::Header;
 use header::scan::Scan;
 ghost use mathlib.Core.Path.{_≡_};
-ghost use Prim.Native.Nat.{_+_, _*_, _≤_, _<_};
-ghost use lib.ListN.{length, take, drop};
+ghost use Prim.Native.Nat.{_+_, _*_, _/_, _≤_, _<_};
+ghost use lib.ListN.{length, getD, take, drop};
 ghost use Rattle.numbers.specs.Numbers.{two};
+ghost use Rattle.blocks.specs.Owners.{nth};
 ghost use Rattle.blocks.specs.Contents.{stored};
 ghost use Rattle.blocks.specs.Answers.{diskFits, writeDisk};
 ghost use Rattle.header.specs.Items.{headOf, walk, fieldsOf};
@@ -25,7 +26,7 @@ ghost use Rattle.equation.specs.Marks.{settled, settledBy};
 ghost use Rattle.equation.specs.Parsed.{relationsBy};
 ghost use Rattle.stored.specs.Answers.{fileAt, checkAt, headerAt, truthBy, setNumber, setDisk};
 ghost use Rattle.stored.specs.Settable.{Settable};
-ghost use Rattle.stored.specs.Laid.{laidAt, laid, Lies, Row};
+ghost use Rattle.stored.specs.Cursor.{Lies, Stands};
 
 // Whether the sizes are in the table, the disk has the blocks, and the file place is one.
 fn sizes_fit(size: usize, n: usize, place: u16) -> bool
@@ -229,36 +230,45 @@ pub fn set_fields(
     33
 }
 
-// ---- the items of a header, one by one, by the row of the file's blocks
+// ---- the items of a header, one by one, through a cursor over the file's blocks
 
-// Writes the blocks of a place to the row, in rising order, and answers how many they are.
-fn fill_row(owner: &[u16], place: u16, row: &mut [u16]) -> usize
-    requires { ⌜ (length (now owner) ≤ 4096) × (length (now owner) ≤ length (now row)) × (place < 256) ⌝ }
-    ensures { λ r. ⌜ Row (place + 1) (now (owner .entry)) (now (row .exit)) r ⌝ }
-{
-    let mut k = 0;
-    let mut b = blocks::next_block(owner, place, 0);
-    while b < owner.len() {
-        row[k] = b as u16;
-        k += 1;
-        b = blocks::next_block(owner, place, b + 1);
-    }
-    k
+// Where a file is read: one of its blocks, by its index in the file and by its number.
+struct Cursor {
+    index: usize,
+    block: usize,
 }
 
-// Byte a of the file.
-fn byte_at(disk: &[u8], row: &[u16], n: usize, a: usize) -> u8
-    requires { ⌜ Lies (now disk) (now row) n × (a < n) ⌝ }
-    ensures { λ r. ⌜ r ≡ laidAt (now (disk .entry)) (now (row .entry)) a ⌝ }
+// The cursor at the block of byte `at`, from a block at or before it. The owners are searched from the cursor's block on, and a header's items
+// stand in order; so the work is linear, with no row of the file's blocks.
+fn moved(owner: &[u16], place: u16, cursor: Cursor, at: usize) -> Cursor
+    requires { ⌜ (length (now owner) ≤ 4096) × Stands (now owner) place (cursor .index) (cursor .block) at ⌝ }
+    ensures { λ r. ⌜ (r .index ≡ at / 256) × (r .block ≡ nth (place + 1) (now (owner .entry)) (at / 256)) ⌝ }
 {
-    let b = row[a / 256] as usize;
-    disk[256 * b + a % 256]
+    let mut index = cursor.index;
+    let mut block = cursor.block;
+    while index < at / 256 {
+        block = blocks::next_block(owner, place, block + 1);
+        index += 1;
+    }
+    Cursor {
+        index: index,
+        block: block,
+    }
+}
+
+// Byte `at` of the file of n bytes.
+fn byte_at(disk: &[u8], owner: &[u16], place: u16, n: usize, cursor: Cursor, at: usize) -> u8
+    requires { ⌜ Lies (now disk) (now owner) place n × Stands (now owner) place (cursor .index) (cursor .block) at × (at < n) ⌝ }
+    ensures { λ r. ⌜ r ≡ getD (fileAt (now (disk .entry)) (now (owner .entry)) place n) at 0 ⌝ }
+{
+    let block = moved(owner, place, cursor, at).block;
+    disk[256 * block + at % 256]
 }
 
 // The head of the item at byte `at`.
-fn head_at(disk: &[u8], row: &[u16], n: usize, at: usize) -> Head
-    requires { ⌜ Lies (now disk) (now row) n ⌝ }
-    ensures { λ r. ⌜ r ≡ headOf (drop at (laid (now (disk .entry)) (now (row .entry)) n)) ⌝ }
+fn head_at(disk: &[u8], owner: &[u16], place: u16, n: usize, cursor: Cursor, at: usize) -> Head
+    requires { ⌜ Lies (now disk) (now owner) place n × Stands (now owner) place (cursor .index) (cursor .block) at ⌝ }
+    ensures { λ r. ⌜ r ≡ headOf (drop at (fileAt (now (disk .entry)) (now (owner .entry)) place n)) ⌝ }
 {
     if n < 3 {
         return Head::Broken;
@@ -266,8 +276,10 @@ fn head_at(disk: &[u8], row: &[u16], n: usize, at: usize) -> Head
     if n - 3 < at {
         return Head::Broken;
     }
-    let id = numbers::number16(byte_at(disk, row, n, at), byte_at(disk, row, n, at + 1));
-    let size = byte_at(disk, row, n, at + 2) as usize;
+    let low = byte_at(disk, owner, place, n, cursor, at);
+    let high = byte_at(disk, owner, place, n, cursor, at + 1);
+    let id = numbers::number16(low, high);
+    let size = byte_at(disk, owner, place, n, cursor, at + 2) as usize;
     if id == 0 {
         if size == 0 {
             return Head::End;
@@ -281,13 +293,23 @@ fn head_at(disk: &[u8], row: &[u16], n: usize, at: usize) -> Head
 }
 
 // Copies the file's bytes from byte `at` on.
-fn fetch(disk: &[u8], row: &[u16], n: usize, at: usize, out: &mut [u8])
-    requires { ⌜ Lies (now disk) (now row) n × (at + length (now out) ≤ n) ⌝ }
-    ensures { λ r. ⌜ now (out .exit) ≡ take (length (now (out .entry))) (drop at (laid (now (disk .entry)) (now (row .entry)) n)) ⌝ }
+fn fetch(
+    disk: &[u8],
+    owner: &[u16],
+    place: u16,
+    n: usize,
+    cursor: Cursor,
+    at: usize,
+    out: &mut [u8],
+)
+    requires { ⌜ Lies (now disk) (now owner) place n × Stands (now owner) place (cursor .index) (cursor .block) at × (at + length (now out) ≤ n) ⌝ }
+    ensures { λ r. ⌜ now (out .exit) ≡ take (length (now (out .entry))) (drop at (fileAt (now (disk .entry)) (now (owner .entry)) place n)) ⌝ }
 {
+    let mut here = cursor;
     let mut i = 0;
     while i < out.len() {
-        out[i] = byte_at(disk, row, n, at + i);
+        here = moved(owner, place, here, at + i);
+        out[i] = byte_at(disk, owner, place, n, here, at + i);
         i += 1;
     }
 }
@@ -297,17 +319,19 @@ fn settle_window(
     eq: &[u8],
     steps: &[u16],
     disk: &[u8],
-    row: &[u16],
+    owner: &[u16],
+    place: u16,
     n: usize,
+    cursor: Cursor,
     id: u16,
     at: usize,
     item: &mut [u8],
     truths: &mut [u8],
 )
-    requires { ⌜ Lies (now disk) (now row) n × (at + length (now item) ≤ n) ⌝ }
-    ensures { λ r. ⌜ now (truths .exit) ≡ settled (record { id = id; bytes = take (length (now (item .entry))) (drop at (laid (now (disk .entry)) (now (row .entry)) n)) }) (relationsBy (now (eq .entry)) (now (steps .entry))) (now (truths .entry)) ⌝ }
+    requires { ⌜ Lies (now disk) (now owner) place n × Stands (now owner) place (cursor .index) (cursor .block) at × (at + length (now item) ≤ n) ⌝ }
+    ensures { λ r. ⌜ now (truths .exit) ≡ settled (record { id = id; bytes = take (length (now (item .entry))) (drop at (fileAt (now (disk .entry)) (now (owner .entry)) place n)) }) (relationsBy (now (eq .entry)) (now (steps .entry))) (now (truths .entry)) ⌝ }
 {
-    fetch(disk, row, n, at, item);
+    fetch(disk, owner, place, n, cursor, at, item);
     settle(eq, steps, id, item, truths);
 }
 
@@ -316,75 +340,101 @@ fn settle_item(
     eq: &[u8],
     steps: &[u16],
     disk: &[u8],
-    row: &[u16],
+    owner: &[u16],
+    place: u16,
     n: usize,
+    cursor: Cursor,
     id: u16,
     at: usize,
     size: usize,
     truths: &mut [u8],
 )
-    requires { ⌜ Lies (now disk) (now row) n × (at + size ≤ n) × (size < 256) ⌝ }
-    ensures { λ r. ⌜ now (truths .exit) ≡ settled (record { id = id; bytes = take size (drop at (laid (now (disk .entry)) (now (row .entry)) n)) }) (relationsBy (now (eq .entry)) (now (steps .entry))) (now (truths .entry)) ⌝ }
+    requires { ⌜ Lies (now disk) (now owner) place n × Stands (now owner) place (cursor .index) (cursor .block) at × (at + size ≤ n) × (size < 256) ⌝ }
+    ensures { λ r. ⌜ now (truths .exit) ≡ settled (record { id = id; bytes = take size (drop at (fileAt (now (disk .entry)) (now (owner .entry)) place n)) }) (relationsBy (now (eq .entry)) (now (steps .entry))) (now (truths .entry)) ⌝ }
 {
     let mut item = [0u8; 256];
-    settle_window(eq, steps, disk, row, n, id, at, &mut item[0..size], truths);
+    settle_window(
+        eq,
+        steps,
+        disk,
+        owner,
+        place,
+        n,
+        cursor,
+        id,
+        at,
+        &mut item[0..size],
+        truths,
+    );
 }
 
-// Settles the equation's relations by the items from byte 2 on.
-fn settle_items(eq: &[u8], steps: &[u16], disk: &[u8], row: &[u16], n: usize, truths: &mut [u8])
-    requires { ⌜ Lies (now disk) (now row) n ⌝ }
-    ensures { λ r. ⌜ now (truths .exit) ≡ settledBy (walk 0 (drop 2 (laid (now (disk .entry)) (now (row .entry)) n)) .items) (relationsBy (now (eq .entry)) (now (steps .entry))) (now (truths .entry)) ⌝ }
-{
-    let mut at: usize = 0;
-    loop {
-        let h = head_at(disk, row, n, 2 + at);
-        match h {
-            Head::Broken => return,
-            Head::End => return,
-            Head::Item(id, size) => {
-                settle_item(eq, steps, disk, row, n, id, 2 + at + 3, size, truths);
-                at = at + 3 + size;
-            }
-        }
-    }
-}
-
-// Settles the equation's relations by the items of the file; a file that does not begin AA 55 has none.
-fn settle_laid(eq: &[u8], steps: &[u16], disk: &[u8], row: &[u16], n: usize, truths: &mut [u8])
-    requires { ⌜ Lies (now disk) (now row) n ⌝ }
-    ensures { λ r. ⌜ now (truths .exit) ≡ settledBy (fieldsOf (laid (now (disk .entry)) (now (row .entry)) n)) (relationsBy (now (eq .entry)) (now (steps .entry))) (now (truths .entry)) ⌝ }
-{
-    if n < 2 {
-        return;
-    }
-    if byte_at(disk, row, n, 0) == 170 {
-        if byte_at(disk, row, n, 1) == 85 {
-            settle_items(eq, steps, disk, row, n, truths);
-        }
-    }
-}
-
-// Settles the equation's relations by the items of the file at a place, with a row that has room for its blocks.
-fn settle_in_row(
+// Settles the equation's relations by the items from byte 2 on, with a cursor that moves from item to item.
+fn settle_items(
     eq: &[u8],
     steps: &[u16],
     disk: &[u8],
     owner: &[u16],
     place: u16,
-    received: usize,
-    row: &mut [u16],
+    n: usize,
+    cursor: Cursor,
     truths: &mut [u8],
 )
-    requires { ⌜ (length (now owner) ≤ 4096) × (256 * length (now owner) ≤ length (now disk)) × (place < 256) × (length (now owner) ≤ length (now row)) ⌝ }
-    ensures { λ r. ⌜ now (truths .exit) ≡ settledBy (fieldsOf (fileAt (now (disk .entry)) (now (owner .entry)) place received)) (relationsBy (now (eq .entry)) (now (steps .entry))) (now (truths .entry)) ⌝ }
+    requires { ⌜ Lies (now disk) (now owner) place n × Stands (now owner) place (cursor .index) (cursor .block) 0 ⌝ }
+    ensures { λ r. ⌜ now (truths .exit) ≡ settledBy (walk 0 (drop 2 (fileAt (now (disk .entry)) (now (owner .entry)) place n)) .items) (relationsBy (now (eq .entry)) (now (steps .entry))) (now (truths .entry)) ⌝ }
 {
-    let count = fill_row(owner, place, row);
-    let n = least(received, 256 * count);
-    settle_laid(eq, steps, disk, &row[0..count], n, truths);
+    let mut here = cursor;
+    let mut at: usize = 0;
+    loop {
+        let h = head_at(disk, owner, place, n, here, 2 + at);
+        match h {
+            Head::Broken => return,
+            Head::End => return,
+            Head::Item(id, size) => {
+                settle_item(
+                    eq,
+                    steps,
+                    disk,
+                    owner,
+                    place,
+                    n,
+                    here,
+                    id,
+                    2 + at + 3,
+                    size,
+                    truths,
+                );
+                at = at + 3 + size;
+                here = moved(owner, place, here, 2 + at);
+            }
+        }
+    }
 }
 
-// Settles the equation's relations by the items of the file at a place. The row is set to zeros for each file, which would take longer than a
-// small store's header; so such a store has a short one.
+// Settles the equation's relations by the items of a file of n bytes; one that does not begin AA 55 has none.
+fn settle_header(
+    eq: &[u8],
+    steps: &[u16],
+    disk: &[u8],
+    owner: &[u16],
+    place: u16,
+    n: usize,
+    cursor: Cursor,
+    truths: &mut [u8],
+)
+    requires { ⌜ Lies (now disk) (now owner) place n × Stands (now owner) place (cursor .index) (cursor .block) 0 ⌝ }
+    ensures { λ r. ⌜ now (truths .exit) ≡ settledBy (fieldsOf (fileAt (now (disk .entry)) (now (owner .entry)) place n)) (relationsBy (now (eq .entry)) (now (steps .entry))) (now (truths .entry)) ⌝ }
+{
+    if n < 2 {
+        return;
+    }
+    if byte_at(disk, owner, place, n, cursor, 0) == 170 {
+        if byte_at(disk, owner, place, n, cursor, 1) == 85 {
+            settle_items(eq, steps, disk, owner, place, n, cursor, truths);
+        }
+    }
+}
+
+// Settles the equation's relations by the items of the file at a place.
 fn settle_file(
     eq: &[u8],
     steps: &[u16],
@@ -397,13 +447,12 @@ fn settle_file(
     requires { ⌜ (length (now owner) ≤ 4096) × (256 * length (now owner) ≤ length (now disk)) × (place < 256) ⌝ }
     ensures { λ r. ⌜ now (truths .exit) ≡ settledBy (fieldsOf (fileAt (now (disk .entry)) (now (owner .entry)) place received)) (relationsBy (now (eq .entry)) (now (steps .entry))) (now (truths .entry)) ⌝ }
 {
-    if owner.len() <= 256 {
-        let mut row = [0u16; 256];
-        settle_in_row(eq, steps, disk, owner, place, received, &mut row, truths);
-    } else {
-        let mut row = [0u16; 4096];
-        settle_in_row(eq, steps, disk, owner, place, received, &mut row, truths);
-    }
+    let n = least(received, 256 * blocks::block_count(owner, place));
+    let first = Cursor {
+        index: 0,
+        block: blocks::next_block(owner, place, 0),
+    };
+    settle_header(eq, steps, disk, owner, place, n, first, truths);
 }
 
 // ---- equations

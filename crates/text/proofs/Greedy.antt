@@ -35,7 +35,7 @@ or-case true b f g e = f refl
 or-case false b f g e = g e
 
 -- a byte that fits one to one is no star
-plain-no-star : (p t : ℕ) → plain p t ≡ true → eqb p 42 ≡ false
+pub plain-no-star : (p t : ℕ) → plain p t ≡ true → eqb p 42 ≡ false
 unfolding plain
 plain-no-star p t e = go (eqb p 42) e
   where
@@ -141,7 +141,7 @@ greedy ps ts s =
     both-ways (anyTail (matches ps) ts) (anyTail (matches (drop (suc (fitting ps ts)) ps)) (drop (fitting ps ts) ts))
     (any-past ps ts ts s) (λ h. here (matches ps) ts (at-star ps ts s ∙ h))
 
--- ---- the run of `run`, by its place
+-- ---- a run, by its place
 
 run-nil : (ps : List ℕ) → fitting ps [] ≡ 0
 unfolding fitting
@@ -188,7 +188,7 @@ star-in [] k e = no-way e
 star-in (p ∷ ps) zero e = omega arith
 star-in (p ∷ ps) (suc k) e = let h = star-in ps k e in omega arith
 
--- ---- the turns of `tail`
+-- ---- the turns of `after_star`
 
 tail-star : (ps ts : List ℕ) (back mark : ℕ) → starAt ps (back + fitting (drop back ps) (drop mark ts)) ≡ true
     → anyTail (matches (drop back ps)) (drop mark ts)
@@ -217,7 +217,7 @@ stops ps ts back mark h i s =
     at-stop (drop back ps) (drop mark ts) (rw (getD-drop back ps k 0) s)
     ∙ rw (eqb-shift back k (length ps) (length (drop back ps)) (omega (arith, length-drop back ps)), eqb-shift mark k (length ts) (length (drop mark ts)) (omega (arith, length-drop mark ts)))
 
--- ---- a turn of `tail` with what `run` gave
+-- ---- a turn of `after_star` with what `compare` gave
 
 pub record Turn (ps ts : List ℕ) (back mark k : ℕ) : Type 0 where
   pub same : k ≡ fitting (drop back ps) (drop mark ts)
@@ -258,7 +258,7 @@ turn-last f ts mark h e = let n : drop mark ts ≡ [] = drop-of-length-le ts {i 
 pub turn-next : (f : List ℕ → Bool) (ts : List ℕ) (mark : ℕ) → mark < length ts → f (drop mark ts) ≡ false → anyTail f (drop mark ts) ≡ anyTail f (drop (mark + 1) ts)
 turn-next f ts mark h e = rw (add-one mark) (tail-none f ts mark e h)
 
--- ---- text_match: one run, then after the star
+-- ---- `counted_match`: one run, then after the star
 
 pub first-star : (ps ts : List ℕ) (k : ℕ) → k ≡ fitting ps ts → starAt ps k ≡ true
     → matches ps ts ≡ anyTail (matches (take (length ps - (k + 1)) (drop (k + 1) ps))) (take (length ts - k) (drop k ts))

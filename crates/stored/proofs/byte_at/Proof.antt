@@ -1,39 +1,40 @@
--- `stored::byte_at` meets its contract. The row's block is on the disk, by `Lies`.
-use Prim.Native.Nat.{_/_}
+-- `stored::byte_at` meets its contract. The block of the byte is the file's, so it is on the disk.
 use native.Mathlib.Omega.{arith}
 use borrow.Author.Needs.{needs}
+use Rattle.stored.proofs.CursorLaws.{block-there, byte-there}
 use Rattle.stored.proofs.byte_at.Statement.{statement}
 use Rattle.stored.proofs.byte_at.Tie as tie
 
-mul-b : tie.Need-mul-b
-mul-b c = search needs
-
-shared-slice-read-b : tie.Need-shared-slice-read-b
-shared-slice-read-b c = search needs
-
-cast-b : tie.Need-cast-b
-cast-b c = omega (arith, c .shared-slice-known .given (c .before .args .a / 256))
+moved-requires : tie.Need-moved-requires
+moved-requires c κs = let p = c .before .before .pre in (p .0 .few, p .1)
 
 mul-result : tie.Need-mul-result
-mul-result c = let a = c .before .args in let p = c .before .pre in omega (arith, p .0 .there (a .a / 256) (omega (arith, p .0 .room, p .1)))
+mul-result c =
+    let a = c .before .before .before .args in
+    let p = c .before .before .before .pre in
+    let m = c .moved in
+    omega (arith, block-there (a .disk .now) (a .owner .now) (a .place) (a .n) (p .0) (a .at) (m .result .block) (p .2) (m .ensures .1))
 
 add-result : tie.Need-add-result
-add-result c = let a = c .before .args in let p = c .before .pre in omega (arith, p .0 .there (a .a / 256) (omega (arith, p .0 .room, p .1)))
+add-result c =
+    let a = c .before .before .before .args in
+    let p = c .before .before .before .pre in
+    let m = c .moved in
+    omega (arith, block-there (a .disk .now) (a .owner .now) (a .place) (a .n) (p .0) (a .at) (m .result .block) (p .2) (m .ensures .1))
 
 shared-slice-read-result : tie.Need-shared-slice-read-result
-shared-slice-read-result c = let a = c .before .before .args in let p = c .before .before .pre in omega (arith, p .0 .there (a .a / 256) (omega (arith, p .0 .room, p .1)))
+shared-slice-read-result c =
+    let a = c .before .before .before .before .args in
+    let p = c .before .before .before .before .pre in
+    let m = c .before .moved in
+    omega (arith, block-there (a .disk .now) (a .owner .now) (a .place) (a .n) (p .0) (a .at) (m .result .block) (p .2) (m .ensures .1))
 
 returns : tie.Need-returns
-returns c = search needs
+returns c =
+    let a = c .before .before .before .before .args in
+    let p = c .before .before .before .before .pre in
+    let m = c .before .moved in
+    byte-there (a .disk .now) (a .owner .now) (a .place) (a .n) (p .0) (a .at) (m .result .block) (p .2) (m .ensures .1)
 
 pub byte-at-spec : {M : Type 1} → statement M
-byte-at-spec =
-    tie.close
-    (tie.spec
-    mul-b
-    shared-slice-read-b
-    cast-b
-    mul-result
-    add-result
-    shared-slice-read-result
-    returns)
+byte-at-spec = tie.close (tie.spec moved-requires mul-result add-result shared-slice-read-result returns)

@@ -5,8 +5,8 @@ use native.Mathlib.Omega.{arith}
 use lib.ListN.{take, drop, replicate}
 use Rattle.equation.specs.Marks.{settled}
 use Rattle.equation.specs.Parsed.{relationsBy}
-use Rattle.stored.specs.Laid.{laid}
-use Rattle.stored.proofs.LaidLaws.{part-length}
+use Rattle.stored.specs.Answers.{fileAt}
+use Rattle.stored.proofs.CursorLaws.{part-length}
 use borrow.Author.Needs.{needs}
 use Rattle.stored.proofs.settle_item.Statement.{statement}
 use Rattle.stored.proofs.settle_item.Tie as tie
@@ -28,12 +28,11 @@ same-length c = c .before .truths .given
 
 returns : tie.Need-returns
 returns c =
-    let s = c .before .before .before in
-    let a = s .before .before .before .before .before .before .before .before .args in
-    let p = s .before .before .before .before .before .before .before .before .pre in
-    s .settle-window .ensures
-    ∙ ap (λ (m : ℕ). settled (record { id = a .id; bytes = take m (drop (a .at) (laid (a .disk .now) (a .row .now) (a .n))) }) (relationsBy (a .eq .now) (a .steps .now)) (a .truths .now))
-    (part-length (replicate 256 0) (a .size) (omega (arith, p .2)))
+    let a = c .before .before .before .before .before .before .before .before .before .before .before .args in
+    let p = c .before .before .before .before .before .before .before .before .before .before .before .pre in
+    c .before .before .before .settle-window .ensures
+    ∙ ap (λ (m : ℕ). settled (record { id = a .id; bytes = take m (drop (a .at) (fileAt (a .disk .now) (a .owner .now) (a .place) (a .n))) }) (relationsBy (a .eq .now) (a .steps .now)) (a .truths .now))
+    (part-length (replicate 256 0) (a .size) (omega (arith, p .3)))
 
 pub settle-item-spec : {M : Type 1} → statement M
 settle-item-spec =

@@ -22,9 +22,9 @@ same-length-2 c = c .before .truths .given
 
 returns : tie.Need-returns
 returns c =
-    let s = c .before .before .before .before .before .before .before in
-    let a = s .before .before .before .before .before .before .before .before .args in
-    c .before .before .settle .ensures ∙ ap (λ (bs : List ℕ). settled (record { id = a .id; bytes = bs }) (relationsBy (a .eq .now) (a .steps .now)) (a .truths .now)) (s .fetch .ensures)
+    let a = c .before .before .before .before .before .before .before .before .before .before .before .before .before .before .before .args in
+    c .before .before .settle .ensures
+    ∙ ap (λ (bs : List ℕ). settled (record { id = a .id; bytes = bs }) (relationsBy (a .eq .now) (a .steps .now)) (a .truths .now)) (c .before .before .before .before .before .before .before .fetch .ensures)
 
 pub settle-window-spec : {M : Type 1} → statement M
 settle-window-spec =
