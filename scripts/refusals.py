@@ -24,6 +24,7 @@ FACT = [
     r"the two (?:types|sides) (?:first |only )?differ",
     r": expected type `",
     r"the two types are `",
+    r"^`[^`]*`: `[^`]*` ≟ `",
     r"give a proof of that as the last argument, `(?:rw|simp) L t`",
 ]
 

@@ -193,10 +193,13 @@ fn the_least_file_at_clock_0() {
     assert_eq!(s.complete(place, 1), 0);
     let mut out = [0; 80];
     assert_eq!(s.read(0, 0, &mut out), 0);
-    // number 1, last_modified_time 1 and upload_time 1: three more than before in the header sum
+    // number 1, last_modified_time 1 and upload_time 1: three more than before in the header sum; and the name, which was all zeros
     let mut want = least_file();
-    let sum = u16::from_le_bytes([want[63], want[64]]) + 3;
+    let name = b"00000001";
+    let digits: u16 = name.iter().map(|&digit| u16::from(digit)).sum();
+    let sum = u16::from_le_bytes([want[63], want[64]]) + 3 + digits;
     (want[5], want[43], want[73]) = (1, 1, 1);
+    want[12..20].copy_from_slice(name);
     want[63..65].copy_from_slice(&sum.to_le_bytes());
     assert_eq!(out[..], want[..]);
     assert_eq!(s.check(0), 0);
