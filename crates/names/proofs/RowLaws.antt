@@ -6,10 +6,10 @@ use Prim.Native.Nat.{ℕ, zero, suc, _+_, _-_, _≤_, _<_, max}
 use Prim.Native.String.{String}
 use native.Mathlib.Omega.{arith}
 use native.Mathlib.Numerals.{add-one}
-use lib.Dec.{eqb}
+use lib.Dec.{eqb, ltb}
 use lib.ListN.{length, getD, take, drop, replicate, length-map, length-append, List·getD-eq-default, List·getD-map, drop-of-length-le}
 use lib.Seq.{drop-cons, take-at}
-use borrow.Author.Tests.{eq-eqb, ne-eqb}
+use borrow.Author.Tests.{eq-eqb, ne-eqb, lt-ltb, ltb-true, ltb-false}
 use Rattle.packet.specs.Names.{bytesOf}
 use Rattle.text.specs.Match.{lower}
 use Rattle.names.specs.Names.{Named, items, small, widthIn, usualWidth}
@@ -118,6 +118,53 @@ module _ (name text : List ℕ) (k : ℕ) where
   unfolding shared
   sharing-whole h s = let z : shared (map lower (drop k name)) (drop k text) ≡ 0 = rw (drop-of-length-le name {i = k} h) in omega arith
 
+-- ---- first letters
+
+-- no name is empty
+unfoldable pub filled : List Named → Bool
+filled [] = true
+filled (x ∷ xs) = cond (ltb 0 (length (small x))) (filled xs) false
+
+filled-first : (x : Named) (xs : List Named) → filled (x ∷ xs) ≡ true → (0 < length (small x)) × (filled xs ≡ true)
+unfolding filled
+filled-first x xs f = by (ltb 0 (length (small x))) refl f
+  where
+    by : (t : Bool) → ltb 0 (length (small x)) ≡ t → cond t (filled xs) false ≡ true → (0 < length (small x)) × (filled xs ≡ true)
+    by true e f = (ltb-true 0 (length (small x)) e, f)
+    by false e f = let z : _≡_ {A = ℕ} 0 1 = cc in absurd (omega arith)
+
+filled-at : (xs : List Named) (k : ℕ) → filled xs ≡ true → k < length xs → 0 < length (small (getD xs k nameless))
+filled-at [] k f h = absurd (omega arith)
+filled-at (x ∷ xs) zero f h = filled-first x xs f .0
+filled-at (x ∷ xs) (suc k) f h = filled-at xs k (filled-first x xs f .1) (omega arith)
+
+pub named-at : (k : ℕ) → k ≤ 27 → 0 < length (small (getD items k nameless))
+named-at k h = filled-at items k (unfold filled items small bytesOf in refl) (unfold items in omega arith)
+
+unfoldable pub firstOf : Named → ℕ
+firstOf x = getD (small x) 0 0
+
+first-letter : (name text : List ℕ) → 0 < length name → 0 < length text → eqb (lower (getD text 0 0)) (getD name 0 0) ≡ ltb 0 (shared name text)
+unfolding shared
+first-letter [] text h i = absurd (omega arith)
+first-letter (c ∷ cs) [] h i = absurd (omega arith)
+first-letter (c ∷ cs) (b ∷ bs) h i = by (eqb (lower b) c)
+  where
+    by : (t : Bool) → t ≡ ltb 0 (cond t (suc (shared cs bs)) 0)
+    by true = sym (lt-ltb 0 (suc (shared cs bs)) (omega arith))
+    by false = refl
+
+-- a text shares a letter with a name exactly where its first letter is the name's
+pub first-shared : (k : ℕ) (text : List ℕ) → k ≤ 27 → 0 < length text
+    → eqb (lower (getD text 0 0)) (getD (map firstOf items) k 0) ≡ ltb 0 (shared (small (getD items k nameless)) text)
+first-shared k text h i = rw (column firstOf k 0 h) (unfold firstOf in first-letter (small (getD items k nameless)) text (named-at k h) i)
+
+pub nothing-shared : (name text : List ℕ) → length text ≡ 0 → false ≡ ltb 0 (shared name text)
+unfolding shared
+nothing-shared [] text h = refl
+nothing-shared (c ∷ cs) [] h = refl
+nothing-shared (c ∷ cs) (b ∷ bs) h = absurd (omega arith)
+
 -- ---- the search
 
 -- the letters of a row are its name
@@ -157,3 +204,14 @@ module _ (text : List ℕ) (k most same : ℕ) (r : Row) (e : r ≡ rowAt k) (h 
 pub name-unknown : (text : List ℕ) (k most : ℕ) → 28 ≤ k → found text ≡ foundIn (drop k items) most text → Unknown most ≡ found text
 unfolding foundIn
 name-unknown text k most h inv = sym (inv ∙ rw (no-rows k h))
+
+-- a name that shares no letter with the text is passed over
+pub name-passed : (text : List ℕ) (k most : ℕ) → k < 28 → found text ≡ foundIn (drop k items) most text
+    → ltb 0 (shared (small (getD items k nameless)) text) ≡ false → found text ≡ foundIn (drop (k + 1) items) most text
+unfolding foundIn
+name-passed text k most h inv f =
+    let n : ℕ = shared (small (getD items k nameless)) text in
+    let none : n ≡ 0 = omega (arith, ltb-false 0 n f) in
+    let other : eqb n (length (small (getD items k nameless))) ≡ false = ne-eqb n _ (λ y. omega (arith, named-at k (omega arith))) in
+    let same : max most n ≡ most = omega arith in
+    inv ∙ rw (rows-from k h, other, add-one k, same)

@@ -2,9 +2,12 @@
 use crate::bytes::lowered;
 ghost use mathlib.Core.Path.{_≡_};
 ghost use mathlib.Core.List.{map};
-ghost use Prim.Native.Nat.{max};
+ghost use Prim.Native.Nat.{_≤_, max};
+ghost use lib.Dec.{ltb};
+ghost use lib.ListN.{getD};
 ghost use Rattle.text.specs.Match.{lower};
-ghost use Rattle.names.specs.Rows.{rowAt, rowOf, shared, found};
+ghost use Rattle.names.specs.Names.{items, small};
+ghost use Rattle.names.specs.Rows.{nameless, rowAt, rowOf, shared, found};
 
 // A name in capitals, the first `size` of the letters, with its id and usual width; of size 0 where there is none.
 pub struct Row {
@@ -144,6 +147,38 @@ const WIDTHS: [u8; 28] = [
     1,
 ];
 
+// The names' first letters, as small ones. A constant table is made anew by each function that reads it, and this one is short.
+const FIRSTS: [u8; 28] = [
+    102,
+    102,
+    102,
+    102,
+    99,
+    108,
+    115,
+    102,
+    98,
+    104,
+    98,
+    115,
+    97,
+    117,
+    100,
+    100,
+    97,
+    100,
+    101,
+    112,
+    99,
+    98,
+    98,
+    116,
+    107,
+    102,
+    99,
+    117,
+];
+
 // The row at a place of the table.
 pub fn row_at(k: usize) -> Row
     ensures { λ r. ⌜ r ≡ rowAt k ⌝ }
@@ -198,6 +233,17 @@ fn shared_letters(letters: &[u8], text: &[u8]) -> usize
     k
 }
 
+// A text shares a letter at least with the name at a place.
+fn shares_a_letter(k: usize, text: &[u8]) -> bool
+    requires { ⌜ k ≤ 27 ⌝ }
+    ensures { λ r. ⌜ r ≡ ltb 0 (shared (small (getD items k nameless)) (now (text .entry))) ⌝ }
+{
+    if text.len() == 0 {
+        return false;
+    }
+    lowered(text[0]) == FIRSTS[k]
+}
+
 // The greater of two numbers.
 fn greater(a: usize, b: usize) -> usize
     ensures { λ r. ⌜ r ≡ max a b ⌝ }
@@ -212,14 +258,16 @@ pub fn find_name(text: &[u8]) -> Found
     let mut k = 0;
     let mut most = 0;
     while k < 28 {
-        let row = row_at(k);
-        let letters = row.letters;
-        let size = row.size;
-        let same = shared_letters(&letters[..size], text);
-        if same == size {
-            return Found::Known(row.id, size);
+        if shares_a_letter(k, text) {
+            let row = row_at(k);
+            let letters = row.letters;
+            let size = row.size;
+            let same = shared_letters(&letters[..size], text);
+            if same == size {
+                return Found::Known(row.id, size);
+            }
+            most = greater(most, same);
         }
-        most = greater(most, same);
         k += 1;
     }
     Found::Unknown(most)

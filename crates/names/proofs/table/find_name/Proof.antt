@@ -1,4 +1,5 @@
-use mathlib.Core.Path.{_≡_, refl, sym}
+use mathlib.Core.Path.{_≡_, refl, sym, _∙_}
+use mathlib.Core.Logic.{_⊎_, inl, inr}
 use Prim.Native.Nat.{_-_, _≤_}
 use native.Mathlib.Omega.{arith}
 use lib.ListN.{drop}
@@ -19,18 +20,21 @@ abbrev μ-loop : tie.MeasureT-loop
 loop-holds : tie.Need-loop-holds Inv-loop μ-loop
 loop-holds c = (omega arith, refl)
 
+shares-a-letter-requires : tie.Need-shares-a-letter-requires Inv-loop μ-loop
+shares-a-letter-requires c κs = omega arith
+
 row-at-requires : tie.Need-row-at-requires Inv-loop μ-loop
 row-at-requires c κs = search needs
 
 array-share-prefix-letters : tie.Need-array-share-prefix-letters Inv-loop μ-loop
 array-share-prefix-letters c =
-    let l = c .before .before .before .loop in
+    let l = c .before .before .before .before .before .loop in
     let r = c .before .row-at in
     omega (arith, laws.row-room (l .k) (r .result) (r .ensures))
 
 slice-aggregate-shared-letters : tie.Need-slice-aggregate-shared-letters Inv-loop μ-loop
 slice-aggregate-shared-letters c =
-    let l = c .before .before .before .before .loop in
+    let l = c .before .before .before .before .before .before .loop in
     let r = c .before .before .row-at in
     sym (length-take-le (r .result .size) (r .result .letters) (laws.row-room (l .k) (r .result) (r .ensures)))
 
@@ -39,11 +43,12 @@ shared-letters-requires c κs = search needs
 
 returns : tie.Need-returns Inv-loop μ-loop
 returns c =
-    let a = c .before .before .before .before .before .before .before .before .args in
-    let l = c .before .before .before .before .before .before .loop in
+    let a = c .before .before .before .before .before .before .before .before .before .before .args in
+    let l = c .before .before .before .before .before .before .before .before .loop in
+    let t = c .before .before .before .before .before .before .before .loop-test .taken in
     let r = c .before .before .before .before .row-at in
     let s = c .before .shared-letters in
-    laws.name-known (a .text .now) (l .k) (l .most) (s .result) (r .result) (r .ensures) (c .before .before .before .before .before .loop-test .taken) (l .inv .1) (s .ensures) (c .if1 .taken)
+    laws.name-known (a .text .now) (l .k) (l .most) (s .result) (r .result) (r .ensures) t (l .inv .1) (s .ensures) (c .if2 .taken)
 
 greater-requires : tie.Need-greater-requires Inv-loop μ-loop
 greater-requires c κs = search needs
@@ -56,12 +61,15 @@ loop-less c = omega arith
 
 loop-again : tie.Need-loop-again Inv-loop μ-loop
 loop-again c =
-    let a = c .before .before .before .before .before .before .before .before .before .args in
-    let l = c .before .before .before .before .before .before .before .loop in
-    let r = c .before .before .before .before .before .row-at in
-    let s = c .before .before .shared-letters in
-    let g = c .greater in
-    (omega arith, laws.name-other (a .text .now) (l .k) (l .most) (s .result) (r .result) (r .ensures) (c .before .before .before .before .before .before .loop-test .taken) (l .inv .1) (s .ensures) (c .before .if1 .left) (g .result) (g .ensures))
+    let a = c .before .before .before .before .before .args in
+    let l = c .before .before .before .loop in
+    let t = c .before .before .loop-test .taken in
+    let passed = c .before .shares-a-letter in
+    (omega arith, elim (c .if1 .came) [
+      inl y ↦ laws.name-other (a .text .now) (l .k) (l .most) (y .4 .result) (y .1 .result) (y .1 .ensures) t (l .inv .1) (y .4 .ensures) (y .5 .left)
+          (c .if1 .most) (y .7 ∙ y .6 .ensures)
+      | inr y ↦ rw (y .1) (laws.name-passed (a .text .now) (l .k) (l .most) t (l .inv .1) (sym (passed .ensures) ∙ y .0 .left))
+    ])
 
 returns-2 : tie.Need-returns-2 Inv-loop μ-loop
 returns-2 c =
@@ -76,6 +84,7 @@ find-name-spec =
     Inv-loop
     μ-loop
     loop-holds
+    shares-a-letter-requires
     row-at-requires
     array-share-prefix-letters
     slice-aggregate-shared-letters
