@@ -39,14 +39,14 @@ GROUPS = [
         "promises/specs/Closing promises/specs/Cut promises/specs/Demand1 promises/specs/Demand2 promises/specs/Feeding promises/specs/Parts"
         " promises/specs/Requests promises/specs/Uncut refines/specs/Refines steps/specs/Downloads steps/specs/Naming steps/specs/Sound",
     ),
-    Group("accepted", "Passes AtWork", "EveryTranscript", "accepted/specs/Agreement accepted/specs/Effect steps/specs/Naming"),
+    Group("accepted", "AtWork", "EveryTranscript", "accepted/specs/Agreement accepted/specs/Effect steps/specs/Naming"),
     Group(
         "paging", "Worked Said", "PageAnswer Paging PagingWhole InPieces Examples",
         "paging/specs/Client paging/specs/Paging paging/specs/Pieces paging/specs/Examples",
     ),
     Group(
         "demands", "Example AtWork DownloadsAtWork AllAtWork ChangesAtWork", "Demands",
-        "demands/specs/Demand3 demands/specs/Downloads demands/specs/Demands history/specs/Change",
+        "demands/specs/Demand3 demands/specs/Downloads demands/specs/Demands acts/specs/Change",
     ),
     Group("driver", "Worked", "EveryDriver EveryMake DriverPlays", "driver/specs/Driver"),
 ]

@@ -35,8 +35,8 @@ use Rattle.accepted.specs.Accepted.{accepted, announced, reserved, total
 use Rattle.accepted.specs.Effect as effect
 use Rattle.accepted.specs.Effect.{Effect}
 use Rattle.accepted.specs.Agreement.{sizeOf, numberOf, OutsideAll, fiveSet, OnlyFive, AreBytes, OfBytes, Listed, Stands, Agrees, EveryTranscript}
-use Rattle.accepted.proofs.Passes.{output, rx, of, upload, dataEnd, opened, halfway, torn, beforeUpload, continued, rest, lostOnce, tooEarly, mended}
-use Rattle.accepted.proofs.Passes.{uploads, both}
+use Rattle.cases.proofs.Passes.{output, rx, of, upload, dataEnd, opened, halfway, torn, beforeUpload, continued, rest, lostOnce, tooEarly, mended}
+use Rattle.cases.proofs.Passes.{uploads, both}
 
 -- one block, one file place, one session, MAXSEL 1; two blocks, two places, two sessions
 abbrev pub small : History → Model

@@ -7,5 +7,4 @@ pub mod Steps
 pub mod Story
 pub mod Bytes
 pub mod Theorems
-pub mod Passes
 pub mod AtWork

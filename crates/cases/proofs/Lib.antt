@@ -5,3 +5,4 @@ pub mod Pages
 pub mod Downloads
 pub mod Refusals
 pub mod Addressed
+pub mod Passes

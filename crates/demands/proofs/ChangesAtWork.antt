@@ -16,7 +16,7 @@ use Rattle.files.specs.Completion.{completed}
 use Rattle.files.specs.View.{View}
 use Rattle.carry.specs.declared.turn.Last.{Last}
 use Rattle.carry.specs.Turn.{lastOf}
-use Rattle.history.specs.Change.{Files, view, Same, Begins, Receives, Completes, Discards, Change, same, begins, receives, completes, discards}
+use Rattle.acts.specs.Change.{Files, view, Same, Begins, Receives, Completes, Discards, Change, same, begins, receives, completes, discards}
 use Rattle.history.specs.Calls.{Call, request, History, _▸_}
 use Rattle.model.specs.State.{File}
 use Rattle.model.specs.Files.{find}

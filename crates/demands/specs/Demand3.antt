@@ -13,7 +13,7 @@ use Rattle.session.specs.Reply.{told}
 use Rattle.files.specs.View.{View}
 use Rattle.server.specs.declared.Server.{Server}
 use Rattle.server.specs.State.{Lent, mapPart, ownerPart}
-use Rattle.history.specs.Change.{Files, Change}
+use Rattle.acts.specs.Change.{Files, Change}
 use Rattle.history.specs.Calls.{Call, callOf, Start, History, start, _▸_, after}
 use Rattle.history.specs.Stored.{filesOf}
 use Rattle.model.specs.State.{File, Model, empty}

@@ -48,7 +48,7 @@ use Rattle.carry.specs.Turn.{Mem, mem, Turned, turned, turnOf, Writes, Chooses}
 use Rattle.carry.specs.Upload as upload
 use Rattle.carry.specs.Download as download
 use Rattle.carry.specs.Carry.{onFrees, onWrites, onMoves, onChooses, carryOut}
-use Rattle.history.proofs.Interface.{Stored}
+use Rattle.acts.proofs.Interface.{Stored}
 use Rattle.history.proofs.Others.{Reads}
 use Rattle.history.proofs.Decided.{Own, Resumes, Stores, Sends, Fit}
 

@@ -16,7 +16,7 @@ use Rattle.server.specs.Turns.{partsOf}
 use Rattle.sending.specs.Sending.{dueOf}
 use Rattle.server.specs.Calls.{Lost, onCheck, receiveOf, onLogin, loginOf, onLose, loseOf, dueAs, onRequest, requestOf, loginBy, requestBy, receiveBy, loseBy}
 use Rattle.history.specs.Calls.{Call, login, receive, request, lose, callOf}
-use Rattle.history.specs.Change.{Change}
+use Rattle.acts.specs.Change.{Change}
 use Rattle.history.specs.Good.{Good}
 use Rattle.history.specs.Stored.{filesOf}
 use Rattle.history.proofs.GoodFacts.{Facts, good-facts, checked}

@@ -12,10 +12,10 @@ use Rattle.carry.specs.Turn.{Mem, mem, Turned}
 use Rattle.server.specs.declared.Server.{Server}
 use Rattle.server.specs.State.{Lent, lent, words, withPart, withLink, withTurn, mapPart, ownerPart, tablePart}
 use Rattle.server.specs.Turns.{partsOf}
-use Rattle.history.specs.Change.{Change, same}
+use Rattle.acts.specs.Change.{Change, same}
 use Rattle.history.specs.Good.{Good}
 use Rattle.history.specs.Stored.{filesOf}
-use Rattle.history.proofs.Interface.{Stored, Kept}
+use Rattle.acts.proofs.Interface.{Stored, Kept}
 use Rattle.history.proofs.Parts.{front-back, front-length, part-size}
 use Rattle.history.proofs.Sessions.{part-length}
 use Rattle.history.proofs.GoodFacts.{Facts, good-facts, facts-good}

@@ -1,8 +1,3 @@
-pub mod Interface
-pub mod Asked
-pub mod Effects
-pub mod Uploading
-pub mod Acts
 pub mod Others
 pub mod Decided
 pub mod Acted

@@ -17,8 +17,8 @@ use Rattle.files.specs.View.{View}
 use Rattle.links.proofs.Facts.{CompleteAt, SendingAt, Selectable, LinkFacts}
 use Rattle.carry.specs.declared.turn.Last.{Last}
 use Rattle.carry.specs.Turn.{Mem}
-use Rattle.history.specs.Change.{Files, Change, same, begins, receives, completes, discards}
-use Rattle.history.proofs.Interface.{filesIn}
+use Rattle.acts.specs.Change.{Files, Change, same, begins, receives, completes, discards}
+use Rattle.acts.proofs.Interface.{filesIn}
 
 -- ---- what a session reads
 

@@ -13,8 +13,8 @@ use Rattle.server.specs.State.{Lent, linkOf, tablePart}
 use Rattle.server.specs.Turns.{HeardIn, hearOf, partsOf, putBack}
 use Rattle.server.specs.Calls.{answeredBy, heardBy, stepOf}
 use Rattle.history.specs.Good.{Good}
-use Rattle.history.proofs.Interface.{Kept}
-use Rattle.history.proofs.Acts.{act-kept, turnAfter}
+use Rattle.acts.proofs.Interface.{Kept}
+use Rattle.acts.proofs.Acts.{act-kept, turnAfter}
 use Rattle.history.proofs.Sessions.{turn-acted, turn-links}
 use Rattle.history.proofs.GoodFacts.{Facts, good-facts}
 use Rattle.history.proofs.InUse.{act-in-use}

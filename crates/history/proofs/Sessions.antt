@@ -31,7 +31,7 @@ use Rattle.carry.specs.Carry.{carryOut}
 use Rattle.server.specs.State.{withPart}
 use Rattle.server.specs.Turns.{sizeIn}
 use Rattle.sending.specs.Sending.{Due, leastOf, dataOf, sendingOf, dueOf}
-use Rattle.history.proofs.Interface.{Stored, Kept}
+use Rattle.acts.proofs.Interface.{Stored, Kept}
 use Rattle.history.proofs.Others.{Reads, reads-of, reads-still, link-still}
 use Rattle.history.proofs.Decided.{Own, decide-fit}
 use Rattle.history.proofs.Acted.{up-of, receiving-of, Down, reads-with, by-test, file-most, own-idle, Acted, acted}

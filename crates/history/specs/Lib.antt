@@ -1,4 +1,3 @@
 pub mod Calls
 pub mod Good
-pub mod Change
 pub mod Stored

@@ -2,7 +2,7 @@
 use Rattle.files.specs.View.{viewAt}
 use Rattle.server.specs.declared.Server.{Server}
 use Rattle.server.specs.State.{Lent, ownerPart, tablePart}
-use Rattle.history.specs.Change.{Files}
+use Rattle.acts.specs.Change.{Files}
 
 -- the file at each place, in the parts of the slices that are the store's
 abbrev pub filesOf : Server → Lent → Files

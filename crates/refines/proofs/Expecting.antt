@@ -10,7 +10,7 @@ use Rattle.session.specs.declared.state.Uplink.the-variants as up
 use Rattle.session.specs.declared.state.Downlink.{Downlink}
 use Rattle.session.specs.declared.state.Downlink.the-variants as down
 use Rattle.session.specs.Expected.{takesData, takesUpload, takesCommand, takesAck, takesNak, expectedUp, expectedDown, expected}
-use Rattle.history.specs.Change.{Files}
+use Rattle.acts.specs.Change.{Files}
 use Rattle.model.specs.State.{Turn}
 use Rattle.model.specs.Step.{ifNoUpload, ifNoDownload}
 use Rattle.views.specs.View.{upOf, downOf}

@@ -18,7 +18,7 @@ use Rattle.carry.specs.Download as download
 use Rattle.carry.specs.Carry.{onChooses, carryOut}
 use Rattle.server.specs.declared.Server.{Server}
 use Rattle.server.specs.State.{Lent, linkOf, part, tablePart}
-use Rattle.history.specs.Change.{Files}
+use Rattle.acts.specs.Change.{Files}
 use Rattle.history.specs.Good.{Good}
 use Rattle.history.specs.Stored.{filesOf}
 use Rattle.model.specs.State as model

@@ -29,7 +29,7 @@ use Rattle.sending.specs.Sending.{Due, leastOf, dataOf, sendingOf, dueOf}
 use Rattle.sending.specs.Sending as sending
 use Rattle.server.specs.Calls as server
 use Rattle.server.specs.Calls.{dueAs, requestOf, requestBy}
-use Rattle.history.specs.Change.{Files}
+use Rattle.acts.specs.Change.{Files}
 use Rattle.history.specs.Good.{Good}
 use Rattle.history.specs.Stored.{filesOf}
 use Rattle.history.specs.Calls as history

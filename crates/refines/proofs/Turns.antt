@@ -20,12 +20,12 @@ use Rattle.carry.specs.Turn.{Mem, Turned}
 use Rattle.server.specs.declared.Server.{Server}
 use Rattle.server.specs.State.{Lent, linkOf, withTurn, ownerPart, tablePart}
 use Rattle.server.specs.Turns.{partsOf}
-use Rattle.history.specs.Change.{Files}
+use Rattle.acts.specs.Change.{Files}
 use Rattle.history.specs.Good.{Good}
 use Rattle.history.specs.Stored.{filesOf}
-use Rattle.history.proofs.Interface.{filesIn, Kept}
-use Rattle.history.proofs.Asked.{Uploading}
-use Rattle.history.proofs.Acts.{turnAfter, act-kept, act-others, act-complete}
+use Rattle.acts.proofs.Interface.{filesIn, Kept}
+use Rattle.acts.proofs.Asked.{Uploading}
+use Rattle.acts.proofs.Acts.{turnAfter, act-kept, act-others, act-complete}
 use Rattle.history.proofs.Parts.{front-back, part-size}
 use Rattle.history.proofs.Sessions.{part-stays, part-own, apart-both}
 use Rattle.history.proofs.Leaves.{memOf, backIn, stored-parts}

@@ -38,7 +38,7 @@ use Rattle.carry.specs.Carry.{onFrees, onWrites, onMoves, carryOut}
 use Rattle.server.specs.declared.Server.{Server}
 use Rattle.server.specs.State.{Lent, linkOf, mapPart, ownerPart, tablePart}
 use Rattle.links.proofs.Facts.{LinkFacts, PartialAt, CompleteAt, selectionOf, packetOf}
-use Rattle.history.proofs.Interface.{filesIn}
+use Rattle.acts.proofs.Interface.{filesIn}
 use Rattle.model.specs.State as model
 use Rattle.model.specs.State.{File, file, withFiles, inSession, Turn, turn}
 use Rattle.model.specs.Files.{find, changed, without}

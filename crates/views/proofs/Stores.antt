@@ -11,7 +11,7 @@ use Rattle.table.specs.Fit.{Distinct}
 use Rattle.table.proofs.Finding.{by-equal, find-number, find-none, find-absent, find-own}
 use Rattle.files.specs.View.{View, recordAt}
 use Rattle.carry.specs.Turn.{Mem}
-use Rattle.history.proofs.Interface.{filesIn}
+use Rattle.acts.proofs.Interface.{filesIn}
 use Rattle.model.specs.State.{File}
 use Rattle.model.specs.Files.{changed, without}
 use Rattle.views.specs.View.{fileOf, fileIn, listed, entry}

@@ -21,7 +21,7 @@ use Rattle.server.specs.declared.check.Check.{Check}
 use Rattle.server.specs.declared.check.Check.the-variants.{Go, Refuse}
 use Rattle.server.specs.State.{Lent, lent, linkOf, withLink, part, tablePart}
 use Rattle.server.specs.Check.{inState, sessionCheck, checkOf}
-use Rattle.history.specs.Change.{Files}
+use Rattle.acts.specs.Change.{Files}
 use Rattle.history.specs.Good.{Good}
 use Rattle.history.specs.Stored.{filesOf}
 use Rattle.history.proofs.GoodFacts.{Facts, good-facts, good-check}

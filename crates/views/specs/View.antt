@@ -17,7 +17,7 @@ use Rattle.table.specs.Table.{files, findOf}
 use Rattle.files.specs.View.{View}
 use Rattle.server.specs.declared.Server.{Server}
 use Rattle.server.specs.State.{Lent, linkOf, part, tablePart}
-use Rattle.history.specs.Change.{Files}
+use Rattle.acts.specs.Change.{Files}
 use Rattle.history.specs.Good.{Good}
 use Rattle.history.specs.Stored.{filesOf}
 use Rattle.history.specs.Calls.{Call, callOf, Start, legal, History, start, _▸_, after}

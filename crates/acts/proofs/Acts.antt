@@ -30,11 +30,11 @@ use Rattle.carry.specs.Upload as upload
 use Rattle.carry.specs.Download as download
 use Rattle.carry.specs.Carry.{onChooses, carryOut}
 use Rattle.server.specs.Turns.{sizeIn}
-use Rattle.history.specs.Change.{Files, Change, same, begins, receives, completes, discards}
-use Rattle.history.proofs.Interface.{filesIn, Stored, Kept}
-use Rattle.history.proofs.Asked.{Uploading, Asked, decide-asked}
-use Rattle.history.proofs.Effects.{Own, Free, Order, Acted}
-use Rattle.history.proofs.Uploading.{ignoring-over, same-store, begin-acts, discard-acts, finish-acts, store-acts}
+use Rattle.acts.specs.Change.{Files, Change, same, begins, receives, completes, discards}
+use Rattle.acts.proofs.Interface.{filesIn, Stored, Kept}
+use Rattle.acts.proofs.Asked.{Uploading, Asked, decide-asked}
+use Rattle.acts.proofs.Effects.{Own, Free, Order, Acted}
+use Rattle.acts.proofs.Uploading.{ignoring-over, same-store, begin-acts, discard-acts, finish-acts, store-acts}
 
 -- ---- the selection keeps its length
 

@@ -5,7 +5,7 @@ use Rattle.files.specs.View.{viewAt}
 use Rattle.files.specs.Sound.{Sound, Sizes}
 use Rattle.carry.specs.declared.turn.Last.{Last}
 use Rattle.carry.specs.Turn.{Mem, Turned}
-use Rattle.history.specs.Change.{Files, Change}
+use Rattle.acts.specs.Change.{Files, Change}
 
 -- the files of the parts that an act is handed
 abbrev pub filesIn : Mem → Files

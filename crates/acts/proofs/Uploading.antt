@@ -41,10 +41,10 @@ use Rattle.carry.specs.declared.turn.Turn.{Turn}
 use Rattle.carry.specs.Turn.{lastOf, turnOf, Mem, mem, turned, Moves, writes}
 use Rattle.carry.specs.Upload as upload
 use Rattle.carry.specs.Carry.{onFrees, onWrites, onMoves}
-use Rattle.history.specs.Change.{view, same, begins, receives, completes, discards}
-use Rattle.history.proofs.Interface.{Stored}
-use Rattle.history.proofs.Asked.{Room}
-use Rattle.history.proofs.Effects.{Acted}
+use Rattle.acts.specs.Change.{view, same, begins, receives, completes, discards}
+use Rattle.acts.proofs.Interface.{Stored}
+use Rattle.acts.proofs.Asked.{Room}
+use Rattle.acts.proofs.Effects.{Acted}
 
 -- ---- lists of the same lengths
 

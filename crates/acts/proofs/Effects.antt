@@ -12,9 +12,9 @@ use Rattle.table.specs.Given.{blocksFor}
 use Rattle.table.specs.Order.{inOrder}
 use Rattle.carry.specs.declared.turn.Last.{Last}
 use Rattle.carry.specs.Turn.{Mem, Turned}
-use Rattle.history.specs.Change.{Files, Change, same, begins, receives, completes, discards}
-use Rattle.history.proofs.Interface.{Kept}
-use Rattle.history.proofs.Asked.{Uploading}
+use Rattle.acts.specs.Change.{Files, Change, same, begins, receives, completes, discards}
+use Rattle.acts.proofs.Interface.{Kept}
+use Rattle.acts.proofs.Asked.{Uploading}
 
 -- an upload of n more bytes
 pub record Continues (s s′ : Session) (place n : ℕ) : Type 0 where

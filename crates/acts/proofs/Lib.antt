@@ -1,0 +1,5 @@
+pub mod Interface
+pub mod Asked
+pub mod Effects
+pub mod Uploading
+pub mod Acts
