@@ -22,7 +22,8 @@ use Rattle.equation.proofs.Parsing.{taken, judged}
 use Rattle.grammar.specs.Formula.{Formula}
 use Rattle.writing.specs.Text.{textOf, nesting}
 use Rattle.writing.specs.Places.{formulaOf, textAt, nestingAt}
-use Rattle.back.specs.Steps.{Piece, Ready, Room, Wrote, Measured, Accepted}
+use Rattle.writing.specs.Pieces.{Piece}
+use Rattle.back.specs.Steps.{Ready, Room, Wrote, Measured, Accepted}
 use Rattle.back.specs.Answer.{answers, delivered, written, writtenBy, writtenOf}
 use Rattle.back.specs.declared.Place.{Place}
 use Rattle.back.specs.declared.Nesting.{Nesting}

@@ -15,10 +15,11 @@ use Rattle.writing.specs.Text.{relationText}
 use Rattle.writing.specs.Places.{textAt, nestingAt, connectiveText, opening, closing, Stands}
 use Rattle.writing.proofs.Operands.{binds, join-text, join-nesting, connective-length, relation-text, relation-nesting, few-at, lastOf, initOf, split}
 use Rattle.writing.proofs.Operands.{snoc-same, is-relation, Joined, is-join, join-init}
-use Rattle.back.specs.Steps.{bindingOf, Piece, Ready, Room, Wrote, Measured, Accepted}
+use Rattle.writing.specs.Pieces.{Piece}
+use Rattle.back.specs.Steps.{bindingOf, Ready, Room, Wrote, Measured, Accepted}
 use Rattle.back.specs.declared.Place.{Place}
 use Rattle.back.specs.declared.Nesting.{Nesting}
-use Rattle.back.proofs.Pieces.{before}
+use Rattle.writing.proofs.Pieces.{before}
 
 -- ---- the last step
 

@@ -1,28 +1,23 @@
--- What the writer's private functions work on: the steps of an equation (crates/equation) as the symbols of a formula in postfix order, and a piece of
--- text put before a place. Assumes nothing.
+-- What the writer's private functions work on: the steps of an equation (crates/equation) as the symbols of a formula in postfix order. Assumes
+-- nothing.
 use mathlib.Core.Path.{_≡_}
 use mathlib.Core.Bool.{cond}
 use mathlib.Core.List.{List, _++_}
 use Prim.Native.Nat.{ℕ, _+_, _≤_}
 use lib.Dec.{eqb}
 use lib.ListN.{length, take}
-use lib.Seq.{sets}
 use Rattle.equation.specs.Symbols.{Symbol}
 use Rattle.equation.specs.Parsed.{symbolsBy}
 use Rattle.grammar.specs.Formula.{Formula, symbolsOf}
 use Rattle.writing.specs.Text.{textOf}
 use Rattle.writing.specs.Places.{textAt, AllStand}
+use Rattle.writing.specs.Pieces.{Piece}
 use Rattle.back.specs.declared.Place.{Place}
 use Rattle.back.specs.declared.Nesting.{Nesting}
 
 -- how close the connective of a step binds: AND as 1, OR as 0
 unfoldable pub bindingOf : ℕ → ℕ
 bindingOf s = cond (eqb s 2048) 1 0
-
--- a text was put before place n, and begins at place r
-pub record Piece (text : List ℕ) (n : ℕ) (out : List ℕ) (r : ℕ) (now : List ℕ) : Type 0 where
-  pub place : r + length text ≡ n
-  pub bytes : now ≡ sets out r text
 
 -- the first e steps end with those of a formula
 pub record Ready (bytes steps : List ℕ) (e : ℕ) : Type 0 where

@@ -1,4 +1,4 @@
-// An accepted equation written back as on paper (crates/grammar), with the fewest brackets. The layer promises that the text reads back as the same
+// An accepted equation written back as on paper (crates/grammar), with the fewest brackets. It is proved (crates/readback) that the text reads back as the same
 // bytes, that no text with these bytes has fewer pairs of brackets, and that an equation is refused as nested too deep only where every text is.
 // The text is put together from its end, over the steps of the equation (crates/equation), and then moved to the front of the lent output.
 use equation::evaluation::parse;
@@ -28,7 +28,8 @@ ghost use Rattle.grammar.specs.Meaning.{leastWidth, widthOf};
 ghost use Rattle.grammar.specs.Grammar.{itemText, operatorText, characterText, constantText};
 ghost use Rattle.writing.specs.Text.{itemFor, characterFor, numberFor, constantFor, comparisonFor, relationText};
 ghost use Rattle.writing.specs.Places.{nestingAt, connectiveText, opening, closing, quoted, Stands};
-ghost use Rattle.back.specs.Steps.{bindingOf, Piece, Ready, Room, FormulaPut, Measured, Accepted};
+ghost use Rattle.writing.specs.Pieces.{Piece};
+ghost use Rattle.back.specs.Steps.{bindingOf, Ready, Room, FormulaPut, Measured, Accepted};
 ghost use Rattle.back.specs.Answer.{answers, Delivers, Replies, writtenOf};
 
 // How an equation is answered: the number of bytes of its text; refused by 33 or 8; it ends in an end mark; its text would nest deeper than 16; it has

@@ -6,3 +6,4 @@ pub mod Lengths
 pub mod Operands
 pub mod Marks
 pub mod Standing
+pub mod Pieces

@@ -1,6 +1,6 @@
 -- `back::put` meets its contract. Assumes nothing.
 use borrow.Author.Needs.{needs}
-use Rattle.back.proofs.Pieces as pieces
+use Rattle.writing.proofs.Pieces as pieces
 use Rattle.back.proofs.put.Statement.{statement}
 use Rattle.back.proofs.put.Tie as tie
 

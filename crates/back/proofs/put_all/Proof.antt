@@ -1,7 +1,7 @@
 -- `back::put_all` meets its contract. Assumes nothing.
 use native.Mathlib.Omega.{arith}
 use lib.ListN.{drop}
-use Rattle.back.proofs.Pieces as pieces
+use Rattle.writing.proofs.Pieces as pieces
 use Rattle.back.proofs.put_all.Statement.{statement}
 use Rattle.back.proofs.put_all.Tie as tie
 

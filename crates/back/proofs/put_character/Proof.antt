@@ -7,7 +7,7 @@ use lib.ListN.{length}
 use borrow.Author.Needs.{needs}
 use Rattle.numbers.specs.Hex.{hexDigit}
 use Rattle.writing.proofs.Parts as parts
-use Rattle.back.proofs.Pieces as pieces
+use Rattle.writing.proofs.Pieces as pieces
 use Rattle.back.proofs.put_character.Statement.{statement}
 use Rattle.back.proofs.put_character.Tie as tie
 

@@ -2,7 +2,7 @@
 use native.Mathlib.Omega.{arith}
 use lib.ListN.{drop}
 use Rattle.writing.specs.Places.{quoted}
-use Rattle.back.proofs.Pieces as pieces
+use Rattle.writing.proofs.Pieces as pieces
 use Rattle.back.proofs.put_characters.Statement.{statement}
 use Rattle.back.proofs.put_characters.Tie as tie
 

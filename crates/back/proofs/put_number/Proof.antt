@@ -5,7 +5,7 @@ use lib.ListN.{length}
 use borrow.Author.Needs.{needs}
 use Rattle.numbers.specs.Numbers.{number}
 use Rattle.writing.proofs.Parts as parts
-use Rattle.back.proofs.Pieces as pieces
+use Rattle.writing.proofs.Pieces as pieces
 use Rattle.back.proofs.put_number.Statement.{statement}
 use Rattle.back.proofs.put_number.Tie as tie
 

@@ -3,7 +3,7 @@ use mathlib.Core.List.{[], _∷_, _++_}
 use Prim.Native.Nat.{_+_}
 use borrow.Author.Needs.{needs}
 use Rattle.writing.specs.Places.{quoted}
-use Rattle.back.proofs.Pieces as pieces
+use Rattle.writing.proofs.Pieces as pieces
 use Rattle.back.proofs.put_string.Statement.{statement}
 use Rattle.back.proofs.put_string.Tie as tie
 

@@ -64,12 +64,14 @@ loop-again c =
     let a = c .before .before .before .before .before .args in
     let l = c .before .before .before .loop in
     let t = c .before .before .loop-test .taken in
-    let passed = c .before .shares-a-letter in
-    (omega arith, elim (c .if1 .came) [
-      inl y ↦ laws.name-other (a .text .now) (l .k) (l .most) (y .4 .result) (y .1 .result) (y .1 .ensures) t (l .inv .1) (y .4 .ensures) (y .5 .left)
-          (c .if1 .most) (y .7 ∙ y .6 .ensures)
-      | inr y ↦ rw (y .1) (laws.name-passed (a .text .now) (l .k) (l .most) t (l .inv .1) (sym (passed .ensures) ∙ y .0 .left))
-    ])
+    let passed = c .before .shares-a-letter in (
+      omega arith,
+      elim (c .if1 .came) [
+        | inl y ↦ laws.name-other (a .text .now) (l .k) (l .most) (y .4 .result) (y .1 .result) (y .1 .ensures) t (l .inv .1) (y .4 .ensures) (y .5 .left)
+            (c .if1 .most) (y .7 ∙ y .6 .ensures)
+        | inr y ↦ rw (y .1) (laws.name-passed (a .text .now) (l .k) (l .most) t (l .inv .1) (sym (passed .ensures) ∙ y .0 .left))
+      ],
+    )
 
 returns-2 : tie.Need-returns-2 Inv-loop μ-loop
 returns-2 c =

@@ -19,10 +19,10 @@ use Rattle.names.specs.Rows.{rowOf}
 use Rattle.names.specs.declared.table.Row.{Row}
 use Rattle.grammar.specs.Meaning.{widthOf}
 use Rattle.grammar.specs.Grammar.{itemText, operatorText, characterText, constantText}
 use Rattle.writing.specs.Text.{itemFor, characterFor, numberFor, constantFor, comparisonFor, relationText}
 use Rattle.writing.specs.Places.{quoted, Stands}
 use Rattle.writing.proofs.Parts as parts
-use Rattle.back.specs.Steps.{Piece}
+use Rattle.writing.specs.Pieces.{Piece}
 
 -- ---- pieces
 
