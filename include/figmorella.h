@@ -63,7 +63,8 @@ uint8_t figmorella_receive(uint64_t *state, size_t state_len, uint8_t *disk, siz
                            size_t *counts, size_t counts_len, size_t session, uint32_t clock,
                            const uint8_t *input, size_t input_len);
 
-/* What is due on the downlink: one packet, or nothing. Call it whenever the link can send more, until it answers 0. */
+/* What is due on the downlink: the next packet of a download or of a directory, or nothing. Call it whenever the link can send more, until it
+ * answers 0. */
 uint8_t figmorella_request(uint64_t *state, size_t state_len, const uint8_t *disk, size_t disk_len,
                            const uint64_t *map, size_t map_len, const uint16_t *owner, size_t owner_len,
                            const uint32_t *table, size_t table_len, const uint32_t *selected, size_t selected_len,

@@ -113,7 +113,12 @@ class Edit:
         """Why the edit does not fit the sources, or nothing."""
         if not self.changes:
             return "it has no 'old:' and 'new:' pair"
-        for file, old, _ in self.changes:
+        for file, old, new in self.changes:
+            # the kit's own way is narrower than ours
+            if self.in_gate_of_kit and "\n" in f"{old}{new}":
+                return "in must-fail/ a text has one line"
+            if self.in_gate_of_kit and file and not file.startswith(f"crates/{self.crate}/"):
+                return "in must-fail/ an edit changes its own crate alone"
             if not os.path.isfile(os.path.join(ROOT, file or "")):
                 return f"it names no file of the project: {file}"
             if old is None or read(file).count(old) != 1:

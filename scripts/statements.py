@@ -37,12 +37,16 @@ GROUPS = [
     Group(
         "worked", "Passes Computed Plain Demand1 Demand2 Machine Downloads", "Demand1 Demand2",
         "promises/specs/Closing promises/specs/Cut promises/specs/Demand1 promises/specs/Demand2 promises/specs/Feeding promises/specs/Parts"
-        " promises/specs/Requests promises/specs/Uncut refines/specs/Refines steps/specs/Downloads steps/specs/Naming steps/specs/Sound",
+        " promises/specs/Requests promises/specs/Uncut refines/specs/Refines transfers/specs/Downloads steps/specs/Sound",
+    ),
+    Group(
+        "transfers", "AtWork", "DirectoryBegins DirectoryBrings DirectoryEnds DirectoryBreaks",
+        "transfers/specs/Directories steps/specs/Naming steps/specs/Sound",
     ),
     Group("accepted", "AtWork", "EveryTranscript", "accepted/specs/Agreement accepted/specs/Effect steps/specs/Naming"),
     Group(
-        "paging", "Worked Said", "PageAnswer Paging PagingWhole InPieces Examples",
-        "paging/specs/Client paging/specs/Paging paging/specs/Pieces paging/specs/Examples",
+        "paging", "Worked Said", "PageAnswer Paging PagingWhole InPieces TimesInDirectory TimesOfPage Examples",
+        "paging/specs/Client paging/specs/Paging paging/specs/Pieces paging/specs/Directories paging/specs/Examples",
     ),
     Group(
         "demands", "Example AtWork DownloadsAtWork AllAtWork ChangesAtWork", "Demands",

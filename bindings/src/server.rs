@@ -116,7 +116,7 @@ impl Server {
         self.answer(number)
     }
 
-    /// What is due on the downlink: one packet, or nothing.
+    /// What is due on the downlink: the next packet of a download or of a directory, or nothing.
     pub fn request(&mut self, session: usize) -> Answer {
         let number = self.request_number(session);
         self.answer(number)

@@ -1,94 +1,20 @@
 //! A count of what scripts reach: packets sent and received, each refusal with
 //! its ground, each closing rule, and some turns of uploads and downloads.
 
+mod directories;
+mod rows;
+
 use std::collections::BTreeMap;
 use std::io::{self, Write};
 
-use crate::equation::{self, is_number, Comparison, Equation, Relation, Symbol};
+use crate::equation::{is_number, Comparison, Equation, Relation, Symbol};
 use crate::header;
 use crate::packet::{number, Framed, Packet, Type};
 use crate::script::{Call, Watch, LINE_MOST};
 use crate::server::{Answer, Downlink, Server, Session, Uplink};
 use crate::store::blocks_needed;
-
-const SERVERS_OWN: [Type; 9] = [
-    Type::LoginResp,
-    Type::UlGoResp,
-    Type::UlErrorResp,
-    Type::UlAckResp,
-    Type::UlNakResp,
-    Type::DlErrorResp,
-    Type::DlAbortedResp,
-    Type::DlCompletedResp,
-    Type::SelectResp,
-];
-
-/// The rows that do not depend on a list of types or faults.
-const SINGLE_ROWS: [&str; 47] = [
-    "received type 18 to 31",
-    "received in several pieces",
-    "received with bytes behind it",
-    "UL_ERROR_RESP 1, not 8 bytes",
-    "UL_ERROR_RESP 2, length differs",
-    "UL_ERROR_RESP 2, another session is uploading it",
-    "UL_ERROR_RESP 4",
-    "UL_ERROR_RESP 12",
-    "UL_ERROR_RESP 13, blocks",
-    "UL_ERROR_RESP 13, places",
-    "UL_NAK_RESP 16, DATA beyond the length",
-    "UL_NAK_RESP 3, upload times used up",
-    "DL_ERROR_RESP 1, not 9 bytes",
-    "DL_ERROR_RESP 1, DIR_SHORT_CMD",
-    "DL_ERROR_RESP 1, DIR_LONG_CMD",
-    "DL_ERROR_RESP 2",
-    "DL_ERROR_RESP 4",
-    "DL_ERROR_RESP 5",
-    "DL_ERROR_RESP 10",
-    "DL_ERROR_RESP 11",
-    "refused 34, open out of range",
-    "refused 34, open of an open session",
-    "refused 34, drop out of range",
-    "refused 34, drop of a closed session",
-    "refused 34, rx out of range",
-    "refused 34, rx of a closed session",
-    "closed, length above 256",
-    "closed, type 18 to 31",
-    "upload, new",
-    "upload, continued at 0",
-    "upload, continued in the middle",
-    "upload, continued at its end",
-    "upload, DATA of 0 bytes",
-    "upload, DATA stored",
-    "upload, DATA ignored",
-    "upload, DATA_END without an answer",
-    "download, from 0",
-    "download, from the middle",
-    "download, from its end",
-    "download, of number 0",
-    "download, with a lock destination",
-    "download, DL_NAK_CMD on an idle downlink",
-    "download, lost with its link",
-    "select, no file",
-    "select, some files",
-    "line that can't be read",
-    "line too long",
-];
-
-const ENDINGS: [&str; 6] = [
-    "DL_COMPLETED_RESP, destination 0",
-    "DL_COMPLETED_RESP, destination named",
-    "DL_ABORTED_RESP, DL_ACK_CMD not 1 byte",
-    "DL_ABORTED_RESP, no such destination",
-    "DL_ABORTED_RESP, DL_NAK_CMD after DATA_END",
-    "DL_ABORTED_RESP, DL_NAK_CMD before DATA_END",
-];
-
-/// What an accepted SELECT asks of a file with several items of one id.
-const SEVERAL: [&str; 3] = [
-    "select, a relation met by an item that is not the first",
-    "select, a number relation met behind an item of a wrong width",
-    "select, both equal and not equal to one constant",
-];
+use directories::{is_directory, Taker};
+use rows::{rows, ENDINGS, SERVERS_OWN, SEVERAL};
 
 /// What is known of a receive call before it is made.
 struct Heard {
@@ -101,6 +27,8 @@ struct Heard {
     ground: String,
     /// The rows of `SEVERAL` that are reached, should a SELECT be accepted.
     several: Vec<&'static str>,
+    /// The rows that are reached, should a directory be accepted.
+    directory: Vec<String>,
 }
 
 #[derive(Default)]
@@ -109,6 +37,8 @@ pub struct Coverage {
     heard: Option<Heard>,
     /// Why an open, drop or rx would be refused.
     session_ground: &'static str,
+    /// What each session took last from its selection.
+    takers: BTreeMap<u32, Taker>,
 }
 
 fn uplink_name(uplink: Uplink) -> &'static str {
@@ -125,67 +55,8 @@ fn downlink_name(downlink: Downlink) -> &'static str {
         Downlink::Sending { .. } => "Sending",
         Downlink::Ended { .. } => "Ended",
         Downlink::Aborting { .. } => "Aborting",
+        Downlink::Listing { .. } => "Listing",
     }
-}
-
-/// The closings by a packet that is not expected.
-fn unexpected_rows() -> Vec<String> {
-    let mut rows = Vec::new();
-    for own in SERVERS_OWN {
-        rows.push(format!("closed, {} is the server's own", own.name()));
-    }
-    for kind in ["DATA", "DATA_END"] {
-        rows.push(format!("closed, {kind} while Idle"));
-    }
-    for state in ["Receiving", "Ignoring"] {
-        rows.push(format!("closed, DATA_END with information while {state}"));
-        rows.push(format!("closed, UPLOAD_CMD while {state}"));
-    }
-    for kind in [
-        "SELECT_CMD",
-        "DOWNLOAD_CMD",
-        "DIR_SHORT_CMD",
-        "DIR_LONG_CMD",
-    ] {
-        for state in ["Sending", "Ended", "Aborting"] {
-            rows.push(format!("closed, {kind} while {state}"));
-        }
-    }
-    for state in ["Idle", "Sending", "Aborting"] {
-        rows.push(format!("closed, DL_ACK_CMD while {state}"));
-    }
-    for state in ["Idle", "Sending", "Ended", "Aborting"] {
-        rows.push(format!("closed, DL_NAK_CMD with information while {state}"));
-    }
-    rows.push("closed, DL_NAK_CMD while Aborting".to_string());
-    rows
-}
-
-/// All rows of the table.
-fn rows() -> Vec<String> {
-    let mut rows: Vec<String> = SINGLE_ROWS
-        .iter()
-        .chain(&ENDINGS)
-        .chain(&SEVERAL)
-        .map(|row| row.to_string())
-        .collect();
-    rows.extend(unexpected_rows());
-    for kind in Type::ALL {
-        rows.push(format!("received {}", kind.name()));
-    }
-    for kind in SERVERS_OWN.iter().chain(&[Type::Data, Type::DataEnd]) {
-        rows.push(format!("sent {}", kind.name()));
-    }
-    for fault in header::Fault::ALL {
-        rows.push(format!("UL_NAK_RESP {}, {fault:?}", fault.number()));
-    }
-    for fault in equation::Fault::ALL {
-        // These two need more than the 256 bytes that the server accepts.
-        if !matches!(fault, equation::Fault::TooLong | equation::Fault::StackFull) {
-            rows.push(format!("DL_ERROR_RESP 8, {fault:?}"));
-        }
-    }
-    rows
 }
 
 impl Coverage {
@@ -194,6 +65,7 @@ impl Coverage {
             counts: rows().into_iter().map(|row| (row, 0)).collect(),
             heard: None,
             session_ground: "",
+            takers: BTreeMap::new(),
         }
     }
 
@@ -267,6 +139,21 @@ impl Coverage {
         }
     }
 
+    /// Counts what follows a directory or a download, and what a directory
+    /// lets pass.
+    fn take(&mut self, session: u32, answer: &Answer) {
+        let heard = match &self.heard {
+            Some(heard) => heard,
+            None => return,
+        };
+        let before = self.takers.get(&session).copied().unwrap_or_default();
+        let (after, row) = directories::turn(before, heard.downlink, &heard.framed, answer);
+        self.takers.insert(session, after);
+        if let Some(row) = row {
+            self.count(row);
+        }
+    }
+
     fn count_quiet(&mut self, heard: &Heard) {
         let (kind, information) = match &heard.framed {
             Framed::Whole { kind, information } => (kind, information),
@@ -281,6 +168,9 @@ impl Coverage {
             Some(Type::DataEnd) => self.count("upload, DATA_END without an answer"),
             Some(Type::DlNakCmd) => self.count("download, DL_NAK_CMD on an idle downlink"),
             Some(Type::DownloadCmd) => self.count_download(heard, information),
+            Some(Type::DirShortCmd | Type::DirLongCmd) => {
+                heard.directory.iter().for_each(|row| self.count(row))
+            }
             _ => self.count("something without an answer"),
         }
     }
@@ -311,11 +201,11 @@ impl Coverage {
         match packet.kind {
             Type::UlErrorResp | Type::DlErrorResp => {
                 let refusal = packet.information[0];
-                match refusal {
-                    1 | 2 | 8 | 13 if !ground.is_empty() => {
-                        self.count(format!("{name} {refusal}, {ground}"))
-                    }
-                    _ => self.count(format!("{name} {refusal}")),
+                let told = matches!(refusal, 1 | 2 | 8 | 13) || is_directory(asked);
+                if told && !ground.is_empty() {
+                    self.count(format!("{name} {refusal}, {ground}"));
+                } else {
+                    self.count(format!("{name} {refusal}"));
                 }
             }
             Type::UlNakResp => self.count(format!("{name} {}, {ground}", packet.information[0])),
@@ -378,7 +268,9 @@ fn ground(server: &Server, session: &Session, framed: &Framed) -> String {
             Err(fault) => format!("{fault:?}"),
         },
         (Some(Type::DownloadCmd), _) => download_ground(server, session, information),
-        (Some(kind @ (Type::DirShortCmd | Type::DirLongCmd)), _) => kind.name().to_string(),
+        (Some(kind @ (Type::DirShortCmd | Type::DirLongCmd)), _) => {
+            directories::ground(session, kind, information)
+        }
         _ => String::new(),
     }
 }
@@ -525,6 +417,7 @@ impl Watch for Coverage {
                         downlink: session.downlink,
                         ground: ground(server, session, &framed),
                         several: several_rows(server, &framed),
+                        directory: directories::accepted_rows(server, session, &framed),
                         framed,
                     }
                 });
@@ -548,7 +441,10 @@ impl Watch for Coverage {
             self.count(format!("sent {}", packet.kind.name()));
         }
         match call {
-            Call::Receive(_, bytes) => self.receive(answer, bytes.len()),
+            Call::Receive(session, bytes) => {
+                self.take(session, answer);
+                self.receive(answer, bytes.len());
+            }
             Call::Request(_) => match answer {
                 Answer::Sent(_, packet) if packet.kind == Type::DlAbortedResp => {
                     self.count(ENDINGS[5])

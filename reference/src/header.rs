@@ -1,5 +1,6 @@
 //! The PACSAT file header: the walk over its items, the checks at DATA_END in
-//! their order, the destinations, and the fields that the server sets.
+//! their order, the destinations, the entries of directories, and the fields
+//! that the server sets.
 //!
 //! A header is AA 55, then items of id (2 bytes), length (1) and data, then
 //! the end mark 00 00 00.
@@ -124,6 +125,34 @@ pub fn destinations(file: &[u8]) -> usize {
         .iter()
         .filter(|item| item.id == DESTINATION)
         .count()
+}
+
+/// The entry of a file in a long directory: its header's bytes from AA to the
+/// end mark. Of bytes that are no header it is what `items` finds of one.
+pub fn long_entry(file: &[u8]) -> Vec<u8> {
+    let items = items(file);
+    let mut end = match items.last() {
+        Some(last) => last.after(),
+        None if file.starts_with(&MARK) => MARK.len(),
+        None => return Vec::new(),
+    };
+    if let Step::End = step(file, end) {
+        end += ITEM_HEAD;
+    }
+    file[..end].to_vec()
+}
+
+/// The entry of a file in a short directory: AA 55, the mandatory items as
+/// they are stored and in that order, and the end mark.
+pub fn short_entry(file: &[u8]) -> Vec<u8> {
+    let mut entry = MARK.to_vec();
+    for item in items(file) {
+        if LISTED.iter().any(|(id, _)| *id == item.id) {
+            entry.extend(&file[item.at - ITEM_HEAD..item.after()]);
+        }
+    }
+    entry.extend([0; ITEM_HEAD]);
+    entry
 }
 
 /// Why a file is refused at DATA_END.

@@ -1,6 +1,8 @@
 //! The server: sessions over one store, and the four calls that a driver makes
 //! (open, receive, request, lose).
 
+mod directory;
+
 use crate::equation::Equation;
 use crate::header;
 use crate::packet::{number, write, Frame, Framed, Packet, Type, HEAD, SERVER_MOST};
@@ -9,6 +11,8 @@ use crate::refusal::{
     NO_SUCH_FILE, OUT_OF_TABLE, PARTIAL_FILE, SELECTION_EMPTY, SHORT_OUTPUT,
 };
 use crate::store::Store;
+
+pub use directory::ENTRIES;
 
 /// The least room that a lent output must have.
 pub const OUTPUT: usize = HEAD + SERVER_MOST;
@@ -71,6 +75,33 @@ pub enum Downlink {
     /// DATA_END went out early; DL_ABORTED_RESP is due.
     Aborting {
         place: usize,
+    },
+    /// A directory is going out: the bytes sent of all its entries together.
+    Listing {
+        directory: Directory,
+        sent: u32,
+    },
+}
+
+/// What a directory sends.
+#[derive(Clone, Copy, Debug, PartialEq, Eq)]
+pub struct Directory {
+    /// Whole headers rather than their mandatory items.
+    pub long: bool,
+    pub listed: Listed,
+}
+
+/// The files of a directory.
+#[derive(Clone, Copy, Debug, PartialEq, Eq)]
+pub enum Listed {
+    One {
+        place: usize,
+    },
+    /// Those of the selection from one index up to, not including, another.
+    /// The selection stays as it is while they are sent.
+    Selected {
+        first: usize,
+        end: usize,
     },
 }
 
@@ -196,7 +227,7 @@ impl Server {
         }
     }
 
-    /// Asks for the next packet of a download, if one is due.
+    /// Asks for the next packet of a download or directory, if one is due.
     pub fn request(&mut self, session: u32, output: &mut [u8]) -> Answer {
         let index = match self.ready(session, output) {
             Ok(index) => index,
@@ -212,6 +243,9 @@ impl Server {
             Downlink::Aborting { .. } => {
                 let packet = self.end_download(index, Type::DlAbortedResp);
                 deliver(0, packet, output)
+            }
+            Downlink::Listing { directory, sent } => {
+                deliver(0, self.list_on(index, directory, sent), output)
             }
         }
     }
@@ -271,7 +305,8 @@ impl Server {
             Type::DataEnd => self.hear_data_end(index, clock, information),
             Type::SelectCmd => self.hear_select(index, information),
             Type::DownloadCmd => self.hear_download(index, information),
-            Type::DirShortCmd | Type::DirLongCmd => self.hear_directory(index),
+            Type::DirShortCmd => self.hear_directory(index, false, information),
+            Type::DirLongCmd => self.hear_directory(index, true, information),
             Type::DlAckCmd => self.hear_ack(index, information),
             Type::DlNakCmd => self.hear_nak(index, information),
             Type::LoginResp
@@ -456,14 +491,6 @@ impl Server {
         header::destinations(&self.store.contents(place))
     }
 
-    /// Directories are not built.
-    fn hear_directory(&self, index: usize) -> Reply {
-        match self.session(index).downlink {
-            Downlink::Idle => send(Type::DlErrorResp, &[ILL_FORMED_COMMAND]),
-            _ => Reply::Close,
-        }
-    }
-
     fn hear_ack(&mut self, index: usize, information: &[u8]) -> Reply {
         let place = match self.session(index).downlink {
             Downlink::Ended { place } => place,
@@ -490,6 +517,7 @@ impl Server {
             }
             Downlink::Ended { .. } => Reply::Send(self.end_download(index, Type::DlAbortedResp)),
             Downlink::Aborting { .. } => Reply::Close,
+            Downlink::Listing { .. } => Reply::Send(self.end_directory(index)),
         }
     }
 

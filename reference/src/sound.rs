@@ -6,7 +6,7 @@
 //! measurements beside a server that makes this test at each call.
 
 use crate::packet::{announced, HEAD, SERVER_MOST};
-use crate::server::{Downlink, Server, Session, Uplink};
+use crate::server::{Downlink, Listed, Server, Session, Uplink, ENTRIES};
 use crate::store::{blocks_needed, File, Store, BLOCK};
 
 /// The words of the broken fact that was found first.
@@ -48,6 +48,7 @@ impl Server {
             self.downlink_sound(session)?;
             packet_sound(session)?;
             self.selection_sound(session, &complete)?;
+            self.directory_sound(session)?;
         }
         Ok(())
     }
@@ -56,6 +57,7 @@ impl Server {
     pub fn kept(&self) -> Sound {
         let mut uploads: Vec<usize> = Vec::new();
         for session in self.sessions.iter().flatten() {
+            place_kept(session)?;
             if let Uplink::Receiving {
                 place,
                 offset,
@@ -117,7 +119,30 @@ impl Server {
                 let there = complete(place).is_some();
                 fact("a file being aborted is complete", there)
             }
+            // Looked at when the selection is known to be sound.
+            Downlink::Listing { .. } => Ok(()),
         }
+    }
+
+    /// What a directory names is there: a complete file, or selected files.
+    fn directory_sound(&self, session: &Session) -> Sound {
+        let (directory, sent) = match session.downlink {
+            Downlink::Listing { directory, sent } => (directory, sent),
+            _ => return Ok(()),
+        };
+        match directory.listed {
+            Listed::One { place } => {
+                let complete = matches!(self.named(place), Some(file) if file.is_complete());
+                fact("a listed file is complete", complete)?;
+            }
+            Listed::Selected { first, end } => {
+                let within = first <= end && end <= session.selection.numbers.len();
+                fact("listed files are selected", within)?;
+                fact("at most ten files are listed", end - first <= ENTRIES)?;
+            }
+        }
+        let within = sent as usize <= self.entries(session, directory).len();
+        fact("the bytes listed are within the entries", within)
     }
 
     fn selection_sound(&self, session: &Session, complete: &[u32]) -> Sound {
@@ -131,6 +156,19 @@ impl Server {
         let all = selection.numbers.iter().all(is_complete);
         fact("a selected file is complete", all)
     }
+}
+
+/// While selected files are listed, the place in the selection is behind them.
+fn place_kept(session: &Session) -> Sound {
+    let listed = match session.downlink {
+        Downlink::Listing { directory, .. } => directory.listed,
+        _ => return Ok(()),
+    };
+    let behind = match listed {
+        Listed::One { .. } => true,
+        Listed::Selected { end, .. } => end == session.selection.position,
+    };
+    fact("the place is behind the listed files", behind)
 }
 
 /// An unfinished packet is short of its end.

@@ -45,11 +45,21 @@ pub fn uplink(session: &Session) -> String {
 }
 
 pub fn downlink(session: &Session) -> String {
-    match session.down {
+    match &session.down {
         Downlink::Idle => "idle".to_string(),
         Downlink::Sending { file } => format!("sending file {file}"),
         Downlink::Ended { file } => format!("file {file} sent"),
         Downlink::Aborting { file } => format!("breaking off file {file}"),
+        Downlink::Listing {
+            long,
+            files,
+            behind,
+            bytes,
+        } => {
+            let form = if *long { "long" } else { "short" };
+            let listed = words::files(files);
+            format!("listing {listed}, {form}: {behind} sent, {bytes} bytes of the next")
+        }
         Downlink::Other => "busy".to_string(),
     }
 }

@@ -1,9 +1,9 @@
 //! What `passday` prints for a script, in words, beside the lines of the script.
 use std::collections::HashMap;
 
-use crate::header::{self, End};
+use crate::header::{self, End, Item};
 use crate::names::name_of;
-use crate::play::{Event, Play, Step, Upload};
+use crate::play::{Begun, Event, Play, Step, Upload};
 use crate::script::Command;
 use crate::words::{self, Equations, Told};
 
@@ -19,13 +19,18 @@ pub struct Row {
     pub details: Vec<String>,
 }
 
-/// What has come of a session's download so far, from its first byte; none once its header is listed.
-type Downloads = HashMap<u32, Option<Vec<u8>>>;
+/// What the server is sending on a session.
+enum Sending {
+    /// What has come of a download so far, from its first byte; none once its header is listed, or where it does not begin at the first byte.
+    Download(Option<Vec<u8>>),
+    /// The files of a directory whose entries are not told yet, and what has come of the next one.
+    Directory { left: Vec<u32>, bytes: Vec<u8> },
+}
 
 /// Tells the steps of a play one after the other.
 pub struct Teller<'a> {
     pub equations: &'a Equations,
-    downloads: Downloads,
+    sending: HashMap<u32, Sending>,
 }
 
 fn row(session: Option<u32>, way: char, name: &str, words: impl Into<String>) -> Row {
@@ -61,7 +66,7 @@ impl<'a> Teller<'a> {
     pub fn new(equations: &'a Equations) -> Teller<'a> {
         Teller {
             equations,
-            downloads: HashMap::new(),
+            sending: HashMap::new(),
         }
     }
 
@@ -118,13 +123,19 @@ impl<'a> Teller<'a> {
             Event::Heard {
                 packet,
                 upload,
-                download,
+                begun,
             } => {
-                if download.is_some() && packet[6..10] == [0; 4] {
-                    self.downloads.insert(session, Some(Vec::new()));
+                if let Some(begun) = begun {
+                    self.sending.insert(session, sending(begun, packet));
                 }
-                let told = words::heard(packet, upload.as_ref(), *download, self.equations);
-                packet_row(session, '>', told, packet)
+                let told = words::heard(packet, upload.as_ref(), begun.as_ref(), self.equations);
+                let mut row = packet_row(session, '>', told, packet);
+                if let (Some(13), Some(Sending::Directory { .. })) =
+                    (words::kind(packet), self.sending.get(&session))
+                {
+                    row.words = "the directory is not wanted any more".to_string();
+                }
+                row
             }
             Event::Part { packet, new } => {
                 let came = &packet[packet.len() - new..];
@@ -136,11 +147,11 @@ impl<'a> Teller<'a> {
                 row
             }
             Event::Sent(packet) => self.sent(session, packet, heard),
-            Event::Closed => server_row(
-                session,
-                "closed",
-                closed_words(heard.map(|(packet, _)| packet)),
-            ),
+            Event::Closed => {
+                self.sending.remove(&session);
+                let words = closed_words(heard.map(|(packet, _)| packet));
+                server_row(session, "closed", words)
+            }
             Event::Refused(number) => {
                 let words = format!("{number}: {}", words::local_refusal(*number));
                 server_row(session, "refused", &words)
@@ -159,7 +170,7 @@ impl<'a> Teller<'a> {
         let mut row = packet_row(session, '<', words::sent(packet, after), packet);
         match words::kind(packet) {
             Some(0) => row.details = self.listed(session, &packet[2..]),
-            Some(1) => drop(self.downloads.remove(&session)),
+            Some(1) => row.words = end_words(self.sending.remove(&session)).to_string(),
             Some(7) => {
                 if let Some((sent, Some(upload))) = heard {
                     row.details
@@ -171,23 +182,78 @@ impl<'a> Teller<'a> {
         row
     }
 
-    /// The items of a downloaded header, with the DATA that completes it.
+    /// The items of the headers that a DATA completes: the one of a download, or those of a directory.
     fn listed(&mut self, session: u32, data: &[u8]) -> Vec<String> {
-        let collected = match self.downloads.get_mut(&session) {
-            Some(Some(collected)) => collected,
-            _ => return Vec::new(),
-        };
-        collected.extend(data);
-        let (items, end) = header::read(collected);
-        if matches!(end, End::RunsOut(_)) {
-            return Vec::new();
+        match self.sending.get_mut(&session) {
+            Some(Sending::Download(collected)) => downloaded(collected, data),
+            Some(Sending::Directory { left, bytes }) => entries(left, bytes, data),
+            None => Vec::new(),
         }
-        let lines = items
-            .iter()
-            .map(|item| format!("{} {}", name_of(item.id), header::value(item)));
-        let lines = lines.collect();
-        self.downloads.insert(session, None);
-        lines
+    }
+}
+
+/// What is sent after the packet that began it; a download is told where it begins at its first byte.
+fn sending(begun: &Begun, packet: &[u8]) -> Sending {
+    match begun {
+        Begun::Download(_) if packet[6..10] == [0; 4] => Sending::Download(Some(Vec::new())),
+        Begun::Download(_) => Sending::Download(None),
+        Begun::Directory(files) => Sending::Directory {
+            left: files.clone(),
+            bytes: Vec::new(),
+        },
+    }
+}
+
+fn item_lines(items: &[Item]) -> Vec<String> {
+    let line = |item: &Item| format!("{} {}", name_of(item.id), header::value(item));
+    items.iter().map(line).collect()
+}
+
+/// The items of a downloaded header, with the DATA that completes it.
+fn downloaded(collected: &mut Option<Vec<u8>>, data: &[u8]) -> Vec<String> {
+    let bytes = match collected {
+        Some(bytes) => bytes,
+        None => return Vec::new(),
+    };
+    bytes.extend(data);
+    let (items, end) = header::read(bytes);
+    if matches!(end, End::RunsOut(_)) {
+        return Vec::new();
+    }
+    let lines = item_lines(&items);
+    *collected = None;
+    lines
+}
+
+/// The entries that a DATA of a directory completes, each with its items: they run on from one DATA to the next. At the end what has come of
+/// the next one.
+fn entries(left: &mut Vec<u32>, bytes: &mut Vec<u8>, data: &[u8]) -> Vec<String> {
+    let mut lines = Vec::new();
+    bytes.extend(data);
+    while let (false, Some(&file)) = (bytes.is_empty(), left.first()) {
+        let (items, end) = header::read(bytes);
+        let length = match end {
+            End::Whole(length) => length,
+            _ => {
+                let came = words::count(bytes.len(), "byte");
+                lines.push(format!("the entry of file {file}: {came} so far"));
+                break;
+            }
+        };
+        lines.push(format!("the entry of file {file}:"));
+        lines.extend(item_lines(&items).iter().map(|line| format!("  {line}")));
+        left.remove(0);
+        bytes.drain(..length);
+    }
+    lines
+}
+
+/// What a DATA_END of the server ends.
+fn end_words(sending: Option<Sending>) -> &'static str {
+    match sending {
+        Some(Sending::Directory { left, .. }) if left.is_empty() => "the directory is whole",
+        Some(Sending::Directory { .. }) => "the directory is broken off",
+        _ => "",
     }
 }
 

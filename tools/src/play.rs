@@ -27,14 +27,23 @@ pub struct Upload {
     pub bytes: Vec<u8>,
 }
 
+/// What a packet began on the downlink.
+#[derive(Clone, Debug, PartialEq, Eq)]
+pub enum Begun {
+    /// The download of a file.
+    Download(u32),
+    /// The directory of files.
+    Directory(Vec<u32>),
+}
+
 /// What happens in a line, in its order.
 #[derive(Clone, Debug, PartialEq, Eq)]
 pub enum Event {
-    /// A packet came in, with the upload that it belongs to, and the file whose download it began.
+    /// A packet came in, with the upload that it belongs to, and what it began on the downlink.
     Heard {
         packet: Vec<u8>,
         upload: Option<Upload>,
-        download: Option<u32>,
+        begun: Option<Begun>,
     },
     /// The line ends in an unfinished packet, of which so many bytes came in this line.
     Part {
@@ -121,11 +130,11 @@ impl Player {
                 self.events.push(Event::Part { packet, new: taken });
             }
             _ => {
-                let download = self.begun(at, &packet, &answer);
+                let begun = self.begun(at, &packet, &answer);
                 self.events.push(Event::Heard {
                     packet,
                     upload,
-                    download,
+                    begun,
                 });
             }
         }
@@ -149,14 +158,17 @@ impl Player {
         })
     }
 
-    /// The file of a download that this packet began.
-    fn begun(&self, session: usize, packet: &[u8], answer: &Answer) -> Option<u32> {
+    /// The download or directory that this packet began.
+    fn begun(&self, session: usize, packet: &[u8], answer: &Answer) -> Option<Begun> {
         match (
             packet.get(1).map(|byte| byte & 31),
             answer,
             state::downlink(&self.server, session),
         ) {
-            (Some(8), Answer::Quiet(_), Downlink::Sending { file }) => Some(file),
+            (Some(8), Answer::Quiet(_), Downlink::Sending { file }) => Some(Begun::Download(file)),
+            (Some(14 | 15), Answer::Quiet(_), Downlink::Listing { files, .. }) => {
+                Some(Begun::Directory(files))
+            }
             _ => None,
         }
     }

@@ -231,16 +231,28 @@ fn byte(words: &mut Words, wanted: &str) -> Result<u8, Fault> {
     }
 }
 
+/// `directory next short`; with `nak` or `ack` behind it that packet stands in the same line of the script.
 fn directory(words: &mut Words) -> Result<Vec<u8>, Fault> {
     let number = which(words)?;
-    match words.word("short or long")?.as_str() {
-        "short" => Ok(packet(14, &numbered(number, 4))),
-        "long" => Ok(packet(15, &numbered(number, 4))),
-        other => fault(
-            words.column,
-            format!("'{other}' where short or long belongs"),
-        ),
+    let kind = match words.word("short or long")?.as_str() {
+        "short" => 14,
+        "long" => 15,
+        other => {
+            return fault(
+                words.column,
+                format!("'{other}' where short or long belongs"),
+            )
+        }
+    };
+    let mut bytes = packet(kind, &numbered(number, 4));
+    if !words.is_empty() {
+        bytes.extend(match words.word("nak or ack")?.as_str() {
+            "nak" => packet(13, &[]),
+            "ack" => ack(words)?,
+            other => return fault(words.column, format!("'{other}' where nak or ack belongs")),
+        });
     }
+    Ok(bytes)
 }
 
 fn ack(words: &mut Words) -> Result<Vec<u8>, Fault> {

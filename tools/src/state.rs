@@ -23,7 +23,7 @@ pub enum Uplink {
     Ignoring,
 }
 
-#[derive(Clone, Copy, Debug, PartialEq, Eq)]
+#[derive(Clone, Debug, PartialEq, Eq)]
 pub enum Downlink {
     Idle,
     Sending {
@@ -34,6 +34,13 @@ pub enum Downlink {
     },
     Aborting {
         file: u32,
+    },
+    /// A directory: the numbers of its files, how many of them lie behind, and how many bytes of the next one's entry.
+    Listing {
+        long: bool,
+        files: Vec<u32>,
+        behind: usize,
+        bytes: usize,
     },
     /// A case that is not known here.
     Other,
@@ -106,13 +113,32 @@ pub fn receiving(server: &Server, session: usize) -> Option<(u32, u32, u32, usiz
     ))
 }
 
+/// The session's selected files.
+fn selection(server: &Server, session: usize) -> &[u32] {
+    let begin = server.state[3] as usize * (session - 1);
+    &server.selected[begin..begin + word(server, session, 10)]
+}
+
 pub fn downlink(server: &Server, session: usize) -> Downlink {
     let file = record(server, word(server, session, 6), 0);
+    let listing = |long: bool, files: Vec<u32>| Downlink::Listing {
+        long,
+        files,
+        behind: word(server, session, 7),
+        bytes: word(server, session, 8),
+    };
     match word(server, session, 5) {
         0 => Downlink::Idle,
         1 => Downlink::Sending { file },
         2 => Downlink::Ended { file },
         3 => Downlink::Aborting { file },
+        case @ (4 | 5) => listing(case == 5, vec![file]),
+        case @ (6 | 7) => {
+            // those of the selection from one of them up to the next one
+            let (first, next) = (word(server, session, 6), word(server, session, 11));
+            let files = selection(server, session).get(first..next);
+            listing(case == 7, files.unwrap_or_default().to_vec())
+        }
         _ => Downlink::Other,
     }
 }
@@ -139,14 +165,12 @@ fn read_session(server: &Server, session: usize) -> Session {
         (2, None) => Uplink::Ignoring,
         (_, None) => Uplink::Idle,
     };
-    let most = server.state[3] as usize;
-    let begin = most * (session - 1);
     Session {
         linked: word(server, session, 0) == 1,
         up,
         down: downlink(server, session),
         held: held(server, session).to_vec(),
-        selection: server.selected[begin..begin + word(server, session, 10)].to_vec(),
+        selection: selection(server, session).to_vec(),
         taken: word(server, session, 11),
     }
 }

@@ -5,7 +5,7 @@ use std::io;
 use crate::blame::blame;
 use crate::bytes::{number, to_hex};
 use crate::names::packet_name;
-use crate::play::{Event, Play, Upload};
+use crate::play::{Begun, Event, Play, Upload};
 use crate::programs::Home;
 
 /// The equations of a script's SELECTs as text, by their bytes.
@@ -33,6 +33,15 @@ pub fn announced(packet: &[u8]) -> usize {
     match packet {
         [low, second, ..] => usize::from(second >> 5) << 8 | usize::from(*low),
         _ => 0,
+    }
+}
+
+/// file 1; files 1, 2, 3
+pub fn files(numbers: &[u32]) -> String {
+    let listed: Vec<String> = numbers.iter().map(u32::to_string).collect();
+    match numbers.len() {
+        1 => format!("file {}", listed[0]),
+        _ => format!("files {}", listed.join(", ")),
     }
 }
 
@@ -101,7 +110,7 @@ fn equation_words(answer: &str) -> String {
 pub fn heard(
     packet: &[u8],
     upload: Option<&Upload>,
-    download: Option<u32>,
+    begun: Option<&Begun>,
     equations: &Equations,
 ) -> Told {
     let kind = kind(packet).unwrap_or(31);
@@ -118,10 +127,10 @@ pub fn heard(
         0 => data(information, upload),
         1 => upload.map_or(String::new(), |upload| format!("file {} ends", upload.file)),
         3 => upload_command(information),
-        8 => download_command(information, download),
+        8 => download_command(information, begun),
         12 => acknowledged(information),
         13 => "the download did not come well, or is not wanted".to_string(),
-        14 | 15 => directory(information),
+        14 | 15 => directory_command(information, begun),
         16 => equations.get(information).cloned().unwrap_or_default(),
         _ => format!("{length}: not for a station to send"),
     };
@@ -164,13 +173,13 @@ fn upload_command(information: &[u8]) -> String {
     }
 }
 
-fn download_command(information: &[u8], download: Option<u32>) -> String {
+fn download_command(information: &[u8], begun: Option<&Begun>) -> String {
     if let Some(words) = wrong_length(information, 9) {
         return words;
     }
-    let mut words = match (number(information), download) {
-        (0, Some(file)) => format!("the next selected file, which is file {file}"),
-        (0, None) => "the next selected file".to_string(),
+    let mut words = match (number(information), begun) {
+        (0, Some(Begun::Download(file))) => format!("the next selected file, which is file {file}"),
+        (0, _) => "the next selected file".to_string(),
         (file, _) => format!("file {file}"),
     };
     words.push_str(&format!(", from byte {}", number(&information[4..])));
@@ -188,11 +197,17 @@ fn acknowledged(information: &[u8]) -> String {
     }
 }
 
-fn directory(information: &[u8]) -> String {
-    match (wrong_length(information, 4), number(information)) {
-        (Some(words), _) => words,
-        (None, 0) => "the next selected files".to_string(),
-        (None, file) => format!("file {file}"),
+fn directory_command(information: &[u8], begun: Option<&Begun>) -> String {
+    if let Some(words) = wrong_length(information, 4) {
+        return words;
+    }
+    match (number(information), begun) {
+        (0, Some(Begun::Directory(files))) => match files[..] {
+            [file] => format!("the next selected file, which is file {file}"),
+            _ => format!("the next selected files, which are {}", self::files(files)),
+        },
+        (0, _) => "the next selected files".to_string(),
+        (file, _) => format!("file {file}"),
     }
 }
 
@@ -255,7 +270,9 @@ pub fn refusal(number: u8, answer: u8, after: Option<u8>) -> &'static str {
     match (number, answer, after) {
         (1, 5, _) => "UPLOAD_CMD is not 8 bytes long",
         (1, _, Some(8)) => "DOWNLOAD_CMD is not 9 bytes long",
-        (1, ..) => "a wrong length, or a type (14, 15) that is not served",
+        (1, _, Some(14)) => "DIR_SHORT_CMD is not 4 bytes long",
+        (1, _, Some(15)) => "DIR_LONG_CMD is not 4 bytes long",
+        (1, ..) => "a wrong length",
         (2, 5, _) => "continued length differs from the first, or another session is uploading it",
         (2, ..) => "download offset beyond the file's length",
         (3, 7, _) => "upload times are used up",

@@ -3,7 +3,7 @@ use reference::generator;
 use tools::bytes::number;
 use tools::header;
 use tools::names::TITLE;
-use tools::play::{play, Event, Step, Upload, SIZES};
+use tools::play::{play, Begun, Event, Step, Upload, SIZES};
 use tools::script::Command;
 use tools::state::{Downlink, File, Session, State, Uplink};
 
@@ -15,6 +15,8 @@ struct Seen {
     refused: usize,
     selected: usize,
     sent: usize,
+    listed: usize,
+    moved: usize,
     ended: usize,
     parts: usize,
     gone: usize,
@@ -81,13 +83,60 @@ fn uploaded(step: &Step, packet: &[u8], session: &Session, seen: &mut Seen) {
     }
 }
 
+/// The last packet of the step that began a download or a directory, and what the server sent behind it as DATA.
+fn last_begun(step: &Step) -> Option<(&[u8], &Begun, Vec<u8>)> {
+    let begun = |event: &Event| matches!(event, Event::Heard { begun: Some(_), .. });
+    let at = step.events.iter().rposition(begun)?;
+    let mut sent = Vec::new();
+    for event in &step.events[at..] {
+        match event {
+            Event::Sent(packet) if kind(packet) == 0 => sent.extend(&packet[2..]),
+            _ => {}
+        }
+    }
+    match &step.events[at] {
+        Event::Heard {
+            packet,
+            begun: Some(begun),
+            ..
+        } => Some((packet, begun, sent)),
+        _ => None,
+    }
+}
+
+/// A directory that has ended leaves the downlink idle, and its entries are those of the files that it began with, in their order; one of number 0 has
+/// moved the place in the selection behind them.
+fn listed(command: &[u8], files: &[u32], mut sent: &[u8], session: &Session, seen: &mut Seen) {
+    assert_eq!(session.down, Downlink::Idle);
+    let mut entries = Vec::new();
+    while let (items, header::End::Whole(length)) = header::read(sent) {
+        entries.push(number(items[0].data));
+        sent = &sent[length..];
+    }
+    // one that was broken off has fewer
+    assert!(files.starts_with(&entries), "{files:?} {entries:?}");
+    seen.listed += 1;
+    if number(&command[2..]) == 0 {
+        let before = session.taken - files.len();
+        assert_eq!(session.selection[before..session.taken], *files);
+        seen.moved += 1;
+    } else {
+        assert_eq!(files, [number(&command[2..])]);
+    }
+}
+
 /// What the last answer of a step says of its session.
 fn answered(step: &Step, packet: &[u8], session: &Session, seen: &mut Seen) {
     match kind(packet) {
-        1 => {
-            assert!(matches!(session.down, Downlink::Ended { .. }));
-            seen.sent += 1;
-        }
+        1 => match last_begun(step) {
+            Some((command, Begun::Directory(files), sent)) => {
+                listed(command, files, &sent, session, seen)
+            }
+            _ => {
+                assert!(matches!(session.down, Downlink::Ended { .. }));
+                seen.sent += 1;
+            }
+        },
         2 => assert_eq!(
             (session.linked, session.up, session.selection.len()),
             (true, Uplink::Idle, 0)
@@ -161,11 +210,15 @@ fn states_are_what_answers_say() {
         refused,
         selected,
         sent,
+        listed,
+        moved,
         ended,
         parts,
         gone,
     } = seen;
-    let counts = [begun, accepted, refused, selected, sent, ended, parts, gone];
+    let counts = [
+        begun, accepted, refused, selected, sent, listed, moved, ended, parts, gone,
+    ];
     assert!(
         counts.iter().all(|&count| count > 50),
         "too few of a kind: {counts:?}"

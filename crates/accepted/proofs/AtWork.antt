@@ -333,13 +333,11 @@ module _ (every : EveryTranscript) where
 
   -- of two files completed in one second the second one has the later time
   pub times-apart : getD (0 ∷ times (completions (seen-two both))) 1 0 < getD (0 ∷ times (completions (seen-two both))) 2 0
-  times-apart =
-      two both .times .rising 1 2 (omega arith) (omega (arith, ap (λ (cs : List Completion). length (0 ∷ times cs)) two-times))
+  times-apart = two both .times .rising 1 2 (omega arith) (omega (arith, ap (λ (cs : List Completion). length (0 ∷ times cs)) two-times))
 
   -- and the first is above 0
   pub first-above-0 : 0 < getD (0 ∷ times (completions (seen-two both))) 1 0
-  first-above-0 =
-      two both .times .rising 0 1 (omega arith) (omega (arith, ap (λ (cs : List Completion). length (0 ∷ times cs)) two-times))
+  first-above-0 = two both .times .rising 0 1 (omega arith) (omega (arith, ap (λ (cs : List Completion). length (0 ∷ times cs)) two-times))
 
   abbrev completeFirst : File
   completeFirst = file 1 80 (fieldsSet 1 7 smallest) 7

@@ -19,10 +19,10 @@ use Rattle.session.specs.declared.reply.Answer.{Answer}
 use Rattle.session.specs.declared.reply.Answer.the-variants as answer
 use Rattle.session.specs.Reply.{Told, told, tell, sentInfo}
 use Rattle.calls.specs.Call.{Call, login, receive, request, lose}
-use Rattle.model.specs.State.{File, Downlink, noDownload, sending, ended, aborting, Session, closedSession, freshSession, withDown, withHeld}
+use Rattle.model.specs.State.{File, Downlink, noDownload, sending, ended, aborting, listing, Session, closedSession, freshSession, withDown, withHeld}
 use Rattle.model.specs.State.{Model, sessionAt, withSession, inSession, Turn, Stepped, stepped}
 use Rattle.model.specs.Files.{find}
-use Rattle.model.specs.Downlink.{dataDue, onRequest}
+use Rattle.model.specs.Downlink.{dataDue, directoryOf, listingDue, onRequest}
 use Rattle.model.specs.Step.{onPacket, endsIn, onEvent, refusal, unless, step}
 use Rattle.steps.specs.Parts.{sentBy, typeOf}
 use Rattle.steps.specs.Sound.{Sound}
@@ -176,7 +176,7 @@ module _ (m : Model) where
     either false x y f g = g
 
     due-acts : (d : Downlink) → Due (onRequest d m (session - 1) out)
-    unfolding onRequest dataDue tell packetOf sentBy
+    unfolding onRequest dataDue listingDue tell packetOf sentBy
     due-acts noDownload = due-stays (tell reply.Nothing 0 out) (λ m′ e. absurd (omega (arith, e)))
     due-acts (sending n at) = go (find n (m .files))
       where
@@ -189,6 +189,11 @@ module _ (m : Model) where
             (due-moves (tell reply.DataEnd 0 out) (ended n) (λ m′ e. absurd (omega (arith, e))))
     due-acts (ended n) = due-stays (tell reply.Nothing 0 out) (λ m′ e. absurd (omega (arith, e)))
     due-acts (aborting n) = due-moves (tell reply.Aborted 0 out) noDownload (λ m′ e. absurd (omega (arith, e)))
+    due-acts (listing long ns at) =
+        let info = take 256 (drop at (directoryOf long ns (m .files))) in
+        either (ltb at (length (directoryOf long ns (m .files)))) _ _
+        (due-moves (sentInfo 0 info 0 out) (listing long ns (at + length info)) (λ m′. data-offer info 0 out [] m′))
+        (due-moves (tell reply.DataEnd 0 out) noDownload (λ m′ e. absurd (omega (arith, e))))
 
 -- ---- receive
 
@@ -263,8 +268,8 @@ module _ (m : Model) (s : Named m) (sound : Sound m) (bound : m .lastNumber ≤ 
     tells : Tells M i taken out clock kind info t
     tells =
         packet-tells M i inside (ap (λ (k : Session). k .held) own)
-        (down-moves m i there s (withHeld [] (sessionAt m i)) refl (s .down i)) (record { numbers = sound .numbers; room = sound .room }) bound taken out clock
-        info kind
+        (down-moves m i there s (withHeld [] (sessionAt m i)) refl (s .down i) (s .selected i)) (record { numbers = sound .numbers; room = sound .room }) bound
+        taken out clock info kind
 
     answers : Answers taken (tell (t .reply) taken out .answer)
     answers = tell-answers (t .reply) taken out

@@ -48,8 +48,7 @@ number-some n a b t (x ∷ fs) f k e = go (eqb (x .number) n) refl e (number-som
 pub find-below : (n a b t : ℕ) (fs : List File) → Numbers a b t fs → n ≤ a → find n fs ≡ none
 unfolding find
 find-below n a b t [] k h = refl
-find-below n a b t (x ∷ fs) k h =
-    rw (ne-eqb (x .number) n (λ z. omega (arith, k .0))) (find-below n (x .number) b t fs (k .3) (omega (arith, k .0)))
+find-below n a b t (x ∷ fs) k h = rw (ne-eqb (x .number) n (λ z. omega (arith, k .0))) (find-below n (x .number) b t fs (k .3) (omega (arith, k .0)))
 
 -- ---- one of them changed
 

@@ -144,8 +144,7 @@ module _ (held input : List ℕ) (e : Event) (waits : endsIn held ≡ none) (cam
               → (b : Bool) → ltb (length held) (2 + announcedIn held) ≡ b
               → length held ≤ 2 + length (take (announcedIn (held ++ input)) (drop 2 (held ++ input)))
           within h a i true r = omega (arith, ltb-true (length held) (2 + announcedIn held) r)
-          within h a i false r =
-              clash (sym waits ∙ whole-ends held h (omega (arith, w .most)) (ltb-false (length held) (2 + announcedIn held) r))
+          within h a i false r = clash (sym waits ∙ whole-ends held h (omega (arith, w .most)) (ltb-false (length held) (2 + announcedIn held) r))
 
   -- THEOREM: the bytes that the event takes end in it
   pub taken-ends : endsIn (held ++ take (usedBy e - length held) input) ≡ some e

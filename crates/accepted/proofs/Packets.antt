@@ -20,11 +20,12 @@ use Rattle.session.specs.declared.reply.Reply.{Reply}
 use Rattle.session.specs.declared.reply.Reply.the-variants as reply
 use Rattle.session.specs.Reply.{Told, tell}
 use Rattle.decide.specs.Words.{wordAt}
-use Rattle.model.specs.State.{File, file, Uplink, noUpload, receiving, ignoring, Downlink, noDownload, sending, ended, aborting, Session}
+use Rattle.model.specs.State.{File, file, Uplink, noUpload, receiving, ignoring, Downlink, noDownload, sending, ended, aborting, listing, Session}
 use Rattle.model.specs.State.{closedSession, withUp, withDown, withNext, withSelection, Model, model, sessionAt, withSession, Turn, turn, closing}
 use Rattle.model.specs.Files.{find, changed, without, free, uploading, selection}
 use Rattle.model.specs.Uplink.{uploadNew, uploadContinued, onUploadCmd, discarded, grown, dataTo, onData, timeAt, completed, dataEndTo, onDataEnd}
-use Rattle.model.specs.Downlink.{destinationsIn, downloadOf, downloadNumbered, onDownloadCmd, onDirCmd, fewerDestinations, onDlAckCmd, onDlNakCmd, onSelectCmd}
+use Rattle.model.specs.Downlink.{destinationsIn, downloadOf, downloadNumbered, onDownloadCmd, fewerDestinations, onDlAckCmd, onDlNakCmd, nextTen}
+use Rattle.model.specs.Downlink.{directoryOfOne, directoryNumbered, onDirCmd, onSelectCmd}
 use Rattle.model.specs.Step.{ifNoUpload, ifNoDownload, byType, onPacket}
 use Rattle.steps.specs.Parts.{sentBy, typeOf}
 use Rattle.steps.specs.Sound.{Sound}
@@ -112,8 +113,7 @@ module _ (m : Model) (i : ℕ) (there : i < length (m .sessions)) (clear : sessi
     offer : (m′ : Model) → Offer (tell r taken out) info m′
 
   stays : (kind : ℕ) (r : Reply) → Plain kind r → Ok kind (turn r m)
-  stays kind r p =
-      record { effect = no-effect m _ m (p .event) refl refl refl; names = sym (p .named); held = clear; offer = p .offer m }
+  stays kind r p = record { effect = no-effect m _ m (p .event) refl refl refl; names = sym (p .named); held = clear; offer = p .offer m }
 
   moves : (kind : ℕ) (r : Reply) (x : Session) → Plain kind r → x .up ≡ sessionAt m i .up → x .held ≡ sessionAt m i .held
       → Ok kind (turn r (withSession m i x))
@@ -366,16 +366,37 @@ module _ (m : Model) (i : ℕ) (there : i < length (m .sessions)) (clear : sessi
         moves kind _ (withDown noDownload (sessionAt m i))
         (aborts _ (one-of (eqb (length info) 1) (fewerDestinations (find n (m .files)) (getD info 0 0)))) refl refl
     ack-tells (aborting n) = closes kind
+    ack-tells (listing long ns at) = closes kind
+
+    ends : Plain kind reply.DataEnd
+    unfolding tell onAnswer onSent namedBy packetOf sentBy
+    ends = record { event = refl; named = refl; offer = λ m′ e. absurd (omega (arith, e)) }
 
     nak-tells : (d : Downlink) → Ok kind (onDlNakCmd d m i)
-    unfolding onDlNakCmd tell onAnswer onSent namedBy packetOf sentBy
+    unfolding onDlNakCmd
     nak-tells noDownload = stays kind reply.Nothing silent
-    nak-tells (sending n at) =
-        moves kind reply.DataEnd (withDown (aborting n) (sessionAt m i))
-        (record { event = refl; named = refl; offer = λ m′ e. absurd (omega (arith, e)) }) refl refl
-    nak-tells (ended n) =
-        moves kind reply.Aborted (withDown noDownload (sessionAt m i)) (aborts reply.Aborted (inl refl)) refl refl
+    nak-tells (sending n at) = moves kind reply.DataEnd (withDown (aborting n) (sessionAt m i)) ends refl refl
+    nak-tells (ended n) = moves kind reply.Aborted (withDown noDownload (sessionAt m i)) (aborts reply.Aborted (inl refl)) refl refl
     nak-tells (aborting n) = closes kind
+    nak-tells (listing long ns at) = moves kind reply.DataEnd (withDown noDownload (sessionAt m i)) ends refl refl
+
+    one-tells : (f : Option File) (long : Bool) (n : ℕ) → Ok kind (directoryOfOne f m i long n)
+    unfolding directoryOfOne
+    one-tells none long n = refuses 4
+    one-tells (some f) long n =
+        let x = withDown (listing long (n ∷ []) 0) (sessionAt m i) in
+        by kind (eqb (f .time) 0) _ _ (λ _. refuses 11) (λ _. moves kind reply.Nothing x silent refl refl)
+
+    directory-tells : (long : Bool) (k : Session) → Ok kind (onDirCmd long m i k info)
+    unfolding onDirCmd directoryNumbered
+    directory-tells long k =
+        let x = withDown (listing long (nextTen k) 0) (withNext (k .next + length (nextTen k)) (sessionAt m i)) in
+        by kind (eqb (length info) 4) _ _
+        (λ _.
+        by kind (eqb (wordAt info 0) 0) _ _
+        (λ _. by kind (ltb (k .next) (length (k .selected))) _ _ (λ _. moves kind reply.Nothing x silent refl refl) (λ _. refuses 5))
+        (λ _. one-tells _ long _))
+        (λ _. refuses 1)
 
     select-tells : Ok kind (onSelectCmd m i info)
     unfolding onSelectCmd tell onAnswer onSent namedBy packetOf sentBy
@@ -391,6 +412,7 @@ module _ (m : Model) (i : ℕ) (there : i < length (m .sessions)) (clear : sessi
     if-no-download (sending n offset) x f = closes kind
     if-no-download (ended n) x f = closes kind
     if-no-download (aborting n) x f = closes kind
+    if-no-download (listing long ns at) x f = closes kind
 
   if-no-upload : (u : Uplink) (x : Turn) → Ok 3 x → Ok 3 (ifNoUpload u x (closing m i))
   if-no-upload noUpload x f = f
@@ -402,7 +424,7 @@ module _ (m : Model) (i : ℕ) (there : i < length (m .sessions)) (clear : sessi
 
   -- THEOREM
   pub packet-tells : (kind : ℕ) → Ok kind (onPacket m i clock kind info)
-  unfolding byType onDirCmd
+  unfolding byType
   packet-tells kind =
       let d = sessionAt m i .down in
       by kind (eqb kind 0) _ _ (λ e. typed kind 0 _ e (on-data (sessionAt m i .up) refl))
@@ -418,7 +440,7 @@ module _ (m : Model) (i : ℕ) (there : i < length (m .sessions)) (clear : sessi
       (λ _.
       by kind (eqb kind 13) _ _ (λ _. by kind (eqb (length info) 0) _ _ (λ _. nak-tells kind z d) (λ _. closes kind))
       (λ _.
-      by kind (eqb kind 14) _ _ (λ _. if-no-download kind z d _ (refuses kind z 1))
+      by kind (eqb kind 14) _ _ (λ _. if-no-download kind z d _ (directory-tells kind z false (sessionAt m i)))
       (λ _.
-      by kind (eqb kind 15) _ _ (λ _. if-no-download kind z d _ (refuses kind z 1))
+      by kind (eqb kind 15) _ _ (λ _. if-no-download kind z d _ (directory-tells kind z true (sessionAt m i)))
       (λ _. by kind (eqb kind 16) _ _ (λ _. if-no-download kind z d _ (select-tells kind z)) (λ _. closes kind)))))))))

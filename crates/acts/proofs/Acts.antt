@@ -11,6 +11,7 @@ use Rattle.packet.specs.declared.frame.Frame.{Frame}
 use Rattle.session.specs.declared.state.Session.{Session}
 use Rattle.session.specs.declared.state.Uplink.the-variants as up
 use Rattle.session.specs.declared.state.Downlink.the-variants as down
+use Rattle.session.specs.declared.state.Listed.{Listed}
 use Rattle.session.specs.declared.reply.Reply.the-variants.{Nothing, Closing, DataEnd, DownloadError, Aborted, Completed, Selected}
 use Rattle.session.specs.State.{closedSession, withUp, withDown, withNext, withSelection}
 use Rattle.table.specs.Table.{files}
@@ -109,6 +110,10 @@ module _ (s : Session) (m : Mem) (last : Last) (st : Stored m last) (more : List
       turn-acts _ (either-last (ltb (destinationsAt (m .disk) (m .owner) (m .table) place) lock) (turnOf s last (DownloadError 10))
       (turnOf (withDown (withNext s passed) (down.Sending place offset 0)) last Nothing) refl refl)
 
+  list-acts : (listed : Listed) (long : Bool) (passed : ℕ) → Acted s more m last (turned (download.listTurn s last listed long passed) m)
+  unfolding download.listTurn
+  list-acts listed long passed = turn-acts _ refl
+
   confirm-acts : (place destination : ℕ)
       → Acted s more m last (turned (download.confirmTurn s last place destination (m .disk) (m .owner) (m .table)) m)
   unfolding download.confirmTurn
@@ -142,6 +147,7 @@ module _ (s : Session) (m : Mem) (last : Last) (clock most size : ℕ) (info : L
   carried (act.Confirm place destination) h = confirm-acts s m last st (take size info) place destination
   carried (act.End r) h = turn-acts s m last st (take size info) (turnOf (withDown s down.Idle) last r) refl
   carried (act.Abort place) h = turn-acts s m last st (take size info) (turnOf (withDown s (down.Aborting place)) last DataEnd) refl
+  carried (act.List listed long passed) h = list-acts s m last st (take size info) listed long passed
 
 -- ---- the files that an act leaves alone
 

@@ -13,6 +13,7 @@ use Rattle.session.specs.declared.state.Uplink.{Uplink}
 use Rattle.session.specs.declared.state.Uplink.the-variants as up
 use Rattle.session.specs.declared.state.Downlink.{Downlink}
 use Rattle.session.specs.declared.state.Downlink.the-variants as down
+use Rattle.session.specs.declared.state.Listed.the-variants as listed
 use Rattle.session.specs.declared.reply.Reply.the-variants.{DownloadError, UploadError, Aborted}
 use Rattle.session.specs.Expected.{expected}
 use Rattle.table.specs.declared.File.{File}
@@ -23,7 +24,7 @@ use Rattle.decide.specs.declared.act.Act.{Act}
 use Rattle.decide.specs.declared.act.Act.the-variants as act
 use Rattle.decide.specs.Words.{wordAt}
 use Rattle.decide.specs.Uplink.{uploading, onContinued, onUpload, onData, onEnd, onUplink}
-use Rattle.decide.specs.Downlink.{onFound, onNumbered, onDownload, onAck, onNak, onDownlink}
+use Rattle.decide.specs.Downlink.{onFound, onNumbered, onDownload, tenFrom, listFound, listNumbered, onDirectory, onAck, onNak, onDownlink}
 use Rattle.decide.specs.Decide.{onPacket, onFrame, decideOf}
 use Rattle.server.specs.Turns.{sizeIn}
 
@@ -53,6 +54,7 @@ Asked s size fs (act.Send place offset lock passed) = Unit {0}
 Asked s size fs (act.Confirm place destination) = Unit {0}
 Asked s size fs (act.End r) = Unit {0}
 Asked s size fs (act.Abort place) = Unit {0}
+Asked s size fs (act.List listed long passed) = Unit {0}
 
 module _ (s : Session) (size : ℕ) (fs : List File) where
   either : (b : Bool) (x y : Act) → Asked s size fs x → Asked s size fs y → Asked s size fs (cond b x y)
@@ -125,12 +127,32 @@ module _ (s : Session) (size : ℕ) (fs : List File) where
       either (eqb n 9) (onNumbered (wordAt info 0) (wordAt info 4) (getD info 8 0) count next fs selected) (act.Tell (DownloadError 1))
       (on-numbered (wordAt info 0) (wordAt info 4) (getD info 8 0) count next selected) tt
 
+  list-found : (f : Found) (long : Bool) (next : ℕ) → Asked s size fs (listFound f long next fs)
+  unfolding listFound
+  list-found Nothing long next = tt
+  list-found (At place) long next =
+      either (eqb (fileAt fs place .time) 0) (act.Tell (DownloadError 11)) (act.List (listed.One place) long next) tt tt
+
+  list-numbered : (number : ℕ) (long : Bool) (count next : ℕ) → Asked s size fs (listNumbered number long count next fs)
+  unfolding listNumbered
+  list-numbered number long count next =
+      either (eqb number 0) _ (listFound (findOf fs number) long next fs)
+      (either (ltb next count) (act.List (listed.Selected next) long (tenFrom next count)) (act.Tell (DownloadError 5)) tt tt)
+      (list-found (findOf fs number) long next)
+
+  on-directory : (long : Bool) (count next n : ℕ) (info : List ℕ) → Asked s size fs (onDirectory long count next n info fs)
+  unfolding onDirectory
+  on-directory long count next n info =
+      either (eqb n 4) (listNumbered (wordAt info 0) long count next fs) (act.Tell (DownloadError 1))
+      (list-numbered (wordAt info 0) long count next) tt
+
   on-ack : (d : Downlink) (n destination : ℕ) → Asked s size fs (onAck d n destination)
   unfolding onAck
   on-ack down.Idle n destination = tt
   on-ack (down.Sending place offset sent) n destination = tt
   on-ack (down.Ended place) n destination = either (eqb n 1) (act.Confirm place destination) (act.End Aborted) tt tt
   on-ack (down.Aborting place) n destination = tt
+  on-ack (down.Listing listed long done sent) n destination = tt
 
   on-nak : (d : Downlink) → Asked s size fs (onNak d)
   unfolding onNak
@@ -138,6 +160,7 @@ module _ (s : Session) (size : ℕ) (fs : List File) where
   on-nak (down.Sending place offset sent) = tt
   on-nak (down.Ended place) = tt
   on-nak (down.Aborting place) = tt
+  on-nak (down.Listing listed long done sent) = tt
 
   on-downlink : (d : Downlink) (count next kind n : ℕ) (info selected : List ℕ) → Asked s size fs (onDownlink d count next kind n info fs selected)
   unfolding onDownlink
@@ -145,7 +168,9 @@ module _ (s : Session) (size : ℕ) (fs : List File) where
       either (eqb kind 8) (onDownload count next n info fs selected) _ (on-download count next n info selected)
       (either (eqb kind 12) (onAck d n (getD info 0 0)) _ (on-ack d n (getD info 0 0))
       (either (eqb kind 13) (onNak d) _ (on-nak d)
-      (either (eqb kind 16) act.Select (act.Tell (DownloadError 1)) tt tt)))
+      (either (eqb kind 16) act.Select _ tt
+      (either (eqb kind 15) (onDirectory true count next n info fs) (onDirectory false count next n info fs)
+      (on-directory true count next n info) (on-directory false count next n info)))))
 
   -- ---- a packet
 

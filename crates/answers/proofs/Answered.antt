@@ -6,8 +6,8 @@ use Prim.Native.Nat.{ℕ, zero, suc, _+_, _*_, _-_, _/_, _%_, _≤_}
 use native.Mathlib.Omega.{arith}
 use borrow.Author.Tests.{le-ltb, lt-ltb, ltb-true, ltb-false, eqb-true, eqb-false}
 use lib.Dec.{eqb, ltb}
-use lib.ListN.{length, drop, set, getD, replicate, length-append, length-drop, length-replicate}
-use lib.Seq.{getD-set-same, set-out}
+use lib.ListN.{length, take, drop, set, getD, replicate, length-append, length-drop, length-replicate}
+use lib.Seq.{getD-set-same, set-out, length-take-le}
 use Rattle.numbers.specs.Numbers.{two, four}
 use Rattle.packet.specs.Packet.{packetOf}
 use Rattle.blocks.specs.Answers.{readOut, windowNumber}
@@ -29,7 +29,11 @@ use Rattle.server.specs.declared.check.Check.{Check}
 use Rattle.server.specs.declared.check.Check.the-variants.{Go, Refuse}
 use Rattle.server.specs.State.{Lent, lent, Outcome, outcome, doneWith, linkOf, withLink, withTurn, withPart, ownerPart, tablePart}
 use Rattle.server.specs.Check.{fits, checkOf}
-use Rattle.sending.specs.Sending.{Due, leastOf, bytesFrom, dataOf, sendingOf, dueOf}
+use Rattle.session.specs.declared.state.Listed.{Listed}
+use Rattle.listing.specs.declared.Filled.{Filled}
+use Rattle.listing.specs.Listing.{entriesOf, fillOf}
+use Rattle.listing.proofs.FillLaws.{fill-size, fill-whole}
+use Rattle.sending.specs.Sending.{Due, asked, askedOf, leastOf, bytesFrom, dataOf, sendingOf, listedAs, dueOf}
 use Rattle.server.specs.Calls.{onLogin, loginOf, onLose, loseOf, dueAs, onRequest, requestOf, onCheck, receiveOf, loginBy, requestBy, receiveBy, loseBy}
 use Rattle.server.specs.Making.{newServer, makeOf}
 use Rattle.server.proofs.Answering.{isRefused, tell-not, answered-not, due-not}
@@ -275,12 +279,36 @@ module _ (sv : Server) (l : Lent) (session : ℕ) (out : List ℕ) (room : 258 �
       go true = due-data sv′ s place offset sent _ disk owner (least-most (fileAt fs place .size - (offset + sent)))
       go false = due-told sv′ s reply.DataEnd (λ z. let y : _≡_ {A = ℕ} 0 1 = cc in omega arith)
 
-  due : (sv′ : Server) (d : Downlink) (s : Session) (disk owner : List ℕ) (fs : List File) → Fine sv′ (dueOf d s disk owner fs out)
+  due-filled : (sv′ : Server) (s : Session) (t : Listed) (long : Bool) (f : Filled) → f .size ≤ 256 → length (f .bytes) ≡ 256
+      → Fine sv′ (listedAs s t long f out)
+  unfolding listedAs Fine
+  due-filled sv′ s t long f h whole = go (eqb (f .size) 0)
+    where
+      size : length (take (f .size) (f .bytes)) ≡ f .size
+      size = length-take-le (f .size) (f .bytes) (omega (arith, h, whole))
+
+      go : (b : Bool)
+          → Fine sv′
+          (cond b (due-as (withDown s down.Idle) (answered reply.DataEnd 0 out))
+          (asked (askedOf (withDown s (down.Listing t long (f .done) (f .sent))) (answer.Sent 0 (2 + f .size)))
+          (packetOf 0 (take (f .size) (f .bytes)) ++ drop (2 + f .size) out)))
+      go true = due-told sv′ s reply.DataEnd (λ z. let y : _≡_ {A = ℕ} 0 1 = cc in omega arith)
+      go false =
+          sends
+          (sends-packet (request session out) _ 0 0 (take (f .size) (f .bytes)) (omega arith) (omega arith) (omega (arith, size, h)) room
+          (ap (λ (k : ℕ). answer.Sent 0 (2 + k)) (sym size))
+          (ap (λ (k : ℕ). packetOf 0 (take (f .size) (f .bytes)) ++ drop (2 + k) out) (sym size)))
+
+  due : (sv′ : Server) (d : Downlink) (s : Session) (disk owner : List ℕ) (fs : List File) (selected : List ℕ)
+      → Fine sv′ (dueOf d s disk owner fs selected out)
   unfolding dueOf Fine
-  due sv′ down.Idle s disk owner fs = silent (record { taken = 0; within = omega arith; answered = refl; out = refl })
-  due sv′ (down.Sending place offset sent) s disk owner fs = due-sending sv′ s place offset sent disk owner fs
-  due sv′ (down.Ended place) s disk owner fs = silent (record { taken = 0; within = omega arith; answered = refl; out = refl })
-  due sv′ (down.Aborting place) s disk owner fs = due-told sv′ s reply.Aborted (λ z. let y : _≡_ {A = ℕ} 0 1 = cc in omega arith)
+  due sv′ down.Idle s disk owner fs selected = silent (record { taken = 0; within = omega arith; answered = refl; out = refl })
+  due sv′ (down.Sending place offset sent) s disk owner fs selected = due-sending sv′ s place offset sent disk owner fs
+  due sv′ (down.Ended place) s disk owner fs selected = silent (record { taken = 0; within = omega arith; answered = refl; out = refl })
+  due sv′ (down.Aborting place) s disk owner fs selected = due-told sv′ s reply.Aborted (λ z. let y : _≡_ {A = ℕ} 0 1 = cc in omega arith)
+  due sv′ (down.Listing t long done sent) s disk owner fs selected =
+      let es = entriesOf t long (s .next) disk owner fs selected in
+      due-filled sv′ s t long (fillOf es done sent) (fill-size es done sent) (fill-whole es done sent)
 
 requested : (sv : Server) (l : Lent) (session : ℕ) (out : List ℕ) → Answers sv l (request session out) (callOf sv l (request session out))
 unfolding requestOf requestBy onRequest dueAs Fine
@@ -291,7 +319,7 @@ requested sv l session out = go (checkOf sv l session true (length out)) refl
     go (Refuse n) e = refuses (record { number = n; listed = check-refuses sv l session true (length out) n e; same = refl })
     go (Go i) e =
         due sv l session out (check-through sv l session true (length out) i e .room) _ (linkOf sv i .down) (linkOf sv i) (l .disk) (ownerPart sv l)
-        (files (tablePart sv l))
+        (files (tablePart sv l)) _
 
 -- ---- THEOREM: every call has one of the four answers
 
@@ -315,7 +343,7 @@ not-refused sv l (receive session clock input out) i e h = go (steps.receives sv
     go (steps.ends-none f) = ap (λ (o : Outcome). isRefused (o .done .answer)) (f .is)
     go (steps.ends-packet f) = ap (λ (o : Outcome). isRefused (o .done .answer)) (f .is) ∙ tell-not (f .turn .turn .reply) (f .heard .taken) out
 not-refused sv l (request session out) i e h =
-    rw e (due-not (linkOf sv i .down) (linkOf sv i) (l .disk) (ownerPart sv l) (files (tablePart sv l)) out h)
+    rw e (due-not (linkOf sv i .down) (linkOf sv i) (l .disk) (ownerPart sv l) (files (tablePart sv l)) _ out h)
 not-refused sv l (lose session) i e h = rw e
 
 -- ---- THEOREM: the local refusals, in the paper's order

@@ -330,6 +330,8 @@ module _ (s : Session) (last : Last) (clock most size : ℕ) (info : List ℕ) (
   carried a (decided.confirm place destination) f = confirm-carried place destination
   carried a decided.ending f = plain _ refl
   carried a (decided.abort place) f = plain _ refl
+  carried a decided.break-off f = plain _ refl
+  carried a (decided.list l long passed) f = unfold download.listTurn in plain _ refl
 
 -- closing alone
 pub carried-close : (a : Act) (s : Session) (last : Last) (clock most size : ℕ) (info : List ℕ) (m : Mem) → closes a ≡ true

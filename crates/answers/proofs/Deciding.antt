@@ -13,7 +13,7 @@ use Rattle.session.specs.declared.state.Uplink.{Uplink}
 use Rattle.session.specs.declared.state.Uplink.the-variants as up
 use Rattle.session.specs.declared.state.Downlink.{Downlink}
 use Rattle.session.specs.declared.state.Downlink.the-variants as down
-use Rattle.session.specs.declared.reply.Reply.the-variants.{UploadError, DownloadError, Aborted}
+use Rattle.session.specs.declared.reply.Reply.the-variants.{DataEnd, UploadError, DownloadError, Aborted}
 use Rattle.session.specs.Expected.{expected}
 use Rattle.table.specs.declared.File.{File}
 use Rattle.table.specs.declared.Found.{Found}
@@ -21,7 +21,8 @@ use Rattle.table.specs.declared.Found.the-variants.{Nothing, At}
 use Rattle.table.specs.Table.{fileAt, findOf}
 use Rattle.decide.specs.Words.{wordAt}
 use Rattle.decide.specs.Uplink.{uploading, onContinued, onUpload, onData, onEnd, onUplink}
-use Rattle.decide.specs.Downlink.{onFound, onNumbered, onDownload, onAck, onNak, onDownlink}
+use Rattle.decide.specs.Downlink.{onFound, onNumbered, onDownload, listFound, listNumbered, onDirectory, onAck, onNak, onDownlink}
+use Rattle.session.specs.declared.state.Listed.{Listed}
 use Rattle.decide.specs.Decide.{onPacket, onFrame, decideOf}
 use Rattle.decide.specs.declared.act.Act.{Act}
 use Rattle.decide.specs.declared.act.Act.the-variants as act
@@ -52,6 +53,8 @@ pub data Proper (u : Uplink) (size : ℕ) (fs : List File) : Act → Type 0 wher
   confirm : (place destination : ℕ) → Proper u size fs (act.Confirm place destination)
   ending : Proper u size fs (act.End Aborted)
   abort : (place : ℕ) → Proper u size fs (act.Abort place)
+  break-off : Proper u size fs (act.End DataEnd)
+  list : (l : Listed) (long : Bool) (passed : ℕ) → Proper u size fs (act.List l long passed)
 
 module _ (u : Uplink) (size : ℕ) (fs : List File) where
   either : (b : Bool) (x y : Act) → Proper u size fs x → Proper u size fs y → Proper u size fs (cond b x y)
@@ -121,12 +124,26 @@ module _ (u : Uplink) (size : ℕ) (fs : List File) where
   download-proper count next info selected =
       either (eqb size 9) _ _ (numbered-proper (wordAt info 0) (wordAt info 4) (getD info 8 0) count next selected) (download-error 1 refl)
 
+  list-found-proper : (f : Found) (long : Bool) (next : ℕ) → Proper u size fs (listFound f long next fs)
+  unfolding listFound
+  list-found-proper Nothing long next = download-error 4 refl
+  list-found-proper (At place) long next = either (eqb (fileAt fs place .time) 0) _ _ (download-error 11 refl) (list _ long next)
+
+  directory-proper : (long : Bool) (count next : ℕ) (info : List ℕ) → Proper u size fs (onDirectory long count next size info fs)
+  unfolding onDirectory listNumbered
+  directory-proper long count next info =
+      either (eqb size 4) _ _
+      (either (eqb (wordAt info 0) 0) _ _ (either (ltb next count) _ _ (list _ long _) (download-error 5 refl))
+      (list-found-proper (findOf fs (wordAt info 0)) long next))
+      (download-error 1 refl)
+
   ack-proper : (d : Downlink) (destination : ℕ) → Proper u size fs (onAck d size destination)
   unfolding onAck
   ack-proper down.Idle destination = close
   ack-proper (down.Sending place offset sent) destination = close
   ack-proper (down.Ended place) destination = either (eqb size 1) _ _ (confirm place destination) ending
   ack-proper (down.Aborting place) destination = close
+  ack-proper (down.Listing l long done sent) destination = close
 
   nak-proper : (d : Downlink) → Proper u size fs (onNak d)
   unfolding onNak
@@ -134,6 +151,7 @@ module _ (u : Uplink) (size : ℕ) (fs : List File) where
   nak-proper (down.Sending place offset sent) = abort place
   nak-proper (down.Ended place) = ending
   nak-proper (down.Aborting place) = close
+  nak-proper (down.Listing l long done sent) = break-off
 
   downlink-proper : (d : Downlink) (count next kind : ℕ) (info selected : List ℕ)
       → Proper u size fs (onDownlink d count next kind size info fs selected)
@@ -142,7 +160,8 @@ module _ (u : Uplink) (size : ℕ) (fs : List File) where
       either (eqb kind 8) _ _ (download-proper count next info selected)
       (either (eqb kind 12) _ _ (ack-proper d (getD info 0 0))
       (either (eqb kind 13) _ _ (nak-proper d)
-      (either (eqb kind 16) _ _ select (download-error 1 refl))))
+      (either (eqb kind 16) _ _ select
+      (either (eqb kind 15) _ _ (directory-proper true count next info) (directory-proper false count next info)))))
 
 -- ---- a packet, and what the bytes of a link came to
 

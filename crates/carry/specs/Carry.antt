@@ -47,3 +47,4 @@ carryOut (act.Confirm place destination) s last clock most size info m =
     turned (download.confirmTurn s last place destination (m .disk) (m .owner) (m .table)) m
 carryOut (act.End r) s last clock most size info m = turned (turnOf (withDown s down.Idle) last r) m
 carryOut (act.Abort place) s last clock most size info m = turned (turnOf (withDown s (down.Aborting place)) last DataEnd) m
+carryOut (act.List listed long passed) s last clock most size info m = turned (download.listTurn s last listed long passed) m

@@ -1,11 +1,12 @@
 -- The acts of the downlink, and closing (document 01, "Downlink", "Equations", "Lost link"). Assumes nothing.
-use mathlib.Core.Bool.{cond}
+use mathlib.Core.Bool.{Bool, cond}
 use mathlib.Core.List.{List}
 use Prim.Native.Nat.{ℕ}
 use lib.Dec.{eqb, ltb}
 use lib.ListN.{length, take, replicate}
 use Rattle.session.specs.declared.state.Session.{Session}
 use Rattle.session.specs.declared.state.Downlink.the-variants as down
+use Rattle.session.specs.declared.state.Listed.{Listed}
 use Rattle.session.specs.declared.reply.Reply.the-variants.{Nothing, Closing, DownloadError, Aborted, Completed, Selected}
 use Rattle.session.specs.State.{closedSession, withDown, withNext, withSelection}
 use Rattle.files.specs.Completion.{destinationsAt}
@@ -35,6 +36,10 @@ unfoldable pub beginTurn : Session → Last → ℕ → ℕ → ℕ → ℕ → 
 beginTurn s last place offset lock passed disk owner table =
     cond (ltb (destinationsAt disk owner table place) lock) (turnOf s last (DownloadError 10))
     (turnOf (withDown (withNext s passed) (down.Sending place offset 0)) last Nothing)
+
+-- a directory: "An accepted directory of number 0 moves the same place in the selection that downloads move, past every file it sends."
+unfoldable pub listTurn : Session → Last → Listed → Bool → ℕ → Turn
+listTurn s last listed long passed = turnOf (withDown (withNext s passed) (down.Listing listed long 0 0)) last Nothing
 
 -- "DL_ACK_CMD gets DL_COMPLETED_RESP, or DL_ABORTED_RESP if its destination number is not zero and the file has fewer destinations."
 unfoldable pub confirmTurn : Session → Last → ℕ → ℕ → List ℕ → List ℕ → List ℕ → Turn

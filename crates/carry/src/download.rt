@@ -5,11 +5,12 @@ use crate::turn::downlink_only;
 use crate::turn::reply_only;
 use session::reply::Reply;
 use session::state::Downlink;
+use session::state::Listed;
 use session::state::Session;
 ghost use mathlib.Core.Path.{_≡_};
 ghost use lib.ListN.{length, replicate};
 ghost use Rattle.carry.specs.Turn.{chooses};
-ghost use Rattle.carry.specs.Download.{closeTurn, selectTurn, beginTurn, confirmTurn};
+ghost use Rattle.carry.specs.Download.{closeTurn, selectTurn, beginTurn, listTurn, confirmTurn};
 
 // Forgets a selection.
 pub fn forget(selected: &mut [u32])
@@ -77,6 +78,20 @@ pub(crate) fn begin(
     let down = Downlink::Sending {
         place: place,
         offset: offset,
+        sent: 0,
+    };
+    downlink_only(moved, last, down, Reply::Nothing)
+}
+
+// DIR_SHORT_CMD or DIR_LONG_CMD of complete files: the directory begins, and `passed` selected files lie behind it.
+pub(crate) fn list(s: Session, last: Last, listed: Listed, long: bool, passed: usize) -> Turn
+    ensures { λ r. ⌜ r ≡ listTurn s last listed long passed ⌝ }
+{
+    let moved = session::state::with_next(s, passed);
+    let down = Downlink::Listing {
+        listed: listed,
+        long: long,
+        done: 0,
         sent: 0,
     };
     downlink_only(moved, last, down, Reply::Nothing)

@@ -90,5 +90,6 @@ pub fn carry_out(
             Downlink::Aborting { place: place },
             Reply::DataEnd,
         ),
+        Act::List(listed, long, passed) => download::list(s, last, listed, long, passed),
     }
 }

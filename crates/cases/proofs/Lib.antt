@@ -3,6 +3,7 @@ pub mod Numbered
 pub mod Lost
 pub mod Pages
 pub mod Downloads
+pub mod Directories
 pub mod Refusals
 pub mod Addressed
 pub mod Passes

@@ -7,6 +7,7 @@ use Rattle.text.specs.Match as text-match
 use Rattle.header.specs.Items as header-items
 use Rattle.header.specs.Header as header-header
 use Rattle.header.specs.Fields as header-fields
+use Rattle.header.specs.Entries as header-entries
 use Rattle.equation.specs.Relation as equation-relation
 use Rattle.equation.specs.Symbols as equation-symbols
 use Rattle.equation.specs.Tree as equation-tree
@@ -22,15 +23,17 @@ use Rattle.cases.specs.Packets as packets
 
 unfoldable pub computing : ℕ
 unfolding
-    pass.said pass.heard pass.left packets.fileWith packets.completeAs files.find files.changed files.without files.reserved files.uploading files.matching files.placed
-    files.byTime uplink.uploadNew uplink.uploadContinued uplink.onUploadCmd uplink.dataTo uplink.onData uplink.dataEndTo uplink.onDataEnd
-    downlink.destinationsIn downlink.downloadOf downlink.downloadNumbered downlink.onDownloadCmd downlink.dataDue downlink.onRequest
-    downlink.fewerDestinations downlink.onDlAckCmd downlink.onDlNakCmd downlink.onDirCmd downlink.onSelectCmd machine.byType machine.endsIn
-    machine.onEvent machine.refusal machine.unless machine.step byte-numbers.number hex.hexDigit packet-packet.packetOf session-reply.tell
+    pass.said pass.heard pass.left packets.fileWith packets.completeAs packets.landroverAs packets.landroverShort
+    files.find files.changed files.without files.reserved files.uploading files.matching files.placed files.byTime
+    uplink.uploadNew uplink.uploadContinued uplink.onUploadCmd uplink.dataTo uplink.onData uplink.dataEndTo uplink.onDataEnd
+    downlink.destinationsIn downlink.downloadOf downlink.downloadNumbered downlink.onDownloadCmd downlink.dataDue downlink.listingDue downlink.onRequest
+    downlink.fewerDestinations downlink.onDlAckCmd downlink.onDlNakCmd downlink.directoryOfOne downlink.directoryNumbered downlink.onDirCmd
+    downlink.onSelectCmd machine.byType machine.endsIn machine.onEvent machine.refusal machine.unless machine.step byte-numbers.number hex.hexDigit packet-packet.packetOf session-reply.tell
     header-items.headOf header-items.after header-items.walk header-items.marked header-items.fieldsOf header-header.listed
     header-header.every header-header.countIf header-header.bytesOf header-header.lengthIn header-header.lengthFits header-header.ordered
     header-header.proper header-header.complete header-header.sumOf header-header.checkItems header-header.checkValues header-header.verdict
     header-header.placeFrom header-fields.withFields header-fields.withSum header-fields.fieldsSet
+    header-entries.itemsBytes header-entries.mandatory header-entries.entryOf header-entries.runningOn
     equation-symbols.starsIn equation-symbols.goodText equation-symbols.goodNumber equation-symbols.good
     equation-symbols.connectiveOf equation-symbols.relationAt equation-symbols.tokenOf equation-symbols.follow equation-symbols.symbolsPast
     equation-tree.pushed equation-tree.joined equation-tree.result equation-tree.bind equation-tree.run equation-tree.parse equation-answer.refusal

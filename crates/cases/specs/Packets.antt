@@ -20,13 +20,18 @@ fileWith offset sum items body =
 abbrev pub smallest : List ℕ
 smallest = fileWith 80 538 [] []
 
--- the same when it is complete, with a number, an upload time (both below 10), the name that the time makes and the sum that they make
-unfoldable pub completeAs : ℕ → ℕ → List ℕ
-completeAs number time =
+-- AA 55 and the mandatory items of such a file when it is complete and has no body: its length (below 256), the sum of its header, a number, an upload
+-- time (both below 10), and the name that the time makes
+abbrev pub mandatoryAs : ℕ → ℕ → ℕ → ℕ → List ℕ
+mandatoryAs size sum number time =
     170 ∷ 85 ∷ 1 ∷ 0 ∷ 4 ∷ number ∷ 0 ∷ 0 ∷ 0 ∷ 2 ∷ 0 ∷ 8 ∷ 48 ∷ 48 ∷ 48 ∷ 48 ∷ 48 ∷ 48 ∷ 48 ∷ (48 + time) ∷ 3 ∷ 0 ∷ 3 ∷ 0 ∷ 0 ∷ 0
-    ∷ 4 ∷ 0 ∷ 4 ∷ 80 ∷ 0 ∷ 0 ∷ 0 ∷ 5 ∷ 0 ∷ 4 ∷ 0 ∷ 0 ∷ 0 ∷ 0 ∷ 6 ∷ 0 ∷ 4 ∷ time ∷ 0 ∷ 0 ∷ 0 ∷ 7 ∷ 0 ∷ 1 ∷ 0 ∷ 8 ∷ 0 ∷ 1 ∷ 0
-    ∷ 9 ∷ 0 ∷ 2 ∷ 0 ∷ 0 ∷ 10 ∷ 0 ∷ 2 ∷ two (922 + number + time + time + time)
-    ++ 11 ∷ 0 ∷ 2 ∷ 80 ∷ 0 ∷ 18 ∷ 0 ∷ 4 ∷ time ∷ 0 ∷ 0 ∷ 0 ∷ 0 ∷ 0 ∷ 0 ∷ []
+    ∷ 4 ∷ 0 ∷ 4 ∷ size ∷ 0 ∷ 0 ∷ 0 ∷ 5 ∷ 0 ∷ 4 ∷ 0 ∷ 0 ∷ 0 ∷ 0 ∷ 6 ∷ 0 ∷ 4 ∷ time ∷ 0 ∷ 0 ∷ 0 ∷ 7 ∷ 0 ∷ 1 ∷ 0 ∷ 8 ∷ 0 ∷ 1 ∷ 0
+    ∷ 9 ∷ 0 ∷ 2 ∷ 0 ∷ 0 ∷ 10 ∷ 0 ∷ 2 ∷ two sum
+    ++ 11 ∷ 0 ∷ 2 ∷ size ∷ 0 ∷ 18 ∷ 0 ∷ 4 ∷ time ∷ 0 ∷ 0 ∷ 0 ∷ []
+
+-- the smallest file when it is complete, with the sum that its number and time make
+unfoldable pub completeAs : ℕ → ℕ → List ℕ
+completeAs number time = mandatoryAs 80 (922 + number + time + time + time) number time ++ 0 ∷ 0 ∷ 0 ∷ []
 
 -- a title (22h), and the file of 92 bytes with the title "Landrover" and that of 83 bytes with an empty one
 abbrev pub titled : List ℕ → List ℕ
@@ -44,6 +49,14 @@ addressed station = 20 ∷ 0 ∷ length station ∷ station
 
 abbrev pub letter : List ℕ
 letter = fileWith 88 727 (addressed (65 ∷ []) ++ addressed (66 ∷ [])) []
+
+-- the file with the title "Landrover" when it is complete, and its short directory entry: the mandatory items as stored, and the end mark
+unfoldable pub landroverAs : ℕ → ℕ → List ℕ
+landroverAs number time =
+    mandatoryAs 92 (1930 + number + time + time + time) number time ++ titled (76 ∷ 97 ∷ 110 ∷ 100 ∷ 114 ∷ 111 ∷ 118 ∷ 101 ∷ 114 ∷ []) ++ 0 ∷ 0 ∷ 0 ∷ []
+
+unfoldable pub landroverShort : ℕ → ℕ → List ℕ
+landroverShort number time = mandatoryAs 92 (1930 + number + time + time + time) number time ++ 0 ∷ 0 ∷ 0 ∷ []
 
 -- ---- packets
 
@@ -67,6 +80,13 @@ ack destination = packetOf 12 (destination ∷ [])
 
 abbrev pub nak : List ℕ
 nak = packetOf 13 []
+
+-- DIR_SHORT_CMD, DIR_LONG_CMD: a file number, or 0 for the next files selected
+abbrev pub dirShort : ℕ → List ℕ
+dirShort number = packetOf 14 (four number)
+
+abbrev pub dirLong : ℕ → List ℕ
+dirLong number = packetOf 15 (four number)
 
 -- SELECT_CMD: an equation
 abbrev pub select : List ℕ → List ℕ

@@ -141,6 +141,7 @@ module _ (s : Session) (last : Last) (e : s .held ≡ 0) where
       unfold download.confirmTurn in either (ltb (destinationsAt (m .disk) (m .owner) (m .table) place) destination) _ _ e e
   carried-zero (act.End r) clock most size info m = e
   carried-zero (act.Abort place) clock most size info m = e
+  carried-zero (act.List t long passed) clock most size info m = unfold download.listTurn in e
 
 module _ (sv : Server) (l : Lent) (session clock : ℕ) (input out : List ℕ) (i : ℕ) (t : Through sv l session true (length out) i) where
   turn-zero : (e : Ended (part (i * 258) 258 (l .held)) (linkOf sv i .held) input) → Zero (steps.turnAt sv l session clock input out i t e .turn)

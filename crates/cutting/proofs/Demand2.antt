@@ -19,8 +19,11 @@ use Rattle.cutting.proofs.Uncut.{uncut-same}
 use Rattle.cutting.proofs.Earlier.{lent-earlier}
 use Rattle.cutting.proofs.Feeding.{enough-calls, pieces-elsewhere}
 use Rattle.cutting.proofs.Requests.{nothing-due}
-use Rattle.steps.proofs.Downloads.{download-brings, download-ends}
-use Rattle.steps.proofs.Begins.{download-begins}
+use Rattle.transfers.proofs.Downloads.{download-brings, download-ends}
+use Rattle.transfers.proofs.Begins.{download-begins}
+use Rattle.transfers.proofs.Listed.{directory-begins}
+use Rattle.transfers.proofs.Directories.{directory-brings, directory-ends}
+use Rattle.transfers.proofs.Broken.{directory-breaks}
 
 -- THEOREM: what the writer leaves reads back
 pub every-written-reads-back : WrittenReadsBack
@@ -69,6 +72,10 @@ demand-2 =
       download-begins = download-begins;
       download = download-brings;
       download-ends = download-ends;
+      directory-begins = directory-begins;
+      directory = directory-brings;
+      directory-ends = directory-ends;
+      directory-breaks = directory-breaks;
       closing = every-closing;
       closing-is-losing = closing-is-losing;
       cut = cut-elsewhere;

@@ -216,7 +216,7 @@ module _ (sv : Server) (l : Lent) (i n : ℕ) (p : List ℕ) (good : Good sv l) 
       (link-comm sv i j n (due (linkOf sv j) .asked .session) (d j refl))
     where
       due : Session → Due
-      due s = dueOf (s .down) s (l .disk) (ownerPart sv l) (files (tablePart sv l)) out
+      due s = dueOf (s .down) s (l .disk) (ownerPart sv l) (files (tablePart sv l)) (part (j * sv .most) (sv .most) (l .selected)) out
 
   lose-moved : (k : Check) → ((j : ℕ) → k ≡ Go j → i ≡ j → ⊥) → ((j : ℕ) → k ≡ Go j → j * 258 + 258 ≤ length (l .held))
       → outcome (onLose k (hold sv i n) (l .selected) (keep l i p .held) .done)

@@ -5,7 +5,7 @@ use mathlib.Core.Bool.{Bool, true, false, cond}
 use mathlib.Core.List.{List}
 use Prim.Native.Nat.{ℕ, _+_, _*_, _<_}
 use native.Mathlib.Omega.{arith}
-use lib.Dec.{ltb}
+use lib.Dec.{ltb, eqb}
 use lib.ListN.{length, set, replicate}
 use lib.Seq.{getD-set-same, set-set}
 use Rattle.session.specs.declared.state.Session.{Session}
@@ -19,7 +19,8 @@ use Rattle.server.specs.declared.check.Check.{Check}
 use Rattle.server.specs.declared.check.Check.the-variants.{Go, Refuse}
 use Rattle.server.specs.State.{Lent, outcome, doneWith, linkOf, withLink, part, ownerPart, tablePart}
 use Rattle.server.specs.Check.{checkOf}
-use Rattle.sending.specs.Sending.{Due, asked, askedOf, dataOf, sendingOf, dueOf}
+use Rattle.listing.specs.Listing.{entriesOf, fillOf}
+use Rattle.sending.specs.Sending.{Due, asked, askedOf, dataOf, sendingOf, listedAs, dueOf}
 use Rattle.server.specs.Calls.{onLose, loseOf, dueAs, onRequest, requestOf, requestBy, loseBy}
 use Rattle.history.specs.Calls.{Call, request, lose, callOf}
 use Rattle.history.specs.Good.{Good}
@@ -55,14 +56,16 @@ due-cond : (t : Bool) (n : ℕ) (a b a′ b′ : Due) → a′ ≡ heldIn n a �
 due-cond true n a b a′ b′ e f = e
 due-cond false n a b a′ b′ e f = f
 
-due-held : (d : Downlink) (s : Session) (n : ℕ) (disk owner : List ℕ) (fs : List File) (out : List ℕ)
-    → dueOf d (withHeld s n) disk owner fs out ≡ heldIn n (dueOf d s disk owner fs out)
-unfolding dueOf sendingOf dataOf
-due-held down.Idle s n disk owner fs out = refl
-due-held (down.Sending place offset sent) s n disk owner fs out =
+due-held : (d : Downlink) (s : Session) (n : ℕ) (disk owner : List ℕ) (fs : List File) (selected out : List ℕ)
+    → dueOf d (withHeld s n) disk owner fs selected out ≡ heldIn n (dueOf d s disk owner fs selected out)
+unfolding dueOf sendingOf dataOf listedAs
+due-held down.Idle s n disk owner fs selected out = refl
+due-held (down.Sending place offset sent) s n disk owner fs selected out =
     due-cond (ltb (offset + sent) (fileAt fs place .size)) n _ _ _ _ refl refl
-due-held (down.Ended place) s n disk owner fs out = refl
-due-held (down.Aborting place) s n disk owner fs out = refl
+due-held (down.Ended place) s n disk owner fs selected out = refl
+due-held (down.Aborting place) s n disk owner fs selected out = refl
+due-held (down.Listing t long done sent) s n disk owner fs selected out =
+    due-cond (eqb (fillOf (entriesOf t long (s .next) disk owner fs selected) done sent .size) 0) n _ _ _ _ refl refl
 
 -- the session stays open and holds what it held
 record Stays (s t : Session) : Type 0 where
@@ -73,20 +76,24 @@ stays-cond : (t : Bool) (s : Session) (a b : Due) → Stays s (a .asked .session
 stays-cond true s a b e f = e
 stays-cond false s a b e f = f
 
-due-stays : (d : Downlink) (s : Session) (disk owner : List ℕ) (fs : List File) (out : List ℕ)
-    → Stays s (dueOf d s disk owner fs out .asked .session)
-unfolding dueOf sendingOf dataOf
-due-stays down.Idle s disk owner fs out = record { linked = refl; held = refl }
-due-stays (down.Sending place offset sent) s disk owner fs out =
+due-stays : (d : Downlink) (s : Session) (disk owner : List ℕ) (fs : List File) (selected out : List ℕ)
+    → Stays s (dueOf d s disk owner fs selected out .asked .session)
+unfolding dueOf sendingOf dataOf listedAs
+due-stays down.Idle s disk owner fs selected out = record { linked = refl; held = refl }
+due-stays (down.Sending place offset sent) s disk owner fs selected out =
     stays-cond (ltb (offset + sent) (fileAt fs place .size)) s _ _ (record { linked = refl; held = refl }) (record { linked = refl; held = refl })
-due-stays (down.Ended place) s disk owner fs out = record { linked = refl; held = refl }
-due-stays (down.Aborting place) s disk owner fs out = record { linked = refl; held = refl }
+due-stays (down.Ended place) s disk owner fs selected out = record { linked = refl; held = refl }
+due-stays (down.Aborting place) s disk owner fs selected out = record { linked = refl; held = refl }
+due-stays (down.Listing t long done sent) s disk owner fs selected out =
+    stays-cond (eqb (fillOf (entriesOf t long (s .next) disk owner fs selected) done sent .size) 0) s _ _ (record { linked = refl; held = refl })
+    (record { linked = refl; held = refl })
 
 -- ---- a request of the session itself
 
 module _ (sv : Server) (l : Lent) (good : Good sv l) (i : ℕ) where
-  abbrev due : List ℕ → Session → Due
-  due out s = dueOf (s .down) s (l .disk) (ownerPart sv l) (files (tablePart sv l)) out
+  -- what is due to session k, counted from 0, in this state
+  abbrev due : ℕ → List ℕ → Session → Due
+  due k out s = dueOf (s .down) s (l .disk) (ownerPart sv l) (files (tablePart sv l)) (part (k * sv .most) (sv .most) (l .selected)) out
 
   -- a call that goes through goes to a session that is there
   goes : (session : ℕ) (room : ℕ) (j : ℕ) → session ≡ i + 1 → checkOf sv l session true room ≡ Go j → (j ≡ i) × (i < length (sv .links))
@@ -109,10 +116,10 @@ module _ (sv : Server) (l : Lent) (good : Good sv l) (i : ℕ) where
   request-stays (Refuse m) out h = record { linked = refl; held = refl }
   request-stays (Go j) out h =
       let p = h j refl in
-      subst (λ (k : ℕ). Stays (linkOf sv i) (linkOf (withLink sv k (due out (linkOf sv k) .asked .session)) i)) (sym (p .0))
+      subst (λ (k : ℕ). Stays (linkOf sv i) (linkOf (withLink sv k (due k out (linkOf sv k) .asked .session)) i)) (sym (p .0))
       (subst (λ (t : Session). Stays (linkOf sv i) t)
-      (sym (getD-set-same (sv .links) i (due out (linkOf sv i) .asked .session) closedSession (p .1)))
-      (due-stays (linkOf sv i .down) (linkOf sv i) (l .disk) (ownerPart sv l) (files (tablePart sv l)) out))
+      (sym (getD-set-same (sv .links) i (due i out (linkOf sv i) .asked .session) closedSession (p .1)))
+      (due-stays (linkOf sv i .down) (linkOf sv i) (l .disk) (ownerPart sv l) (files (tablePart sv l)) (part (i * sv .most) (sv .most) (l .selected)) out))
 
   request-moved : (k : Check) (out : List ℕ) (n : ℕ) (p : List ℕ) → ((j : ℕ) → k ≡ Go j → (j ≡ i) × (i < length (sv .links)))
       → outcome (onRequest k (hold sv i n) (keep l i p) out .done) (keep l i p) (onRequest k (hold sv i n) (keep l i p) out .out)
@@ -124,23 +131,23 @@ module _ (sv : Server) (l : Lent) (good : Good sv l) (i : ℕ) where
       Moved : ℕ → Type 0
       Moved k =
           outcome
-          (doneWith (withLink (hold sv i n) k (due out (linkOf (hold sv i n) k) .asked .session)) (due out (linkOf (hold sv i n) k) .asked .answer))
-          (keep l i p) (due out (linkOf (hold sv i n) k) .out)
+          (doneWith (withLink (hold sv i n) k (due k out (linkOf (hold sv i n) k) .asked .session)) (due k out (linkOf (hold sv i n) k) .asked .answer))
+          (keep l i p) (due k out (linkOf (hold sv i n) k) .out)
           ≡ moved i n p
-          (outcome (doneWith (withLink sv k (due out (linkOf sv k) .asked .session)) (due out (linkOf sv k) .asked .answer)) l
-          (due out (linkOf sv k) .out))
+          (outcome (doneWith (withLink sv k (due k out (linkOf sv k) .asked .session)) (due k out (linkOf sv k) .asked .answer)) l
+          (due k out (linkOf sv k) .out))
 
       here : i < length (sv .links) → Moved i
       here below =
           ap
           (λ (s : Session).
-          outcome (doneWith (withLink (hold sv i n) i (due out s .asked .session)) (due out s .asked .answer)) (keep l i p) (due out s .out))
+          outcome (doneWith (withLink (hold sv i n) i (due i out s .asked .session)) (due i out s .asked .answer)) (keep l i p) (due i out s .out))
           (hold-own sv i n below)
           ∙ ap
           (λ (d : Due). outcome (doneWith (withLink (hold sv i n) i (d .asked .session)) (d .asked .answer)) (keep l i p) (d .out))
-          (due-held (linkOf sv i .down) (linkOf sv i) n (l .disk) (ownerPart sv l) (files (tablePart sv l)) out)
-          ∙ ap (λ (x : Server). outcome (doneWith x (due out (linkOf sv i) .asked .answer)) (keep l i p) (due out (linkOf sv i) .out))
-          (own-comm n (due out (linkOf sv i) .asked .session) below)
+          (due-held (linkOf sv i .down) (linkOf sv i) n (l .disk) (ownerPart sv l) (files (tablePart sv l)) (part (i * sv .most) (sv .most) (l .selected)) out)
+          ∙ ap (λ (x : Server). outcome (doneWith x (due i out (linkOf sv i) .asked .answer)) (keep l i p) (due i out (linkOf sv i) .out))
+          (own-comm n (due i out (linkOf sv i) .asked .session) below)
 
   pub request-free : (session : ℕ) (out : List ℕ) → session ≡ i + 1 → Free sv l (request session out) i
   unfolding requestOf requestBy

@@ -22,7 +22,7 @@ use Rattle.table.specs.declared.Found.the-variants.{Nothing, At}
 use Rattle.table.specs.Table.{fileAt, findOf}
 use Rattle.decide.specs.Words.{wordAt}
 use Rattle.decide.specs.Uplink.{uploading, onContinued, onUpload, onData, onEnd, onUplink}
-use Rattle.decide.specs.Downlink.{onFound, onNumbered, onDownload, onAck, onNak, onDownlink}
+use Rattle.decide.specs.Downlink.{onFound, onNumbered, onDownload, listFound, listNumbered, onDirectory, onAck, onNak, onDownlink}
 use Rattle.decide.specs.Decide.{onPacket, onFrame, decideOf}
 use Rattle.decide.specs.declared.act.Act.{Act}
 use Rattle.decide.specs.declared.act.Act.the-variants as act
@@ -43,6 +43,7 @@ closes (act.Send place offset lock passed) = false
 closes (act.Confirm place destination) = false
 closes (act.End r) = false
 closes (act.Abort place) = false
+closes (act.List listed long passed) = false
 
 -- the link is closed at what the bytes came to
 abbrev pub closing : Session → Frame → Bool
@@ -70,6 +71,7 @@ close-alone (act.Send place offset lock passed) e = absurd (clash e)
 close-alone (act.Confirm place destination) e = absurd (clash e)
 close-alone (act.End r) e = absurd (clash e)
 close-alone (act.Abort place) e = absurd (clash e)
+close-alone (act.List listed long passed) e = absurd (clash e)
 
 -- neither of two acts closes, and so neither does the one that a test picks
 either : (b : Bool) (x y : Act) → closes x ≡ false → closes y ≡ false → closes (cond b x y) ≡ false
@@ -141,12 +143,25 @@ unfolding onDownload
 download-stays count next size info fs selected =
     either (eqb size 9) _ _ (numbered-stays (wordAt info 0) (wordAt info 4) (getD info 8 0) count next fs selected) refl
 
+list-found-stays : (f : Found) (long : Bool) (next : ℕ) (fs : List File) → closes (listFound f long next fs) ≡ false
+unfolding listFound
+list-found-stays Nothing long next fs = refl
+list-found-stays (At place) long next fs = either (eqb (fileAt fs place .time) 0) _ _ refl refl
+
+directory-stays : (long : Bool) (count next size : ℕ) (info : List ℕ) (fs : List File) → closes (onDirectory long count next size info fs) ≡ false
+unfolding onDirectory listNumbered
+directory-stays long count next size info fs =
+    either (eqb size 4) _ _
+    (either (eqb (wordAt info 0) 0) _ _ (either (ltb next count) _ _ refl refl) (list-found-stays (findOf fs (wordAt info 0)) long next fs))
+    refl
+
 ack-stays : (d : Downlink) (size destination : ℕ) → takesAck d ≡ true → closes (onAck d size destination) ≡ false
 unfolding onAck
 ack-stays down.Idle size destination e = absurd (clash e)
 ack-stays (down.Sending place offset sent) size destination e = absurd (clash e)
 ack-stays (down.Ended place) size destination e = either (eqb size 1) _ _ refl refl
 ack-stays (down.Aborting place) size destination e = absurd (clash e)
+ack-stays (down.Listing listed long done sent) size destination e = absurd (clash e)
 
 nak-stays : (d : Downlink) → takesNak d ≡ true → closes (onNak d) ≡ false
 unfolding onNak
@@ -154,6 +169,7 @@ nak-stays down.Idle e = refl
 nak-stays (down.Sending place offset sent) e = refl
 nak-stays (down.Ended place) e = refl
 nak-stays (down.Aborting place) e = absurd (clash e)
+nak-stays (down.Listing listed long done sent) e = refl
 
 downlink-stays : (d : Downlink) (count next kind size : ℕ) (info : List ℕ) (fs : List File) (selected : List ℕ)
     → expectedDown d kind size ≡ true
@@ -164,13 +180,16 @@ downlink-stays d count next kind size info fs selected e =
   where
     by-type : (is-download is-ack is-nak is-empty other : Bool)
         → cond is-download (takesCommand d) (cond is-ack (takesAck d) (cond is-nak (cond is-empty (takesNak d) false) other)) ≡ true
-        → closes (cond is-download (onDownload count next size info fs selected) (cond is-ack (onAck d size (getD info 0 0)) (cond is-nak (onNak d) (cond (eqb kind 16) act.Select (act.Tell (DownloadError 1))))))
+        → closes (cond is-download (onDownload count next size info fs selected) (cond is-ack (onAck d size (getD info 0 0)) (cond is-nak (onNak d) (cond (eqb kind 16) act.Select
+        (cond (eqb kind 15) (onDirectory true count next size info fs) (onDirectory false count next size info fs))))))
         ≡ false
     by-type true is-ack is-nak is-empty other e = download-stays count next size info fs selected
     by-type false true is-nak is-empty other e = ack-stays d size (getD info 0 0) e
     by-type false false true true other e = nak-stays d e
     by-type false false true false other e = absurd (clash e)
-    by-type false false false is-empty other e = either (eqb kind 16) _ _ refl refl
+    by-type false false false is-empty other e =
+        either (eqb kind 16) _ _ refl
+        (either (eqb kind 15) _ _ (directory-stays true count next size info fs) (directory-stays false count next size info fs))
 
 -- ---- a packet, and what the bytes of a link came to
 

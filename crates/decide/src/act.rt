@@ -1,5 +1,6 @@
 // What is to be done.
 use session::reply::Reply;
+use session::state::Listed;
 
 pub enum Act {
     // The link is closed.
@@ -26,8 +27,10 @@ pub enum Act {
     Send(usize, u32, u8, usize),
     // DL_ACK_CMD with this destination for the file at a place.
     Confirm(usize, u8),
-    // The download is over, with this answer.
+    // The download or the directory is over, with this answer.
     End(Reply),
-    // DL_NAK_CMD before DATA_END was sent.
+    // DL_NAK_CMD before the DATA_END of a download was sent.
     Abort(usize),
+    // A directory of these files, in the long form or the short one, and the number of selected files passed then.
+    List(Listed, bool, usize),
 }

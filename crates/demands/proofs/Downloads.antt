@@ -13,11 +13,11 @@ use Rattle.model.specs.Files.{find}
 use Rattle.model.specs.Step.{endsIn, step}
 use Rattle.steps.specs.Sound.{Sound}
 use Rattle.steps.specs.Naming.{Complete, DownOk, Named}
-use Rattle.steps.specs.Downloads.{numberAsked, Begins}
+use Rattle.transfers.specs.Downloads.{numberAsked, Begins}
 use Rattle.steps.proofs.Changes.{sound-step}
 use Rattle.steps.proofs.Naming.{named-step}
-use Rattle.steps.proofs.Downloads.{download-brings}
-use Rattle.steps.proofs.Begins.{download-begins}
+use Rattle.transfers.proofs.Downloads.{download-brings}
+use Rattle.transfers.proofs.Begins.{download-begins}
 use Rattle.accepted.specs.Accepted.{accepted}
 use Rattle.accepted.proofs.Story.{story}
 use Rattle.demands.specs.Demand3.{modelAt, transcriptAt}

@@ -12,7 +12,7 @@ use Rattle.model.specs.State.{File, file, sessionAt}
 use Rattle.model.specs.Files.{find}
 use Rattle.model.specs.Step.{step}
 use Rattle.steps.specs.Parts.{sentBy}
-use Rattle.steps.specs.Downloads.{forUplink, requestOrUplink, ownOrOther, requestsAndUplink, sentTo, endTo, dataTo, Downloading, numberAsked}
+use Rattle.transfers.specs.Downloads.{forUplink, requestOrUplink, ownOrOther, requestsAndUplink, sentTo, endTo, dataTo, Downloading, numberAsked}
 use Rattle.worked.proofs.Passes.{pair, pair-legal, output, of, download, both, handed, meanwhile}
 use Rattle.worked.proofs.Machine.{at-work}
 use Rattle.demands.specs.Downloads.{acceptedSet, Handed}

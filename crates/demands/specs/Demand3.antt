@@ -64,7 +64,7 @@ pub record ByPlace (s : Start) (h : History) : Type 0 where
       → find (filesAt s h place .file .number) (modelAt s h .files) ≡ some (fileOf (filesAt s h place))
   pub placed : (n : ℕ) (f : File) → find n (modelAt s h .files) ≡ some f → Placed (filesAt s h) f
   pub apart : (p q : ℕ) → Live (filesAt s h p) → filesAt s h p .file .number ≡ filesAt s h q .file .number → p ≡ q
-  -- a call changes one place at most: there a file is begun, continued, completed or discarded (crates/history/specs/Change.antt)
+  -- a call changes one place at most: there a file is begun, continued, completed or discarded (crates/acts/specs/Change.antt)
   pub change : (c : Call) → Change (serverAt s h .last) (filesAt s h) (serverAt s (h ▸ c) .last) (filesAt s (h ▸ c))
 
 -- ---- "each storage block is free or belongs to one file"

@@ -1,5 +1,5 @@
 -- What a whole download brings from one station to another, with calls of others and uploads of the session itself between. That a download brings the
--- file is `DownloadBrings` (crates/steps/specs/Downloads.antt). The proofs are in proofs/Downloads.antt. Assumes nothing.
+-- file is `DownloadBrings` (crates/transfers/specs/Downloads.antt). The proofs are in proofs/Downloads.antt. Assumes nothing.
 use mathlib.Core.Path.{_≡_}
 use mathlib.Core.Bool.{true}
 use mathlib.Core.List.{List, _++_}
@@ -13,7 +13,7 @@ use Rattle.history.specs.Calls.{Call, receive, Start, legal, History}
 use Rattle.model.specs.State.{File, sessionAt}
 use Rattle.model.specs.Files.{find}
 use Rattle.model.specs.Step.{endsIn, step}
-use Rattle.steps.specs.Downloads.{requestsAndUplink, dataTo, endTo, Downloading, numberAsked}
+use Rattle.transfers.specs.Downloads.{requestsAndUplink, dataTo, endTo, Downloading, numberAsked}
 use Rattle.accepted.specs.Link.{linkBytes}
 use Rattle.accepted.specs.Accepted.{accepted}
 use Rattle.demands.specs.Demand3.{modelAt, transcriptAt}

@@ -52,6 +52,7 @@ module _ (sv : Server) (l : Lent) (g : Good sv l) where
         fitting.sending place offset sent (omega (arith, p .within, b)) (omega (arith, p .within, b))
     down-small (down.Ended place) e = fitting.ended place
     down-small (down.Aborting place) e = fitting.aborting place
+    down-small (down.Listing t long done sent) e = fitting.listing t long done sent
 
     link-small : SessionFits (linkOf sv i)
     link-small = record { up = up-small (linkOf sv i .up) refl; down = down-small (linkOf sv i .down) refl }

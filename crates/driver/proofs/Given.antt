@@ -36,7 +36,8 @@ use Rattle.server.specs.declared.check.Check.{Check}
 use Rattle.server.specs.State.{Lent, linkOf}
 use Rattle.server.specs.Turns.{putBack, actOf}
 use Rattle.server.specs.Calls.{answeredBy, heardBy, stepOf, onCheck, receiveOf, onLogin, loginOf, onLose, loseOf, dueAs, onRequest, requestOf, loginBy, requestBy, receiveBy, loseBy}
-use Rattle.sending.specs.Sending.{Due, dataOf, sendingOf, dueOf}
+use Rattle.listing.specs.Listing.{entriesOf, fillOf}
+use Rattle.sending.specs.Sending.{Due, dataOf, sendingOf, listedAs, dueOf}
 use Rattle.embed.specs.Fit.{LastFits}
 use Rattle.history.specs.Calls.{Call, login, receive, request, lose, callOf}
 use Rattle.history.specs.Good.{Good}
@@ -161,17 +162,21 @@ module _ (s : Session) (last : Last) (fits : LastFits last) (linked : s .linked 
   carry-keeps (act.Confirm place destination) clock most size info m c = confirm-keeps place destination (m .disk) (m .owner) (m .table)
   carry-keeps (act.End r) clock most size info m c = stays _ _ linked
   carry-keeps (act.Abort place) clock most size info m c = stays _ _ linked
+  carry-keeps (act.List t long passed) clock most size info m c = unfold download.listTurn in stays _ _ linked
 
 -- ---- a request
 
-due-linked : (d : Downlink) (s : Session) (disk owner : List ℕ) (fs : List File) (out : List ℕ) → s .linked ≡ true
-    → dueOf d s disk owner fs out .asked .session .linked ≡ true
-unfolding dueOf sendingOf dataOf
-due-linked down.Idle s disk owner fs out e = e
-due-linked (down.Sending place offset sent) s disk owner fs out e =
+due-linked : (d : Downlink) (s : Session) (disk owner : List ℕ) (fs : List File) (selected out : List ℕ) → s .linked ≡ true
+    → dueOf d s disk owner fs selected out .asked .session .linked ≡ true
+unfolding dueOf sendingOf dataOf listedAs
+due-linked down.Idle s disk owner fs selected out e = e
+due-linked (down.Sending place offset sent) s disk owner fs selected out e =
     by-test (λ (x : Due). x .asked .session .linked ≡ true) (ltb (offset + sent) (fileAt fs place .size)) _ _ (λ d. e) (λ d. e)
-due-linked (down.Ended place) s disk owner fs out e = e
-due-linked (down.Aborting place) s disk owner fs out e = e
+due-linked (down.Ended place) s disk owner fs selected out e = e
+due-linked (down.Aborting place) s disk owner fs selected out e = e
+due-linked (down.Listing t long done sent) s disk owner fs selected out e =
+    by-test (λ (x : Due). x .asked .session .linked ≡ true)
+    (eqb (fillOf (entriesOf t long (s .next) disk owner fs selected) done sent .size) 0) _ _ (λ d. e) (λ d. e)
 
 -- ---- the calls
 
@@ -212,7 +217,7 @@ module _ (sv : Server) (l : Lent) (g : Good sv l) (k : Kept sv) where
       checked sv l g session true (length out) (λ (x : Check). Kept (onRequest x sv l out .done .server)) k k
       (λ i inside linked room. record {
         last = k .last;
-        rests = moved i _ (linked-rests _ (due-linked (linkOf sv i .down) (linkOf sv i) (l .disk) _ _ out linked));
+        rests = moved i _ (linked-rests _ (due-linked (linkOf sv i .down) (linkOf sv i) (l .disk) _ _ _ out linked));
       })
   call-kept (lose session) c =
       checked sv l g session true 258 (λ (x : Check). Kept (onLose x sv (l .selected) (l .held) .done .server)) k k

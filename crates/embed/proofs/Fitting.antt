@@ -1,8 +1,10 @@
 -- Each case of a side fits where its two numbers do.
+use mathlib.Core.Bool.{Bool}
 use Prim.Native.Nat.{ℕ, _<_}
 use native.Mathlib.Omega.{arith}
 use Rattle.session.specs.declared.state.Uplink.the-variants as up
 use Rattle.session.specs.declared.state.Downlink.the-variants as down
+use Rattle.session.specs.declared.state.Listed.{Listed}
 use Rattle.embed.specs.Fit.{upOffset, upReceived, downOffset, downSent, UpFits, DownFits}
 
 pub idle-up : UpFits up.Idle
@@ -32,3 +34,7 @@ ended place = record { offset = omega arith; sent = omega arith }
 pub aborting : (place : ℕ) → DownFits (down.Aborting place)
 unfolding downOffset downSent
 aborting place = record { offset = omega arith; sent = omega arith }
+
+pub listing : (l : Listed) (long : Bool) (done sent : ℕ) → DownFits (down.Listing l long done sent)
+unfolding downOffset downSent
+listing l long done sent = record { offset = omega arith; sent = omega arith }

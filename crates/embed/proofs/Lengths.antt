@@ -4,12 +4,13 @@ use mathlib.Core.Bool.{Bool, true, false, cond}
 use mathlib.Core.List.{List}
 use Prim.Native.Nat.{ℕ, _+_, _-_, _≤_}
 use native.Mathlib.Omega.{arith}
-use lib.Dec.{ltb}
+use lib.Dec.{ltb, eqb}
 use lib.ListN.{length, getD}
 use borrow.Author.Tests.{ltb-true}
 use Rattle.session.specs.declared.state.Session.{Session}
 use Rattle.session.specs.declared.state.Downlink.{Downlink}
 use Rattle.session.specs.declared.state.Downlink.the-variants as down
+use Rattle.session.specs.declared.state.Listed.{Listed}
 use Rattle.session.specs.declared.reply.Answer.{Answer}
 use Rattle.session.specs.declared.reply.Answer.the-variants as answer
 use Rattle.session.specs.declared.reply.Reply.{Reply}
@@ -22,7 +23,10 @@ use Rattle.server.specs.declared.check.Check.{Check}
 use Rattle.server.specs.declared.check.Check.the-variants as check
 use Rattle.server.specs.State.{Lent, linkOf, Outcome}
 use Rattle.server.specs.Check.{checkOf}
-use Rattle.sending.specs.Sending.{Due, leastOf, dataOf, sendingOf, dueOf}
+use Rattle.sending.specs.Sending.{Due, leastOf, dataOf, sendingOf, listedAs, dueOf}
+use Rattle.listing.specs.declared.Filled.{Filled}
+use Rattle.listing.specs.Listing.{entriesOf}
+use Rattle.listing.proofs.FillLaws.{fill-size}
 use Rattle.server.specs.Calls.{answeredBy, heardBy, stepOf, onCheck, receiveOf, Opened, onLogin, loginOf, dueAs, onRequest, requestOf, loginBy, requestBy, receiveBy}
 use Rattle.server.proofs.Answering.{isRefused}
 use Rattle.embed.specs.declared.words.Ready.{Ready}
@@ -83,13 +87,20 @@ sending-size s place offset sent disk owner fs out =
     either-size (ltb (offset + sent) (fileAt fs place .size)) _ _ (omega (arith, least-size (fileAt fs place .size - (offset + sent))))
     (answered-size reply.DataEnd 0 out)
 
-due-size : (d : Downlink) (s : Session) (disk owner : List ℕ) (fs : List File) (out : List ℕ)
-    → sizeOf (dueOf d s disk owner fs out .asked .answer) ≤ 258
+listed-size : (s : Session) (l : Listed) (long : Bool) (f : Filled) (out : List ℕ) → f .size ≤ 256
+    → sizeOf (listedAs s l long f out .asked .answer) ≤ 258
+unfolding listedAs
+listed-size s l long f out h = either-size (eqb (f .size) 0) _ _ (answered-size reply.DataEnd 0 out) (omega (arith, h))
+
+due-size : (d : Downlink) (s : Session) (disk owner : List ℕ) (fs : List File) (selected out : List ℕ)
+    → sizeOf (dueOf d s disk owner fs selected out .asked .answer) ≤ 258
 unfolding dueOf
-due-size down.Idle s disk owner fs out = omega arith
-due-size (down.Sending place offset sent) s disk owner fs out = sending-size s place offset sent disk owner fs out
-due-size (down.Ended place) s disk owner fs out = omega arith
-due-size (down.Aborting place) s disk owner fs out = answered-size reply.Aborted 0 out
+due-size down.Idle s disk owner fs selected out = omega arith
+due-size (down.Sending place offset sent) s disk owner fs selected out = sending-size s place offset sent disk owner fs out
+due-size (down.Ended place) s disk owner fs selected out = omega arith
+due-size (down.Aborting place) s disk owner fs selected out = answered-size reply.Aborted 0 out
+due-size (down.Listing l long done sent) s disk owner fs selected out =
+    listed-size s l long _ out (fill-size (entriesOf l long (s .next) disk owner fs selected) done sent)
 
 -- ---- the calls of the server
 
@@ -107,7 +118,7 @@ module _ (sv : Server) (l : Lent) (out : List ℕ) where
   on-request : (k : Check) → sizeOf (onRequest k sv l out .done .answer) ≤ 258
   unfolding onRequest dueAs
   on-request (check.Refuse n) = omega arith
-  on-request (check.Go i) = due-size (linkOf sv i .down) (linkOf sv i) (l .disk) _ _ out
+  on-request (check.Go i) = due-size (linkOf sv i .down) (linkOf sv i) (l .disk) _ _ _ out
 
 -- ---- the calls
 

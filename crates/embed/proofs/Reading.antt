@@ -14,6 +14,7 @@ use Rattle.session.specs.declared.state.Uplink.{Uplink}
 use Rattle.session.specs.declared.state.Uplink.the-variants as up
 use Rattle.session.specs.declared.state.Downlink.{Downlink}
 use Rattle.session.specs.declared.state.Downlink.the-variants as down
+use Rattle.session.specs.declared.state.Listed.the-variants as listed
 use Rattle.session.specs.State.{closedSession}
 use Rattle.server.specs.declared.Server.{Server}
 use Rattle.server.specs.State.{linkOf}
@@ -56,6 +57,10 @@ down-at (down.Sending place offset sent) f =
     record { a = 1; b = place; c = offset; d = sent; are = refl; back = rw (mod-eq-of-lt (f .offset), mod-eq-of-lt (f .sent)) }
 down-at (down.Ended place) f = record { a = 2; b = place; c = 0; d = 0; are = refl; back = refl }
 down-at (down.Aborting place) f = record { a = 3; b = place; c = 0; d = 0; are = refl; back = refl }
+down-at (down.Listing (listed.One place) true done sent) f = record { a = 5; b = place; c = done; d = sent; are = refl; back = refl }
+down-at (down.Listing (listed.One place) false done sent) f = record { a = 4; b = place; c = done; d = sent; are = refl; back = refl }
+down-at (down.Listing (listed.Selected first) true done sent) f = record { a = 7; b = first; c = done; d = sent; are = refl; back = refl }
+down-at (down.Listing (listed.Selected first) false done sent) f = record { a = 6; b = first; c = done; d = sent; are = refl; back = refl }
 
 flag-back : (b : Bool) → eqb (flag b) 1 ≡ b
 flag-back true = refl
@@ -253,17 +258,21 @@ up-fits case place offset received = go (eqb case 1) (eqb case 2)
 down-fits : (case place offset sent : ℕ)
     → (downOffset (downOf case place offset sent) < 4294967296) × (downSent (downOf case place offset sent) < 4294967296)
 unfolding downOf downOffset downSent
-down-fits case place offset sent = go (eqb case 1) (eqb case 2) (eqb case 3)
+down-fits case place offset sent =
+    either (eqb case 1) _ _ (omega arith, omega arith)
+    (either (eqb case 2) _ _ (omega arith, omega arith)
+    (either (eqb case 3) _ _ (omega arith, omega arith)
+    (either (eqb case 4) _ _ (omega arith, omega arith)
+    (either (eqb case 5) _ _ (omega arith, omega arith)
+    (either (eqb case 6) _ _ (omega arith, omega arith)
+    (either (eqb case 7) _ _ (omega arith, omega arith) (omega arith, omega arith)))))))
   where
-    go : (a b c : Bool)
-        → (downOffset (cond a (down.Sending place (low offset) (low sent))
-        (cond b (down.Ended place) (cond c (down.Aborting place) down.Idle))) < 4294967296)
-        × (downSent (cond a (down.Sending place (low offset) (low sent))
-        (cond b (down.Ended place) (cond c (down.Aborting place) down.Idle))) < 4294967296)
-    go true b c = (omega arith, omega arith)
-    go false true c = (omega arith, omega arith)
-    go false false true = (omega arith, omega arith)
-    go false false false = (omega arith, omega arith)
+    -- what holds of two states holds of the one that a test picks
+    either : (b : Bool) (x y : Downlink) → (downOffset x < 4294967296) × (downSent x < 4294967296)
+        → (downOffset y < 4294967296) × (downSent y < 4294967296)
+        → (downOffset (cond b x y) < 4294967296) × (downSent (cond b x y) < 4294967296)
+    either true x y p q = p
+    either false x y p q = q
 
 session-fits : (l : List ℕ) (at : ℕ) → SessionFits (sessionAt l at)
 unfolding sessionAt

@@ -111,7 +111,7 @@ module _ (sv : Server) (l : Lent) (session : ℕ) where
   unfolding requestOf requestBy onRequest dueAs
   request-ended out =
       by-check _ _ true (length out) (λ (k : Check). onRequest k sv l out) (λ n. refl)
-      (λ i h. due-not (linkOf sv i .down) (linkOf sv i) (l .disk) _ _ out h)
+      (λ i h. due-not (linkOf sv i .down) (linkOf sv i) (l .disk) _ _ _ out h)
 
   pub lose-ended : Ended (λ (o : Lost). o .done .answer) (λ (n : ℕ). lost (doneWith sv (answer.Refused n)) (l .selected) (l .held))
       (loseOf sv l session)

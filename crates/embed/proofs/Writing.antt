@@ -31,6 +31,7 @@ length-down down.Idle = refl
 length-down (down.Sending place offset sent) = refl
 length-down (down.Ended place) = refl
 length-down (down.Aborting place) = refl
+length-down (down.Listing l long done sent) = refl
 
 pub length-session : (s : Session) → length (sessionWords s) ≡ 12
 unfolding sessionWords

@@ -25,12 +25,14 @@ downOffset down.Idle = 0
 downOffset (down.Sending place offset sent) = offset
 downOffset (down.Ended place) = 0
 downOffset (down.Aborting place) = 0
+downOffset (down.Listing listed long done sent) = 0
 
 unfoldable pub downSent : Downlink → ℕ
 downSent down.Idle = 0
 downSent (down.Sending place offset sent) = sent
 downSent (down.Ended place) = 0
 downSent (down.Aborting place) = 0
+downSent (down.Listing listed long done sent) = 0
 
 pub record UpFits (u : Uplink) : Type 0 where
   pub offset : upOffset u < 4294967296

@@ -10,6 +10,8 @@ use Rattle.session.specs.declared.state.Uplink.{Uplink}
 use Rattle.session.specs.declared.state.Uplink.the-variants as up
 use Rattle.session.specs.declared.state.Downlink.{Downlink}
 use Rattle.session.specs.declared.state.Downlink.the-variants as down
+use Rattle.session.specs.declared.state.Listed.{Listed}
+use Rattle.session.specs.declared.state.Listed.the-variants as listed
 use Rattle.carry.specs.Turn.{lastOf}
 use Rattle.server.specs.declared.Server.{Server}
 use Rattle.server.specs.State.{linkOf}
@@ -24,12 +26,23 @@ upWords up.Idle = 0 ∷ 0 ∷ 0 ∷ 0 ∷ []
 upWords (up.Receiving place offset received) = 1 ∷ place ∷ offset ∷ received ∷ []
 upWords up.Ignoring = 2 ∷ 0 ∷ 0 ∷ 0 ∷ []
 
--- the case, the place, the offset, the bytes sent
+-- a directory of one file has the case 4 or 5, one of selected files 6 or 7; the greater one is the long form
+abbrev pub listingCase : Listed → Bool → ℕ
+listingCase (listed.One place) long = cond long 5 4
+listingCase (listed.Selected first) long = cond long 7 6
+
+-- the file's place, or the first selected one
+abbrev pub listedWord : Listed → ℕ
+listedWord (listed.One place) = place
+listedWord (listed.Selected first) = first
+
+-- the case, the place, the offset, the bytes sent; of a directory how many files lie behind, and how many bytes of the next one's entry
 unfoldable pub downWords : Downlink → List ℕ
 downWords down.Idle = 0 ∷ 0 ∷ 0 ∷ 0 ∷ []
 downWords (down.Sending place offset sent) = 1 ∷ place ∷ offset ∷ sent ∷ []
 downWords (down.Ended place) = 2 ∷ place ∷ 0 ∷ 0 ∷ []
 downWords (down.Aborting place) = 3 ∷ place ∷ 0 ∷ 0 ∷ []
+downWords (down.Listing l long done sent) = listingCase l long ∷ listedWord l ∷ done ∷ sent ∷ []
 
 abbrev pub flag : Bool → ℕ
 flag b = cond b 1 0
@@ -61,7 +74,13 @@ upOf case place offset received =
 unfoldable pub downOf : ℕ → ℕ → ℕ → ℕ → Downlink
 downOf case place offset sent =
     cond (eqb case 1) (down.Sending place (low offset) (low sent))
-    (cond (eqb case 2) (down.Ended place) (cond (eqb case 3) (down.Aborting place) down.Idle))
+    (cond (eqb case 2) (down.Ended place)
+    (cond (eqb case 3) (down.Aborting place)
+    (cond (eqb case 4) (down.Listing (listed.One place) false offset sent)
+    (cond (eqb case 5) (down.Listing (listed.One place) true offset sent)
+    (cond (eqb case 6) (down.Listing (listed.Selected place) false offset sent)
+    (cond (eqb case 7) (down.Listing (listed.Selected place) true offset sent)
+    down.Idle))))))
 
 unfoldable pub sessionAt : List ℕ → ℕ → Session
 sessionAt l at =

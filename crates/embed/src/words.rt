@@ -3,6 +3,7 @@ use carry::turn::Last;
 use server::Server;
 use server::check::Lengths;
 use session::state::Downlink;
+use session::state::Listed;
 use session::state::Session;
 use session::state::Uplink;
 ghost use mathlib.Core.Path.{_≡_};
@@ -11,10 +12,11 @@ ghost use mathlib.Core.Bool.{true, cond};
 ghost use Prim.Native.Nat.{_+_, _≤_, _<_};
 ghost use lib.ListN.{length};
 ghost use lib.Seq.{sets};
+ghost use Rattle.session.specs.declared.state.Downlink.the-variants as down;
 ghost use Rattle.server.specs.Check.{fitsIn};
 ghost use Rattle.embed.specs.declared.words.Ready.the-variants as ready;
 ghost use Rattle.embed.specs.Fit.{UpFits, DownFits, SessionFits, LastFits};
-ghost use Rattle.embed.specs.Words.{flag, upWords, downWords, sessionWords, headWords, encodeOf, low, upOf, downOf, sessionAt, serverAt, sameWords, isState, readyOf};
+ghost use Rattle.embed.specs.Words.{flag, upWords, listingCase, listedWord, downWords, sessionWords, headWords, encodeOf, low, upOf, downOf, sessionAt, serverAt, sameWords, isState, readyOf};
 ghost use Rattle.embed.specs.Calls.{mapFits};
 
 // The words are a state, or the call is refused.
@@ -96,6 +98,41 @@ fn write_up(state: &mut [u64], at: usize, up: Uplink)
     }
 }
 
+// The case of a directory: that of the short form, or the one behind it.
+fn case_word(short: u64, long: bool) -> u64
+    requires { ⌜ short < 8 ⌝ }
+    ensures { λ r. ⌜ r ≡ cond long (short + 1) short ⌝ }
+{
+    if long {
+        return short + 1;
+    }
+    short
+}
+
+fn write_listing(state: &mut [u64], at: usize, listed: Listed, long: bool, done: usize, sent: usize)
+    requires { ⌜ (at ≤ 50) × (at + 4 ≤ length (now state)) ⌝ }
+    ensures { λ _. ⌜ now (state .exit) ≡ sets (now (state .entry)) at (listingCase listed long ∷ listedWord listed ∷ done ∷ sent ∷ []) ⌝ }
+{
+    match listed {
+        Listed::One(place) => write4(
+            state,
+            at,
+            case_word(4, long),
+            word(place),
+            word(done),
+            word(sent),
+        ),
+        Listed::Selected(first) => write4(
+            state,
+            at,
+            case_word(6, long),
+            word(first),
+            word(done),
+            word(sent),
+        ),
+    }
+}
+
 fn write_down(state: &mut [u64], at: usize, down: Downlink)
     requires { ⌜ (at ≤ 50) × (at + 4 ≤ length (now state)) ⌝ }
     ensures { λ _. ⌜ now (state .exit) ≡ sets (now (state .entry)) at (downWords down) ⌝ }
@@ -110,6 +147,12 @@ fn write_down(state: &mut [u64], at: usize, down: Downlink)
         } => write4(state, at, 1, word(place), word32(offset), word32(sent)),
         Downlink::Ended { place } => write4(state, at, 2, word(place), 0, 0),
         Downlink::Aborting { place } => write4(state, at, 3, word(place), 0, 0),
+        Downlink::Listing {
+            listed,
+            long,
+            done,
+            sent,
+        } => write_listing(state, at, listed, long, done, sent),
     }
 }
 
@@ -173,6 +216,17 @@ fn up_of(case: u64, place: u64, offset: u64, received: u64) -> Uplink
     Uplink::Idle
 }
 
+fn listing_of(listed: Listed, long: bool, done: u64, sent: u64) -> Downlink
+    ensures { λ r. ⌜ r ≡ down.Listing listed long done sent ⌝ }
+{
+    Downlink::Listing {
+        listed: listed,
+        long: long,
+        done: number(done),
+        sent: number(sent),
+    }
+}
+
 fn down_of(case: u64, place: u64, offset: u64, sent: u64) -> Downlink
     ensures { λ r. ⌜ r ≡ downOf case place offset sent ⌝ }
 {
@@ -192,6 +246,18 @@ fn down_of(case: u64, place: u64, offset: u64, sent: u64) -> Downlink
         return Downlink::Aborting {
             place: number(place),
         };
+    }
+    if case == 4 {
+        return listing_of(Listed::One(number(place)), false, offset, sent);
+    }
+    if case == 5 {
+        return listing_of(Listed::One(number(place)), true, offset, sent);
+    }
+    if case == 6 {
+        return listing_of(Listed::Selected(number(place)), false, offset, sent);
+    }
+    if case == 7 {
+        return listing_of(Listed::Selected(number(place)), true, offset, sent);
     }
     Downlink::Idle
 }

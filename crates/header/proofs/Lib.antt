@@ -1,6 +1,7 @@
 pub mod Walk
 pub mod Machine
 pub mod Written
+pub mod Spelled
 pub mod Reading
 pub mod Order
 pub mod Values
@@ -8,4 +9,8 @@ pub mod Verdict
 pub mod Replace
 pub mod Places
 pub mod Set
+pub mod EntryLaws
+pub mod EntryReads
+pub mod SetAny
 pub mod Examples
+pub mod EntryExamples

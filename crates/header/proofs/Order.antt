@@ -316,7 +316,7 @@ length-of i n (x ∷ xs) l f h =
     go true e ih p = fit-length x i n (eqb-true (x .id) i e) l p
     go false e ih p = ih (omega (arith, times-miss i x xs (eqb-false (x .id) i e)))
 
-some-length : (i : ℕ) → 0 < i → i ≤ 11 → listedLength i ≡ suc (listedLength i - 1)
+pub some-length : (i : ℕ) → 0 < i → i ≤ 11 → listedLength i ≡ suc (listedLength i - 1)
 unfolding listed lengthIn
 some-length zero h l = absurd (omega arith)
 some-length (suc zero) h l = refl

@@ -47,7 +47,7 @@ place-inside i at (x ∷ xs) h =
         let b = r .within in
         record { found = r .found; size = r .size; after = omega arith; within = omega arith }
 
-place-miss : (i at : ℕ) (x : Field) (xs : List Field) → (x .id ≡ i → ⊥) → placeFrom i at (x ∷ xs) ≡ placeFrom i (at + (3 + length (x .bytes))) xs
+pub place-miss : (i at : ℕ) (x : Field) (xs : List Field) → (x .id ≡ i → ⊥) → placeFrom i at (x ∷ xs) ≡ placeFrom i (at + (3 + length (x .bytes))) xs
 unfolding placeFrom
 place-miss i at x xs e = rw (ne-eqb (x .id) i e)
 

@@ -1,4 +1,5 @@
 pub mod Items
 pub mod Header
 pub mod Fields
+pub mod Entries
 pub mod Scan

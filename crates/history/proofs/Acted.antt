@@ -14,9 +14,11 @@ use Rattle.session.specs.declared.state.Uplink.{Uplink}
 use Rattle.session.specs.declared.state.Uplink.the-variants as up
 use Rattle.session.specs.declared.state.Downlink.{Downlink}
 use Rattle.session.specs.declared.state.Downlink.the-variants as down
+use Rattle.session.specs.declared.state.Listed.{Listed}
 use Rattle.session.specs.declared.reply.Reply.{Reply}
 use Rattle.session.specs.declared.reply.Reply.the-variants.{Nothing, DataEnd, Completed, Aborted}
 use Rattle.session.specs.State.{withUp, withDown, withNext, withSelection}
+use Rattle.session.specs.Expected.{takesCommand}
 use Rattle.blocks.proofs.Owners.{blocks-le}
 use Rattle.table.specs.declared.File.{File}
 use Rattle.table.specs.declared.Given.{Given}
@@ -34,12 +36,12 @@ use Rattle.files.specs.Selection.{Selects, selectNumber, selectOf, chosen, numb
 use Rattle.files.proofs.Calls.{by-number}
 use Rattle.files.proofs.Beginning.{BeginLeaves, begin-leaves, begin-kept}
 use Rattle.files.proofs.Received.{append-kept, append-leaves, AppendLeaves}
-use Rattle.files.proofs.Soundness.{file-room}
+use Rattle.files.proofs.Soundness.{file-fits, file-room}
 use Rattle.files.proofs.Choice.{chosen-most}
 use Rattle.files.proofs.Selected as choice
 use Rattle.links.specs.Sound.{link}
 use Rattle.links.specs.Kept.{Uploads}
-use Rattle.links.proofs.Facts.{CompleteAt, PartialAt, SendingAt, Selectable}
+use Rattle.links.proofs.Facts.{CompleteAt, PartialAt, SendingAt, ListingAt, Selectable}
 use Rattle.decide.specs.declared.act.Act.{Act}
 use Rattle.decide.specs.declared.act.Act.the-variants as act
 use Rattle.carry.specs.declared.turn.Last.{Last}
@@ -50,7 +52,7 @@ use Rattle.carry.specs.Download as download
 use Rattle.carry.specs.Carry.{onFrees, onWrites, onMoves, onChooses, carryOut}
 use Rattle.acts.proofs.Interface.{Stored}
 use Rattle.history.proofs.Others.{Reads}
-use Rattle.history.proofs.Decided.{Own, Resumes, Stores, Sends, Fit}
+use Rattle.history.proofs.Decided.{Own, Resumes, Stores, Sends, Lists, Fit}
 
 -- ---- the two sides of a session
 
@@ -59,11 +61,13 @@ Up fs up.Idle = Unit {0}
 Up fs (up.Receiving place offset received) = PartialAt fs place (offset + received)
 Up fs up.Ignoring = Unit {0}
 
-abbrev pub Down : List File → Downlink → Type 0
-Down fs down.Idle = Unit {0}
-Down fs (down.Sending place offset sent) = SendingAt fs place (offset + sent)
-Down fs (down.Ended place) = CompleteAt fs place
-Down fs (down.Aborting place) = CompleteAt fs place
+-- with the session's selection and its place in it
+abbrev pub Down : List File → List ℕ → ℕ → Downlink → Type 0
+Down fs selected next down.Idle = Unit {0}
+Down fs selected next (down.Sending place offset sent) = SendingAt fs place (offset + sent)
+Down fs selected next (down.Ended place) = CompleteAt fs place
+Down fs selected next (down.Aborting place) = CompleteAt fs place
+Down fs selected next (down.Listing l long done sent) = ListingAt fs selected next l done sent
 
 -- an upload, as a session's facts have it
 pub up-of : (fs : List File) (u : Uplink)
@@ -84,12 +88,13 @@ own-ignoring place o = let e = o .receiving in let z : _≡_ {A = ℕ} 0 1 = cc 
 
 -- a session with another downlink, as far into the selection as it has files
 pub reads-with : (fs : List File) (most : ℕ) (selected : List ℕ) (s s′ : Session) → Reads fs most selected s
-    → Down fs (s′ .down) → s′ .count ≡ s .count → s′ .next ≤ s .count → Reads fs most selected s′
+    → Down fs selected (s′ .next) (s′ .down) → s′ .count ≡ s .count → s′ .next ≤ s .count → Reads fs most selected s′
 reads-with fs most selected s s′ r d c n =
     record {
-      sending = λ place offset sent e. subst (λ (x : Downlink). Down fs x) e d;
-      ended = λ place e. subst (λ (x : Downlink). Down fs x) e d;
-      aborting = λ place e. subst (λ (x : Downlink). Down fs x) e d;
+      sending = λ place offset sent e. subst (λ (x : Downlink). Down fs selected (s′ .next) x) e d;
+      ended = λ place e. subst (λ (x : Downlink). Down fs selected (s′ .next) x) e d;
+      aborting = λ place e. subst (λ (x : Downlink). Down fs selected (s′ .next) x) e d;
+      listing = λ l long done sent e. subst (λ (x : Downlink). Down fs selected (s′ .next) x) e d;
       at-most = omega (arith, r .at-most);
       next = omega arith;
       names = λ k h. r .names k (omega arith);
@@ -99,7 +104,15 @@ reads-with fs most selected s s′ r d c n =
 pub reads-up : (fs : List File) (most : ℕ) (selected : List ℕ) (s : Session) (v : Uplink)
     → Reads fs most selected s → Reads fs most selected (withUp s v)
 reads-up fs most selected s v r =
-    record { sending = r .sending; ended = r .ended; aborting = r .aborting; at-most = r .at-most; next = r .next; names = r .names }
+    record {
+      sending = r .sending;
+      ended = r .ended;
+      aborting = r .aborting;
+      listing = r .listing;
+      at-most = r .at-most;
+      next = r .next;
+      names = r .names;
+    }
 
 own-place : (p offset received place : ℕ) → Own (up.Receiving p offset received) place → place ≡ p
 own-place p offset received place o = let e = o .receiving in cc
@@ -129,6 +142,12 @@ file-most m last stored q n =
       blocks-le (q + 1) (m .owner),
       stored .sizes .most,
     )
+
+-- no more bytes of a file were received than announced
+pub file-received : (m : Mem) (last : Last) → Stored m last → (q : ℕ) → (recordAt (m .table) q .number ≡ 0 → ⊥)
+    → recordAt (m .table) q .received ≤ recordAt (m .table) q .size
+file-received m last stored q n =
+    file-fits (m .map) (m .owner) (m .table) (last .number) (last .time) (stored .sound) q n .received
 
 -- ---- what an act leaves
 
@@ -346,6 +365,7 @@ module _ (links : List Session) (most : ℕ) (m : Mem) (s : Session) (last : Las
         sending = λ place offset sent e. absurd (let z : _≡_ {A = ℕ} 0 1 = cc in omega arith);
         ended = λ place e. absurd (let z : _≡_ {A = ℕ} 0 1 = cc in omega arith);
         aborting = λ place e. absurd (let z : _≡_ {A = ℕ} 0 1 = cc in omega arith);
+        listing = λ l long done sent e. absurd (let z : _≡_ {A = ℕ} 0 1 = cc in omega arith);
         at-most = omega arith;
         next = omega arith;
         names = λ k h. absurd (omega arith);
@@ -363,8 +383,16 @@ module _ (links : List Session) (most : ℕ) (m : Mem) (s : Session) (last : Las
       (record { complete = h .sending .complete; within = omega (arith, h .sending .within) }) refl (h .few)))
 
   -- a session with another downlink
-  down-done : (v : Downlink) (reply : Reply) → Down (files (m .table)) v → Done (turned (turnOf (withDown s v) last reply) m)
+  down-done : (v : Downlink) (reply : Reply) → Down (files (m .table)) (m .selected) (s .next) v → Done (turned (turnOf (withDown s v) last reply) m)
   down-done v reply h = quiet _ refl refl refl (reads-with (files (m .table)) most (m .selected) s (withDown s v) r h refl (r .next))
+
+  list-done : (l : Listed) (long : Bool) (passed : ℕ) → Lists (files (m .table)) (s .count) l passed
+      → Done (turned (download.listTurn s last l long passed) m)
+  unfolding download.listTurn
+  list-done l long passed h =
+      quiet _ refl refl refl
+      (reads-with (files (m .table)) most (m .selected) s (withDown (withNext s passed) (down.Listing l long 0 0)) r
+      (record { one = h .one; come = omega arith; within = omega arith }) refl (h .few))
 
   confirm-done : (place destination : ℕ) → Done (turned (download.confirmTurn s last place destination (m .disk) (m .owner) (m .table)) m)
   unfolding download.confirmTurn
@@ -374,7 +402,7 @@ module _ (links : List Session) (most : ℕ) (m : Mem) (s : Session) (last : Las
 
   -- ---- SELECT_CMD
 
-  module _ (eq : List ℕ) where
+  module _ (eq : List ℕ) (idle : takesCommand (s .down) ≡ true) where
     abbrev ps : List ℕ
     ps = chosen most eq (m .disk) (m .owner) (m .table)
 
@@ -398,12 +426,18 @@ module _ (links : List Session) (most : ℕ) (m : Mem) (s : Session) (last : Las
         subst (λ (n : ℕ). Selectable (files (m .table)) n) (sym e)
         (record { place = p; found = find-own (files (m .table)) (stored .sound .files .numbers) p (c .number); complete = c })
 
+    taken-idle : (l : Listed) (long : Bool) (done sent : ℕ) → s .down ≡ down.Listing l long done sent → ⊥
+    taken-idle l long done sent e =
+        let c : false ≡ true = sym (ap takesCommand e) ∙ idle in
+        let z : _≡_ {A = ℕ} 0 1 = cc in omega arith
+
     chosen-reads : Reads (files (m .table)) most (listed most (numbersAt (m .table) ps) (m .selected)) (withSelection s (length ps))
     chosen-reads =
         record {
           sending = r .sending;
           ended = r .ended;
           aborting = r .aborting;
+          listing = λ l long done sent e. absurd (taken-idle l long done sent e);
           at-most = chosen-most eq (m .disk) (m .owner) (m .table) (m .selected) most;
           next = omega arith;
           names = chosen-named;
@@ -417,12 +451,12 @@ module _ (links : List Session) (most : ℕ) (m : Mem) (s : Session) (last : Las
         (λ e. quiet _ refl refl refl chosen-reads)
         (λ e. rw e (quiet _ refl refl refl r))
 
-  select-done : (size : ℕ) (info : List ℕ)
+  select-done : (size : ℕ) (info : List ℕ) → takesCommand (s .down) ≡ true
       → Done (onChooses m (download.selectTurn s last most size info (m .disk) (m .owner) (m .table) (m .selected)))
   unfolding download.selectTurn onChooses
-  select-done size info =
+  select-done size info idle =
       by-test (λ (x : Chooses). Done (onChooses m x)) (ltb (length info) size) _ _ (λ e. quiet _ refl refl refl r)
-      (λ e. selected-done (take size info))
+      (λ e. selected-done (take size info) idle)
 
   -- ---- every act
 
@@ -437,8 +471,9 @@ module _ (links : List Session) (most : ℕ) (m : Mem) (s : Session) (last : Las
   acted (act.Overrun place) clock size info f = overrun-done place f
   acted act.Stop clock size info f = ended _ (λ q o. refl) own-idle tt (λ h. refl) (reads-then up.Idle)
   acted (act.Finish place) clock size info f = finish-done place f clock
-  acted act.Select clock size info f = select-done size info
+  acted act.Select clock size info f = select-done size info f
   acted (act.Send place offset lock passed) clock size info f = send-done place offset lock passed f
   acted (act.Confirm place destination) clock size info f = confirm-done place destination
   acted (act.End reply) clock size info f = down-done down.Idle reply tt
   acted (act.Abort place) clock size info f = down-done (down.Aborting place) DataEnd f
+  acted (act.List l long passed) clock size info f = list-done l long passed f

@@ -1,9 +1,9 @@
 -- What an act that was decided on says of the session and of the files: an upload acted on is the session's own, a file taken up again is a
 -- partial one that no session uploads, and a file sent is a complete one.
-use mathlib.Core.Path.{_≡_, refl, sym, _∙_}
+use mathlib.Core.Path.{_≡_, refl, sym, _∙_, subst}
 use mathlib.Core.Bool.{Bool, true, false, cond}
 use mathlib.Core.List.{List}
-use Prim.Native.Nat.{ℕ, _+_, _≤_, _<_}
+use Prim.Native.Nat.{ℕ, _+_, _-_, _≤_, _<_}
 use native.Mathlib.Omega.{arith}
 use borrow.Author.Count.{below-none, below-more}
 use borrow.Author.Tests.{eqb-true, eqb-false, ltb-true, ltb-false}
@@ -16,7 +16,9 @@ use Rattle.session.specs.declared.state.Uplink.{Uplink}
 use Rattle.session.specs.declared.state.Uplink.the-variants as up
 use Rattle.session.specs.declared.state.Downlink.{Downlink}
 use Rattle.session.specs.declared.state.Downlink.the-variants as down
-use Rattle.session.specs.Expected.{expected}
+use Rattle.session.specs.declared.state.Listed.{Listed}
+use Rattle.session.specs.declared.state.Listed.the-variants as listed
+use Rattle.session.specs.Expected.{takesCommand, expectedDown, expected}
 use Rattle.table.specs.declared.File.{File}
 use Rattle.table.specs.declared.Found.{Found}
 use Rattle.table.specs.declared.Found.the-variants.{Nothing, At}
@@ -27,7 +29,7 @@ use Rattle.links.specs.Kept.{Uploads}
 use Rattle.links.proofs.Facts.{CompleteAt, PartialAt, SendingAt}
 use Rattle.decide.specs.Words.{wordAt}
 use Rattle.decide.specs.Uplink.{uploads, uploading, onContinued, onUpload, onData, onEnd, onUplink}
-use Rattle.decide.specs.Downlink.{onFound, onNumbered, onDownload, onAck, onNak, onDownlink}
+use Rattle.decide.specs.Downlink.{onFound, onNumbered, onDownload, tenFrom, listFound, listNumbered, onDirectory, onAck, onNak, onDownlink}
 use Rattle.decide.specs.Decide.{onPacket, onFrame, decideOf}
 use Rattle.decide.specs.declared.act.Act.{Act}
 use Rattle.decide.specs.declared.act.Act.the-variants as act
@@ -55,7 +57,12 @@ pub record Sends (fs : List File) (count place offset passed : ℕ) : Type 0 whe
   pub sending : SendingAt fs place offset
   pub few : passed ≤ count
 
--- what holds of an act on a packet of this size
+-- a directory of a complete file, or of selected ones, and no more files passed than are selected
+pub record Lists (fs : List File) (count : ℕ) (l : Listed) (passed : ℕ) : Type 0 where
+  pub one : (place : ℕ) → l ≡ listed.One place → CompleteAt fs place
+  pub few : passed ≤ count
+
+-- what holds of an act on a packet of this size; a SELECT_CMD comes while the downlink is idle
 abbrev pub Fit : List File → List Session → Session → ℕ → Act → Type 0
 Fit fs links s size act.Close = Unit {0}
 Fit fs links s size act.Ignore = Unit {0}
@@ -66,16 +73,43 @@ Fit fs links s size (act.Store place offset received) = Stores fs (s .up) size p
 Fit fs links s size (act.Overrun place) = Own (s .up) place
 Fit fs links s size act.Stop = Unit {0}
 Fit fs links s size (act.Finish place) = Own (s .up) place
-Fit fs links s size act.Select = Unit {0}
+Fit fs links s size act.Select = takesCommand (s .down) ≡ true
 Fit fs links s size (act.Send place offset lock passed) = Sends fs (s .count) place offset passed
 Fit fs links s size (act.Confirm place destination) = Unit {0}
 Fit fs links s size (act.End r) = Unit {0}
 Fit fs links s size (act.Abort place) = CompleteAt fs place
+Fit fs links s size (act.List l long passed) = Lists fs (s .count) l passed
 
 -- the act that a test picks
 picked : (P : Act → Type 0) (b : Bool) (x y : Act) → (b ≡ true → P x) → (b ≡ false → P y) → P (cond b x y)
 picked P true x y f g = f refl
 picked P false x y f g = g refl
+
+-- ---- the downlink's commands
+
+down-taken : (u : Uplink) (d : Downlink) (kind size : ℕ) → ltb kind 8 ≡ false → expected u d kind size ≡ true → expectedDown d kind size ≡ true
+unfolding expected
+down-taken u d kind size h e = rw h at e
+
+-- SELECT_CMD is expected while the downlink is idle
+pub select-taken : (d : Downlink) (kind size : ℕ) → kind ≡ 16 → expectedDown d kind size ≡ true → takesCommand d ≡ true
+unfolding expectedDown
+select-taken d kind size k e = rw k at e
+
+same-place : (place p : ℕ) → listed.One place ≡ listed.One p → place ≡ p
+same-place place p q = cc
+
+not-one : (first p : ℕ) → listed.Selected first ≡ listed.One p → ⊥
+not-one first p q = let z : _≡_ {A = ℕ} 0 1 = cc in omega arith
+
+-- no more files are passed than are selected
+ten-most : (next count : ℕ) → next ≤ count → tenFrom next count ≤ count
+unfolding tenFrom
+ten-most next count h = go (ltb (count - next) 10) refl
+  where
+    go : (b : Bool) → ltb (count - next) 10 ≡ b → cond b count (next + 10) ≤ count
+    go true e = omega arith
+    go false e = omega (arith, ltb-false (count - next) 10 e)
 
 -- ---- no session uploads a file
 
@@ -196,12 +230,44 @@ module _ (fs : List File) (links : List Session) (s : Session) (size : ℕ) wher
     download-fit info =
         picked P (eqb size 9) _ _ (λ e. numbered-fit (wordAt info 0) (wordAt info 4) (getD info 8 0)) (λ e. tt)
 
+    list-found-fit : (f : Found) (number : ℕ) (long : Bool) → findOf fs number ≡ f → P (listFound f long (s .next) fs)
+    unfolding listFound
+    list-found-fit Nothing number long e = tt
+    list-found-fit (At place) number long e =
+        picked P (eqb (fileAt fs place .time) 0) _ _ (λ t. tt)
+        (λ t.
+        record {
+          one = λ p q.
+              subst (λ (x : ℕ). CompleteAt fs x) (same-place place p q)
+              (record {
+                number = λ y. find-found fs number place e .0 (sym (find-number fs number place e) ∙ y);
+                time = eqb-false (fileAt fs place .time) 0 t;
+              });
+          few = r .next;
+        })
+
+    list-numbered-fit : (number : ℕ) (long : Bool) → P (listNumbered number long (s .count) (s .next) fs)
+    unfolding listNumbered
+    list-numbered-fit number long =
+        picked P (eqb number 0) _ _
+        (λ e.
+        picked P (ltb (s .next) (s .count)) _ _
+        (λ h.
+        record { one = λ p q. absurd (not-one (s .next) p q); few = ten-most (s .next) (s .count) (r .next) })
+        (λ h. tt))
+        (λ e. list-found-fit (findOf fs number) number long refl)
+
+    directory-fit : (long : Bool) (info : List ℕ) → P (onDirectory long (s .count) (s .next) size info fs)
+    unfolding onDirectory
+    directory-fit long info = picked P (eqb size 4) _ _ (λ e. list-numbered-fit (wordAt info 0) long) (λ e. tt)
+
     ack-fit : (d : Downlink) (destination : ℕ) → P (onAck d size destination)
     unfolding onAck
     ack-fit down.Idle destination = tt
     ack-fit (down.Sending place offset sent) destination = tt
     ack-fit (down.Ended place) destination = picked P (eqb size 1) _ _ (λ e. tt) (λ e. tt)
     ack-fit (down.Aborting place) destination = tt
+    ack-fit (down.Listing l long done sent) destination = tt
 
     nak-fit : (d : Downlink) → s .down ≡ d → P (onNak d)
     unfolding onNak
@@ -209,22 +275,26 @@ module _ (fs : List File) (links : List Session) (s : Session) (size : ℕ) wher
     nak-fit (down.Sending place offset sent) e = r .sending place offset sent e .complete
     nak-fit (down.Ended place) e = tt
     nak-fit (down.Aborting place) e = tt
+    nak-fit (down.Listing l long done sent) e = tt
 
-    downlink-fit : (kind : ℕ) (info : List ℕ) → P (onDownlink (s .down) (s .count) (s .next) kind size info fs selected)
+    downlink-fit : (kind : ℕ) (info : List ℕ) → expectedDown (s .down) kind size ≡ true
+        → P (onDownlink (s .down) (s .count) (s .next) kind size info fs selected)
     unfolding onDownlink
-    downlink-fit kind info =
+    downlink-fit kind info x =
         picked P (eqb kind 8) _ _ (λ e. download-fit info)
         (λ e.
         picked P (eqb kind 12) _ _ (λ d. ack-fit (s .down) (getD info 0 0))
         (λ d.
         picked P (eqb kind 13) _ _ (λ c. nak-fit (s .down) refl)
-        (λ c. picked P (eqb kind 16) _ _ (λ b. tt) (λ b. tt))))
+        (λ c.
+        picked P (eqb kind 16) _ _ (λ b. select-taken (s .down) kind size (eqb-true kind 16 b) x)
+        (λ b. picked P (eqb kind 15) _ _ (λ a. directory-fit true info) (λ a. directory-fit false info)))))
 
     packet-fit : (kind : ℕ) (info : List ℕ) → P (onPacket s links kind size info fs selected)
     unfolding onPacket
     packet-fit kind info =
         picked P (expected (s .up) (s .down) kind size) _ _
-        (λ e. picked P (ltb kind 8) _ _ (λ h. uplink-fit kind info) (λ h. downlink-fit kind info))
+        (λ e. picked P (ltb kind 8) _ _ (λ h. uplink-fit kind info) (λ h. downlink-fit kind info (down-taken (s .up) (s .down) kind size h e)))
         (λ e. tt)
 
 -- every act decided on fits

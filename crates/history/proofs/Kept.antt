@@ -11,7 +11,7 @@ use Rattle.links.proofs.Facts.{part-end}
 use Rattle.server.specs.declared.Server.{Server}
 use Rattle.server.specs.declared.check.Check.{Check}
 use Rattle.server.specs.declared.check.Check.the-variants.{Go}
-use Rattle.server.specs.State.{Lent, lent, linkOf, withPart, ownerPart, tablePart}
+use Rattle.server.specs.State.{Lent, lent, linkOf, part, withPart, ownerPart, tablePart}
 use Rattle.server.specs.Turns.{partsOf}
 use Rattle.sending.specs.Sending.{dueOf}
 use Rattle.server.specs.Calls.{Lost, onCheck, receiveOf, onLogin, loginOf, onLose, loseOf, dueAs, onRequest, requestOf, loginBy, requestBy, receiveBy, loseBy}
@@ -56,7 +56,8 @@ module _ (sv : Server) (l : Lent) (g : Good sv l) (i : ℕ) (inside : i < sv .se
   unfolding onRequest dueAs
   request-leaves linked out =
       leaves-store sv l g i
-      (dueOf (linkOf sv i .down) (linkOf sv i) (l .disk) (ownerPart sv l) (files (tablePart sv l)) out .asked .session)
+      (dueOf (linkOf sv i .down) (linkOf sv i) (l .disk) (ownerPart sv l) (files (tablePart sv l))
+      (part (i * sv .most) (sv .most) (l .selected)) out .asked .session)
       (l .selected) (l .held) refl refl
       (request-links (sv .sessions) (sv .most) (l .selected) (l .held) (sv .links) i (partsOf sv i (memOf l)) (sv .last) (l .disk)
       (ownerPart sv l) out (facts .sessions) inside linked (facts .links) (stored-parts sv l g i))

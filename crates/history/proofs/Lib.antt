@@ -1,3 +1,4 @@
+pub mod Directories
 pub mod Others
 pub mod Decided
 pub mod Acted

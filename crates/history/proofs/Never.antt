@@ -1,15 +1,17 @@
 -- For a good state no call answers 33 or 35: what is refused locally is refused by 34 or 32.
 use mathlib.Core.Path.{_≡_, refl, subst}
 use mathlib.Core.Bool.{Bool, true, false, cond}
-use mathlib.Core.List.{List}
-use Prim.Native.Nat.{ℕ, _+_, _-_, _≤_}
+use mathlib.Core.List.{List, _++_}
+use Prim.Native.Nat.{ℕ, _+_, _*_, _-_, _≤_}
 use native.Mathlib.Omega.{arith}
 use borrow.Author.Tests.{le-ltb}
-use lib.Dec.{ltb}
-use lib.ListN.{length}
+use lib.Dec.{eqb, ltb}
+use lib.ListN.{length, take, drop}
+use Rattle.packet.specs.Packet.{packetOf}
 use Rattle.session.specs.declared.state.Session.{Session}
 use Rattle.session.specs.declared.state.Downlink.{Downlink}
 use Rattle.session.specs.declared.state.Downlink.the-variants as down
+use Rattle.session.specs.declared.state.Listed.{Listed}
 use Rattle.session.specs.declared.reply.Reply.{Reply}
 use Rattle.session.specs.declared.reply.Reply.the-variants as reply
 use Rattle.session.specs.declared.reply.Answer.{Answer}
@@ -21,9 +23,11 @@ use Rattle.table.specs.Table.{files, fileAt}
 use Rattle.server.specs.declared.Server.{Server}
 use Rattle.server.specs.declared.check.Check.{Check}
 use Rattle.server.specs.declared.check.Check.the-variants.{Go}
-use Rattle.server.specs.State.{Lent, linkOf, ownerPart, tablePart}
+use Rattle.server.specs.State.{Lent, linkOf, part, ownerPart, tablePart}
 use Rattle.server.specs.Turns.{hearOf}
-use Rattle.sending.specs.Sending.{told, leastOf, dataOf, sendingOf, dueOf}
+use Rattle.listing.specs.declared.Filled.{Filled}
+use Rattle.listing.specs.Listing.{entriesOf, fillOf}
+use Rattle.sending.specs.Sending.{asked, askedOf, told, leastOf, dataOf, sendingOf, listedAs, dueOf}
 use Rattle.server.specs.Calls.{answeredBy, heardBy, stepOf, onCheck, receiveOf, onLogin, loginOf, onLose, loseOf, dueAs, onRequest, requestOf, loginBy, requestBy, receiveBy, loseBy}
 use Rattle.history.specs.Calls.{Call, login, receive, request, lose, callOf}
 use Rattle.history.specs.Good.{Good}
@@ -73,13 +77,27 @@ sending-unrefused s place offset bytes disk owner fs out h = go (ltb (offset + b
     go true = sent 0 _
     go false = reply-unrefused reply.DataEnd 0 out h
 
-due-unrefused : (d : Downlink) (s : Session) (disk owner : List ℕ) (fs : List File) (out : List ℕ) → 258 ≤ length out
-    → Unrefused (dueOf d s disk owner fs out .asked .answer)
+listed-unrefused : (s : Session) (l : Listed) (long : Bool) (f : Filled) (out : List ℕ) → 258 ≤ length out
+    → Unrefused (listedAs s l long f out .asked .answer)
+unfolding listedAs
+listed-unrefused s l long f out h = go (eqb (f .size) 0)
+  where
+    go : (t : Bool)
+        → Unrefused (cond t (told (withDown s down.Idle) (answered reply.DataEnd 0 out))
+        (asked (askedOf (withDown s (down.Listing l long (f .done) (f .sent))) (answer.Sent 0 (2 + f .size)))
+        (packetOf 0 (take (f .size) (f .bytes)) ++ drop (2 + f .size) out)) .asked .answer)
+    go true = reply-unrefused reply.DataEnd 0 out h
+    go false = sent 0 _
+
+due-unrefused : (d : Downlink) (s : Session) (disk owner : List ℕ) (fs : List File) (selected out : List ℕ) → 258 ≤ length out
+    → Unrefused (dueOf d s disk owner fs selected out .asked .answer)
 unfolding dueOf
-due-unrefused down.Idle s disk owner fs out h = quiet 0
-due-unrefused (down.Sending place offset bytes) s disk owner fs out h = sending-unrefused s place offset bytes disk owner fs out h
-due-unrefused (down.Ended place) s disk owner fs out h = quiet 0
-due-unrefused (down.Aborting place) s disk owner fs out h = reply-unrefused reply.Aborted 0 out h
+due-unrefused down.Idle s disk owner fs selected out h = quiet 0
+due-unrefused (down.Sending place offset bytes) s disk owner fs selected out h = sending-unrefused s place offset bytes disk owner fs out h
+due-unrefused (down.Ended place) s disk owner fs selected out h = quiet 0
+due-unrefused (down.Aborting place) s disk owner fs selected out h = reply-unrefused reply.Aborted 0 out h
+due-unrefused (down.Listing l long done bytes) s disk owner fs selected out h =
+    listed-unrefused s l long (fillOf (entriesOf l long (s .next) disk owner fs selected) done bytes) out h
 
 -- ---- every call
 
@@ -122,7 +140,9 @@ module _ (sv : Server) (l : Lent) (g : Good sv l) where
   request-local session out =
       checked sv l g session true (length out) (λ (k : Check). LocalOnly (onRequest k sv l out .done .answer)) by-34 by-32
       (λ i inside linked room.
-      none-local _ (due-unrefused (linkOf sv i .down) (linkOf sv i) (l .disk) (ownerPart sv l) (files (tablePart sv l)) out room))
+      none-local _
+      (due-unrefused (linkOf sv i .down) (linkOf sv i) (l .disk) (ownerPart sv l) (files (tablePart sv l)) (part (i * sv .most) (sv .most) (l .selected)) out
+      room))
 
   lose-local : (session : ℕ) → LocalOnly (loseOf sv l session .done .answer)
   unfolding loseOf loseBy onLose

@@ -1,6 +1,7 @@
 -- A session's facts over the files after a change of ONE file that it does not upload: "a call changes no file but its own" (demand 3). What a
 -- session downloads and selects are complete files, which no change touches.
 use mathlib.Core.Path.{_≡_, refl, sym, ap, _∙_, subst}
+use mathlib.Core.Bool.{Bool}
 use mathlib.Core.List.{List}
 use Prim.Native.Nat.{ℕ, _+_, _≤_, _<_}
 use native.Mathlib.Omega.{arith}
@@ -8,25 +9,28 @@ use lib.ListN.{getD}
 use Rattle.session.specs.declared.state.Session.{Session}
 use Rattle.session.specs.declared.state.Uplink.the-variants as up
 use Rattle.session.specs.declared.state.Downlink.the-variants as down
+use Rattle.session.specs.declared.state.Listed.{Listed}
 use Rattle.table.specs.declared.File.{File}
 use Rattle.table.specs.declared.Found.the-variants.{At}
 use Rattle.table.specs.Table.{files, fileAt, findOf, numbers}
 use Rattle.table.specs.Fit.{Distinct}
 use Rattle.table.proofs.Finding.{find-number, find-own}
 use Rattle.files.specs.View.{View}
-use Rattle.links.proofs.Facts.{CompleteAt, SendingAt, Selectable, LinkFacts}
+use Rattle.links.proofs.Facts.{CompleteAt, SendingAt, ListingAt, Selectable, LinkFacts}
 use Rattle.carry.specs.declared.turn.Last.{Last}
 use Rattle.carry.specs.Turn.{Mem}
 use Rattle.acts.specs.Change.{Files, Change, same, begins, receives, completes, discards}
 use Rattle.acts.proofs.Interface.{filesIn}
+use Rattle.history.proofs.Directories.{listing-still}
 
 -- ---- what a session reads
 
--- the part of a session's facts that names complete files: its download and its selection
+-- the part of a session's facts that names complete files: its download or directory, and its selection
 pub record Reads (fs : List File) (most : ℕ) (selected : List ℕ) (s : Session) : Type 0 where
   pub sending : (place offset sent : ℕ) → s .down ≡ down.Sending place offset sent → SendingAt fs place (offset + sent)
   pub ended : (place : ℕ) → s .down ≡ down.Ended place → CompleteAt fs place
   pub aborting : (place : ℕ) → s .down ≡ down.Aborting place → CompleteAt fs place
+  pub listing : (l : Listed) (long : Bool) (done sent : ℕ) → s .down ≡ down.Listing l long done sent → ListingAt fs selected (s .next) l done sent
   pub at-most : s .count ≤ most
   pub next : s .next ≤ s .count
   pub names : (k : ℕ) → k < s .count → Selectable fs (getD selected k 0)
@@ -37,6 +41,7 @@ reads-of fs most selected part s f =
       sending = f .sending;
       ended = f .ended;
       aborting = f .aborting;
+      listing = f .listing;
       at-most = f .at-most;
       next = f .next;
       names = f .names;
@@ -59,35 +64,39 @@ module _ (fs fs′ : List File) (kept : (q : ℕ) → CompleteAt fs q → fileAt
       }
 
   -- a number is found where it was
-  pub selectable-still : (n : ℕ) → Selectable fs n → Selectable fs′ n
-  selectable-still n h =
+  found-at : (n : ℕ) (h : Selectable fs n) → findOf fs′ n ≡ At (h .place)
+  found-at n h =
       let p = h .place in
-      let c = complete-still p (h .complete) in
       let e : fileAt fs′ p .number ≡ n = ap (λ (f : File). f .number) (kept p (h .complete)) ∙ find-number fs n p (h .found) in
-      record {
-        place = p;
-        found = subst (λ (k : ℕ). findOf fs′ k ≡ At p) e (find-own fs′ once p (c .number));
-        complete = c;
-      }
+      subst (λ (k : ℕ). findOf fs′ k ≡ At p) e (find-own fs′ once p (complete-still p (h .complete) .number))
+
+  pub selectable-still : (n : ℕ) → Selectable fs n → Selectable fs′ n
+  selectable-still n h = record { place = h .place; found = found-at n h; complete = complete-still (h .place) (h .complete) }
+
+  pub found-same : (n : ℕ) → Selectable fs n → findOf fs′ n ≡ findOf fs n
+  found-same n h = found-at n h ∙ sym (h .found)
 
   pub reads-still : (most : ℕ) (selected selected′ : List ℕ) (s : Session)
-      → Reads fs most selected s → ((k : ℕ) → k < most → getD selected′ k 0 ≡ getD selected k 0) → Reads fs′ most selected′ s
-  reads-still most selected selected′ s r listed =
-      record {
+      → Reads fs most selected s → selected′ ≡ selected → Reads fs′ most selected′ s
+  reads-still most selected selected′ s r e =
+      subst (λ (x : List ℕ). Reads fs′ most x s) (sym e)
+      (record {
         sending = λ place offset sent e. sending-still place (offset + sent) (r .sending place offset sent e);
         ended = λ place e. complete-still place (r .ended place e);
         aborting = λ place e. complete-still place (r .aborting place e);
+        listing = λ l long done sent e.
+            listing-still fs selected (s .count) (s .next) (r .next) (r .names) fs′ kept found-same complete-still l done sent
+            (r .listing l long done sent e);
         at-most = r .at-most;
         next = r .next;
-        names = λ k h.
-            subst (λ (n : ℕ). Selectable fs′ n) (sym (listed k (omega (arith, r .at-most)))) (selectable-still (getD selected k 0) (r .names k h));
-      }
+        names = λ k h. selectable-still (getD selected k 0) (r .names k h);
+      })
 
   -- the facts of a session whose own upload and part of the selections stay
   pub link-still : (most : ℕ) (selected selected′ part : List ℕ) (s : Session)
       → LinkFacts fs most selected part s
       → ((place offset received : ℕ) → s .up ≡ up.Receiving place offset received → fileAt fs′ place ≡ fileAt fs place)
-      → ((k : ℕ) → k < most → getD selected′ k 0 ≡ getD selected k 0)
+      → selected′ ≡ selected
       → LinkFacts fs′ most selected′ part s
   link-still most selected selected′ part s f own listed =
       let r = reads-still most selected selected′ s (reads-of fs most selected part s f) listed in
@@ -103,6 +112,7 @@ module _ (fs fs′ : List File) (kept : (q : ℕ) → CompleteAt fs q → fileAt
         sending = r .sending;
         ended = r .ended;
         aborting = r .aborting;
+        listing = r .listing;
         at-most = r .at-most;
         next = r .next;
         names = r .names;
@@ -155,4 +165,4 @@ link-kept m last m′ last′ c once most selected part s f apart =
     once most selected selected part s f
     (λ place offset received e.
     ap (λ (v : View). v .file) (untouched last (filesIn m) last′ (filesIn m′) c place (apart place offset received e)))
-    (λ k h. refl)
+    refl

@@ -7,7 +7,7 @@ use mathlib.Core.List.{List, _++_}
 use Prim.Native.Nat.{ℕ, _+_, _*_, _-_, _%_, _≤_, _<_, min}
 use native.Mathlib.Omega.{arith}
 use borrow.Author.Tests.{ltb-true, ltb-false}
-use lib.Dec.{ltb}
+use lib.Dec.{eqb, ltb}
 use lib.ListN.{length, length-append, length-take, length-drop, length-replicate, replicate, getD, set, take, drop, List·getD-append}
 use lib.Seq.{length-take-le, getD-take, getD-drop, getD-append-add, getD-set-same, getD-set-other, take-at, drop-at, ext-getD}
 use Rattle.packet.specs.declared.frame.Frame.{Frame}
@@ -15,26 +15,37 @@ use Rattle.session.specs.declared.state.Session.{Session}
 use Rattle.session.specs.declared.state.Uplink.the-variants as up
 use Rattle.session.specs.declared.state.Downlink.{Downlink}
 use Rattle.session.specs.declared.state.Downlink.the-variants as down
+use Rattle.session.specs.declared.state.Listed.{Listed}
+use Rattle.session.specs.declared.state.Listed.the-variants as listed
 use Rattle.session.specs.State.{closedSession, freshSession, withHeld, withDown}
 use Rattle.table.specs.declared.File.{File}
+use Rattle.table.specs.declared.Found.{Found}
+use Rattle.table.specs.declared.Found.the-variants.{Nothing, At}
 use Rattle.table.specs.Table.{files, fileAt, numbers}
 use Rattle.table.specs.Fit.{Distinct}
 use Rattle.table.proofs.Finding.{by-equal}
 use Rattle.files.proofs.Choice.{take-le}
 use Rattle.links.specs.Sound.{link}
+use Rattle.links.specs.Sound as size
 use Rattle.links.specs.Kept.{Uploads}
-use Rattle.links.proofs.Facts.{CompleteAt, SendingAt, Unfinished, LinkFacts, selectionOf, packetOf, LinksFacts, part-end}
+use Rattle.links.proofs.Facts.{CompleteAt, SendingAt, ListingAt, Unfinished, LinkFacts, selectionOf, packetOf, LinksFacts, part-end}
 use Rattle.decide.specs.Decide.{decideOf}
 use Rattle.carry.specs.declared.turn.Last.{Last}
 use Rattle.carry.specs.Turn.{Mem, Turned}
 use Rattle.carry.specs.Carry.{carryOut}
 use Rattle.server.specs.State.{withPart}
 use Rattle.server.specs.Turns.{sizeIn}
-use Rattle.sending.specs.Sending.{Due, leastOf, dataOf, sendingOf, dueOf}
+use Rattle.directory.specs.Directory.{foundIn}
+use Rattle.entries.proofs.Laws.{entry-short}
+use Rattle.listing.specs.Listing.{entryIn, entriesOf, fillOf}
+use Rattle.listing.proofs.EntryLaws.{entries-count, entry-of}
+use Rattle.listing.proofs.FillLaws.{fill-within}
+use Rattle.sending.specs.Sending.{Due, leastOf, dataOf, sendingOf, listedAs, listingOf, dueOf}
 use Rattle.acts.proofs.Interface.{Stored, Kept}
+use Rattle.history.proofs.Directories.{CompleteIn, listed-complete}
 use Rattle.history.proofs.Others.{Reads, reads-of, reads-still, link-still}
 use Rattle.history.proofs.Decided.{Own, decide-fit}
-use Rattle.history.proofs.Acted.{up-of, receiving-of, Down, reads-with, by-test, file-most, own-idle, Acted, acted}
+use Rattle.history.proofs.Acted.{up-of, receiving-of, Down, reads-with, by-test, file-most, file-received, own-idle, Acted, acted}
 
 -- ---- a session's part of what is lent
 
@@ -200,7 +211,15 @@ module _ (fs fs′ : List File) (sessions most : ℕ) (selected selected′ held
 -- the session's downlink and selection do not see how many bytes of a packet are held
 reads-held : (fs : List File) (most : ℕ) (selected : List ℕ) (s : Session) (n : ℕ) → Reads fs most selected s → Reads fs most selected (withHeld s n)
 reads-held fs most selected s n r =
-    record { sending = r .sending; ended = r .ended; aborting = r .aborting; at-most = r .at-most; next = r .next; names = r .names }
+    record {
+      sending = r .sending;
+      ended = r .ended;
+      aborting = r .aborting;
+      listing = r .listing;
+      at-most = r .at-most;
+      next = r .next;
+      names = r .names;
+    }
 
 module _ (sessions most : ℕ) (selected held held′ : List ℕ) (links : List Session) (i n : ℕ) (m : Mem) (last : Last) (t : Turned)
     (f : LinksFacts (files (m .table)) sessions most selected held links) (h : i < sessions) (linked : link links i .linked ≡ true)
@@ -241,7 +260,7 @@ module _ (sessions most : ℕ) (selected held held′ : List ℕ) (links : List 
   others-keep j l ne o =
       subst (λ (x : List ℕ). LinkFacts fs′ most (selectionOf most selected′ j) x (link links j)) (sym (packets j ne))
       (link-still fs fs′ complete-kept numbers-once most (selectionOf most selected j) (selectionOf most selected′ j) (packetOf held j) (link links j)
-      (f .each j l o) apart (selection-other sessions most i (t .mem .selected) selected h (f .selections) part-room j ne))
+      (f .each j l o) apart (part-stays sessions most i (t .mem .selected) selected h (f .selections) part-room j ne))
     where
       apart : (place offset received : ℕ) → link links j .up ≡ up.Receiving place offset received → fileAt fs′ place ≡ fileAt fs place
       apart place offset received e =
@@ -255,12 +274,13 @@ module _ (sessions most : ℕ) (selected held held′ : List ℕ) (links : List 
   own-holds =
       let e = selection-own sessions most i (t .mem .selected) selected h (f .selections) part-room in
       let r = reads-still fs fs′ complete-kept numbers-once most (t .mem .selected) (selectionOf most selected′ i) (t .turn .session) (a .reads)
-      (λ x l. ap (λ (y : List ℕ). getD y x 0) e) in
+      e in
       record {
         receiving = receiving-of fs′ (t .turn .session .up) (a .receiving);
         sending = r .sending;
         ended = r .ended;
         aborting = r .aborting;
+        listing = r .listing;
         at-most = r .at-most;
         next = r .next;
         names = r .names;
@@ -338,6 +358,7 @@ fresh-facts fs most selected part =
       sending = λ place offset sent e. absurd (let z : _≡_ {A = ℕ} 0 1 = cc in omega arith);
       ended = λ place e. absurd (let z : _≡_ {A = ℕ} 0 1 = cc in omega arith);
       aborting = λ place e. absurd (let z : _≡_ {A = ℕ} 0 1 = cc in omega arith);
+      listing = λ l long done sent e. absurd (let z : _≡_ {A = ℕ} 0 1 = cc in omega arith);
       at-most = omega arith;
       next = omega arith;
       names = λ k h. absurd (omega arith);
@@ -376,11 +397,13 @@ module _ (fs : List File) (sessions most : ℕ) (selected held : List ℕ) (link
 
 -- ---- a request
 
-down-of : (fs : List File) (most : ℕ) (selected : List ℕ) (s : Session) → Reads fs most selected s → (d : Downlink) → s .down ≡ d → Down fs d
+down-of : (fs : List File) (most : ℕ) (selected : List ℕ) (s : Session) → Reads fs most selected s → (d : Downlink) → s .down ≡ d
+    → Down fs selected (s .next) d
 down-of fs most selected s r down.Idle e = tt
 down-of fs most selected s r (down.Sending place offset sent) e = r .sending place offset sent e
 down-of fs most selected s r (down.Ended place) e = r .ended place e
 down-of fs most selected s r (down.Aborting place) e = r .aborting place e
+down-of fs most selected s r (down.Listing l long done sent) e = r .listing l long done sent e
 
 -- "up to 256 bytes": no more than there are
 least-le : (n : ℕ) → leastOf n ≤ n
@@ -388,9 +411,12 @@ unfolding leastOf
 least-le n = by-test (λ (x : ℕ). x ≤ n) (ltb n 256) _ _ (λ e. omega arith) (λ e. ltb-false n 256 e)
 
 -- the downlink after a request, that of a file no longer than the store
-module _ (fs : List File) (s : Session) (disk owner out : List ℕ)
-    (most : (q : ℕ) → CompleteAt fs q → fileAt fs q .size ≤ 1048576) (P : Session → Type 0)
-    (stays : P s) (moves : (v : Downlink) → Down fs v → P (withDown s v)) where
+module _ (fs : List File) (s : Session) (disk owner selected out : List ℕ)
+    (most : (q : ℕ) → CompleteAt fs q → fileAt fs q .size ≤ 1048576)
+    (received : (q : ℕ) → CompleteAt fs q → fileAt fs q .received ≤ fileAt fs q .size)
+    (complete : (l : Listed) → ((place : ℕ) → l ≡ listed.One place → CompleteAt fs place) → (d : ℕ)
+    → CompleteIn fs (getD (foundIn l (s .next) fs selected) d Nothing)) (P : Session → Type 0)
+    (stays : P s) (moves : (v : Downlink) → Down fs selected (s .next) v → P (withDown s v)) where
   sending-moves : (place offset sent : ℕ) → SendingAt fs place (offset + sent) → P (sendingOf s place offset sent disk owner fs out .asked .session)
   unfolding sendingOf dataOf
   sending-moves place offset sent c =
@@ -412,12 +438,49 @@ module _ (fs : List File) (s : Session) (disk owner out : List ℕ)
                 );
           }
 
-  due-moves : (d : Downlink) → Down fs d → P (dueOf d s disk owner fs out .asked .session)
+  -- an entry is no longer than its file
+  entry-most : (long : Bool) (f : Found) → CompleteIn fs f → length (entryIn long disk owner fs f) ≤ size.sizeIn fs f
+  unfolding entryIn size.sizeIn
+  entry-most long Nothing c = omega arith
+  entry-most long (At place) c =
+      omega (arith, entry-short long disk owner place (fileAt fs place .received) .within, received place c)
+
+  filled-on : (l : Listed) (long : Bool) (done sent : ℕ) → ListingAt fs selected (s .next) l done sent
+      → let f = fillOf (entriesOf l long (s .next) disk owner fs selected) done sent in
+      ListingAt fs selected (s .next) l (f .done) (f .sent)
+  filled-on l long done sent c =
+      let es = entriesOf l long (s .next) disk owner fs selected in
+      let f = fillOf es done sent in
+      let n = entries-count long disk owner l (s .next) fs selected in
+      let w = fill-within es done sent (omega (arith, c .come)) in
+      let e = entry-of long disk owner l (s .next) fs selected (f .done) in
+      record {
+        one = c .one;
+        come = omega (arith, w .0);
+        within =
+            omega (
+              arith,
+              w .1,
+              ap length e,
+              entry-most long (getD (foundIn l (s .next) fs selected) (f .done) Nothing) (complete l (c .one) (f .done)),
+            );
+      }
+
+  listing-moves : (l : Listed) (long : Bool) (done sent : ℕ) → ListingAt fs selected (s .next) l done sent
+      → P (listingOf s l long done sent disk owner fs selected out .asked .session)
+  unfolding listedAs
+  listing-moves l long done sent c =
+      let f = fillOf (entriesOf l long (s .next) disk owner fs selected) done sent in
+      by-test (λ (x : Due). P (x .asked .session)) (eqb (f .size) 0) _ _ (λ e. moves down.Idle tt)
+      (λ e. moves (down.Listing l long (f .done) (f .sent)) (filled-on l long done sent c))
+
+  due-moves : (d : Downlink) → Down fs selected (s .next) d → P (dueOf d s disk owner fs selected out .asked .session)
   unfolding dueOf
   due-moves down.Idle c = stays
   due-moves (down.Sending place offset sent) c = sending-moves place offset sent c
   due-moves (down.Ended place) c = stays
   due-moves (down.Aborting place) c = moves down.Idle tt
+  due-moves (down.Listing l long done sent) c = listing-moves l long done sent c
 
 -- the bytes that a request sends do not matter to the sessions: any disk, owners and output
 pub request-links : (sessions most : ℕ) (selected held : List ℕ) (links : List Session) (i : ℕ) (m : Mem) (last : Last) (disk owner out : List ℕ)
@@ -427,9 +490,11 @@ pub request-links : (sessions most : ℕ) (selected held : List ℕ) (links : Li
     → length links ≡ 4
     → Stored m last
     → LinksFacts (files (m .table)) sessions most selected held
-    (set links i (dueOf (link links i .down) (link links i) disk owner (files (m .table)) out .asked .session))
+    (set links i (dueOf (link links i .down) (link links i) disk owner (files (m .table)) (selectionOf most selected i) out .asked .session))
 request-links sessions most selected held links i m last disk owner out f h linked four st =
-    due-moves (files (m .table)) (link links i) disk owner out (λ q c. file-most m last st q (c .number))
+    due-moves (files (m .table)) (link links i) disk owner (selectionOf most selected i) out (λ q c. file-most m last st q (c .number))
+    (λ q c. file-received m last st q (c .number))
+    (listed-complete (files (m .table)) (selectionOf most selected i) (link links i .count) (link links i .next) (r .next) (r .names))
     (λ (x : Session). LinksFacts (files (m .table)) sessions most selected held (set links i x))
     (moved (link links i) refl (f .each i h linked))
     (λ v c. moved (withDown (link links i) v) refl (facts v c))
@@ -438,7 +503,7 @@ request-links sessions most selected held links i m last disk owner out f h link
     r : Reads (files (m .table)) most (selectionOf most selected i) (link links i)
     r = reads-of (files (m .table)) most (selectionOf most selected i) (packetOf held i) (link links i) (f .each i h linked)
 
-    facts : (v : Downlink) → Down (files (m .table)) v
+    facts : (v : Downlink) → Down (files (m .table)) (selectionOf most selected i) (link links i .next) v
         → LinkFacts (files (m .table)) most (selectionOf most selected i) (packetOf held i) (withDown (link links i) v)
     facts v c =
         let w = reads-with (files (m .table)) most (selectionOf most selected i) (link links i) (withDown (link links i) v) r c refl (r .next) in
@@ -447,6 +512,7 @@ request-links sessions most selected held links i m last disk owner out f h link
           sending = w .sending;
           ended = w .ended;
           aborting = w .aborting;
+          listing = w .listing;
           at-most = w .at-most;
           next = w .next;
           names = w .names;

@@ -18,12 +18,15 @@ use Rattle.session.specs.declared.state.Uplink.{Uplink}
 use Rattle.session.specs.declared.state.Uplink.the-variants as up
 use Rattle.session.specs.declared.state.Downlink.{Downlink}
 use Rattle.session.specs.declared.state.Downlink.the-variants as down
+use Rattle.session.specs.declared.state.Listed.{Listed}
+use Rattle.session.specs.declared.state.Listed.the-variants as listed
 use Rattle.session.specs.State.{closedSession}
 use Rattle.table.specs.declared.File.{File}
 use Rattle.table.specs.declared.Found.{Found}
 use Rattle.table.specs.declared.Found.the-variants.{Nothing, At}
 use Rattle.table.specs.Table.{fileAt, findOf}
-use Rattle.links.specs.Sound.{completeAt, uplinkSound, downlinkSound, namedAt, namedSound, namesSound, selectionSound, packetSound, linkSound, linkIn, linkAt, link, linksSound}
+use Rattle.directory.specs.Directory.{foundIn}
+use Rattle.links.specs.Sound.{completeAt, uplinkSound, listedSound, sizeIn, directorySound, downlinkSound, namedAt, namedSound, namesSound, selectionSound, packetSound, linkSound, linkIn, linkAt, link, linksSound}
 use Rattle.links.specs.Kept.{Uploads, LinksKept}
 
 -- ---- the facts
@@ -48,6 +51,12 @@ pub record SendingAt (fs : List File) (place sent : ℕ) : Type 0 where
   pub complete : CompleteAt fs place
   pub within : sent ≤ fileAt fs place .size
 
+-- a directory has complete files, has come to one of them or past the last, and not past that one's end
+pub record ListingAt (fs : List File) (selected : List ℕ) (next : ℕ) (l : Listed) (done sent : ℕ) : Type 0 where
+  pub one : (place : ℕ) → l ≡ listed.One place → CompleteAt fs place
+  pub come : done ≤ length (foundIn l next fs selected)
+  pub within : sent ≤ sizeIn fs (getD (foundIn l next fs selected) done Nothing)
+
 -- the number is that of a complete file
 pub record Selectable (fs : List File) (number : ℕ) : Type 0 where
   pub place : ℕ
@@ -65,6 +74,7 @@ pub record LinkBy (R : ℕ → ℕ → Type 0) (fs : List File) (most : ℕ) (se
   pub sending : (place offset sent : ℕ) → s .down ≡ down.Sending place offset sent → SendingAt fs place (offset + sent)
   pub ended : (place : ℕ) → s .down ≡ down.Ended place → CompleteAt fs place
   pub aborting : (place : ℕ) → s .down ≡ down.Aborting place → CompleteAt fs place
+  pub listing : (l : Listed) (long : Bool) (done sent : ℕ) → s .down ≡ down.Listing l long done sent → ListingAt fs selected (s .next) l done sent
   pub at-most : s .count ≤ most
   pub next : s .next ≤ s .count
   pub names : (k : ℕ) → k < s .count → Selectable fs (getD selected k 0)
@@ -157,22 +167,54 @@ partial-test fs place offset received h =
     rw (ne-eqb (fileAt fs place .number) 0 (h .number), eq-eqb (fileAt fs place .time) 0 (h .time))
     (le-leb (offset + received) (fileAt fs place .received) (h .agree))
 
-pub sending-fact : (fs : List File) (place offset sent : ℕ) → downlinkSound fs (down.Sending place offset sent) ≡ true → SendingAt fs place (offset + sent)
-unfolding downlinkSound
-sending-fact fs place offset sent e =
-    record { complete = complete-fact fs place (first (completeAt fs place) _ e); within = leb-true _ _ (rest (completeAt fs place) _ e) }
+module _ (fs : List File) (selected : List ℕ) (next : ℕ) where
+  pub sending-fact : (place offset sent : ℕ)
+      → downlinkSound fs selected next (down.Sending place offset sent) ≡ true
+      → SendingAt fs place (offset + sent)
+  unfolding downlinkSound
+  sending-fact place offset sent e =
+      record { complete = complete-fact fs place (first (completeAt fs place) _ e); within = leb-true _ _ (rest (completeAt fs place) _ e) }
 
-pub sending-test : (fs : List File) (place offset sent : ℕ) → SendingAt fs place (offset + sent) → downlinkSound fs (down.Sending place offset sent) ≡ true
-unfolding downlinkSound
-sending-test fs place offset sent h = both _ _ (complete-test fs place (h .complete)) (le-leb _ _ (h .within))
+  pub sending-test : (place offset sent : ℕ)
+      → SendingAt fs place (offset + sent)
+      → downlinkSound fs selected next (down.Sending place offset sent) ≡ true
+  unfolding downlinkSound
+  sending-test place offset sent h = both _ _ (complete-test fs place (h .complete)) (le-leb _ _ (h .within))
 
-ended-fact : (fs : List File) (place : ℕ) → downlinkSound fs (down.Ended place) ≡ true → CompleteAt fs place
-unfolding downlinkSound
-ended-fact fs place e = complete-fact fs place e
+  ended-fact : (place : ℕ) → downlinkSound fs selected next (down.Ended place) ≡ true → CompleteAt fs place
+  unfolding downlinkSound
+  ended-fact place e = complete-fact fs place e
 
-aborting-fact : (fs : List File) (place : ℕ) → downlinkSound fs (down.Aborting place) ≡ true → CompleteAt fs place
-unfolding downlinkSound
-aborting-fact fs place e = complete-fact fs place e
+  aborting-fact : (place : ℕ) → downlinkSound fs selected next (down.Aborting place) ≡ true → CompleteAt fs place
+  unfolding downlinkSound
+  aborting-fact place e = complete-fact fs place e
+
+  one-fact : (l : Listed) → listedSound fs l ≡ true → (place : ℕ) → l ≡ listed.One place → CompleteAt fs place
+  unfolding listedSound
+  one-fact l e place q = complete-fact fs place (rw q at e)
+
+  pub listing-fact : (l : Listed) (long : Bool) (done sent : ℕ)
+      → downlinkSound fs selected next (down.Listing l long done sent) ≡ true
+      → ListingAt fs selected next l done sent
+  unfolding downlinkSound directorySound
+  listing-fact l long done sent e =
+      let e₁ = rest (listedSound fs l) _ e in
+      record {
+        one = one-fact l (first (listedSound fs l) _ e);
+        come = leb-true _ _ (first (leb done (length (foundIn l next fs selected))) _ e₁);
+        within = leb-true _ _ (rest (leb done (length (foundIn l next fs selected))) _ e₁);
+      }
+
+  one-test : (l : Listed) → ((place : ℕ) → l ≡ listed.One place → CompleteAt fs place) → listedSound fs l ≡ true
+  unfolding listedSound
+  one-test (listed.One place) f = complete-test fs place (f place refl)
+  one-test (listed.Selected first) f = refl
+
+  pub listing-test : (l : Listed) (long : Bool) (done sent : ℕ)
+      → ListingAt fs selected next l done sent
+      → downlinkSound fs selected next (down.Listing l long done sent) ≡ true
+  unfolding downlinkSound directorySound
+  listing-test l long done sent h = both _ _ (one-test l (h .one)) (both _ _ (le-leb _ _ (h .come)) (le-leb _ _ (h .within)))
 
 -- the two sides of a session
 uplink-test : (fs : List File) (u : Uplink)
@@ -183,16 +225,19 @@ uplink-test fs up.Idle f = refl
 uplink-test fs (up.Receiving place offset received) f = partial-test fs place offset received (f place offset received refl)
 uplink-test fs up.Ignoring f = refl
 
-downlink-test : (fs : List File) (d : Downlink)
-    → ((place offset sent : ℕ) → d ≡ down.Sending place offset sent → SendingAt fs place (offset + sent))
-    → ((place : ℕ) → d ≡ down.Ended place → CompleteAt fs place)
-    → ((place : ℕ) → d ≡ down.Aborting place → CompleteAt fs place)
-    → downlinkSound fs d ≡ true
-unfolding downlinkSound
-downlink-test fs down.Idle f g h = refl
-downlink-test fs (down.Sending place offset sent) f g h = sending-test fs place offset sent (f place offset sent refl)
-downlink-test fs (down.Ended place) f g h = complete-test fs place (g place refl)
-downlink-test fs (down.Aborting place) f g h = complete-test fs place (h place refl)
+module _ (fs : List File) (selected : List ℕ) (next : ℕ) where
+  downlink-test : (d : Downlink)
+      → ((place offset sent : ℕ) → d ≡ down.Sending place offset sent → SendingAt fs place (offset + sent))
+      → ((place : ℕ) → d ≡ down.Ended place → CompleteAt fs place)
+      → ((place : ℕ) → d ≡ down.Aborting place → CompleteAt fs place)
+      → ((l : Listed) (long : Bool) (done sent : ℕ) → d ≡ down.Listing l long done sent → ListingAt fs selected next l done sent)
+      → downlinkSound fs selected next d ≡ true
+  unfolding downlinkSound
+  downlink-test down.Idle f g h k = refl
+  downlink-test (down.Sending place offset sent) f g h k = sending-test fs selected next place offset sent (f place offset sent refl)
+  downlink-test (down.Ended place) f g h k = complete-test fs place (g place refl)
+  downlink-test (down.Aborting place) f g h k = complete-test fs place (h place refl)
+  downlink-test (down.Listing l long done sent) f g h k = listing-test fs selected next l long done sent (k l long done sent refl)
 
 -- ---- selections
 
@@ -264,7 +309,7 @@ module _ (fs : List File) (most : ℕ) (selected part : List ℕ) (s : Session) 
     where
       chosen : cond (leb (s .count) most) (cond (leb (s .next) (s .count)) (namesSound fs (take (s .count) selected)) false) false ≡ true
           → uplinkSound fs (s .up) ≡ true
-          → downlinkSound fs (s .down) ≡ true
+          → downlinkSound fs selected (s .next) (s .down) ≡ true
           → packetSound (s .held) part ≡ true
           → LinkTested fs most selected part s
       chosen c u d p =
@@ -272,39 +317,40 @@ module _ (fs : List File) (most : ℕ) (selected part : List ℕ) (s : Session) 
           let n = rest (leb (s .count) most) _ c in
           record {
             receiving = λ place offset received q. partial-fact fs place offset received (rw q at u);
-            sending = λ place offset sent q. sending-fact fs place offset sent (rw q at d);
-            ended = λ place q. ended-fact fs place (rw q at d);
-            aborting = λ place q. aborting-fact fs place (rw q at d);
+            sending = λ place offset sent q. sending-fact fs selected (s .next) place offset sent (rw q at d);
+            ended = λ place q. ended-fact fs selected (s .next) place (rw q at d);
+            aborting = λ place q. aborting-fact fs selected (s .next) place (rw q at d);
+            listing = λ l long done sent q. listing-fact fs selected (s .next) l long done sent (rw q at d);
             at-most = m;
             next = leb-true _ _ (first (leb (s .next) (s .count)) _ n);
             names = taken-fact fs selected (s .count) (omega arith) (rest (leb (s .next) (s .count)) _ n);
             packet = unfinished-fact (s .held) part p;
           }
 
-      go : cond (uplinkSound fs (s .up)) (cond (downlinkSound fs (s .down)) (cond (selectionSound fs most selected (s .count) (s .next)) (packetSound (s .held) part) false) false) false ≡ true
+      go : cond (uplinkSound fs (s .up)) (cond (downlinkSound fs selected (s .next) (s .down)) (cond (selectionSound fs most selected (s .count) (s .next)) (packetSound (s .held) part) false) false) false ≡ true
           → LinkTested fs most selected part s
       go e =
           let e₁ = rest (uplinkSound fs (s .up)) _ e in
-          let e₂ = rest (downlinkSound fs (s .down)) _ e₁ in
+          let e₂ = rest (downlinkSound fs selected (s .next) (s .down)) _ e₁ in
           let selection = selectionSound fs most selected (s .count) (s .next) in
-          chosen (first selection _ e₂) (first (uplinkSound fs (s .up)) _ e) (first (downlinkSound fs (s .down)) _ e₁) (rest selection _ e₂)
+          chosen (first selection _ e₂) (first (uplinkSound fs (s .up)) _ e) (first (downlinkSound fs selected (s .next) (s .down)) _ e₁) (rest selection _ e₂)
 
   pub link-test : (s .linked ≡ true → LinkTested fs most selected part s) → linkSound fs most selected part s ≡ true
   unfolding linkSound selectionSound
   link-test f = go (s .linked) refl
     where
       opened : LinkTested fs most selected part s
-          → cond (uplinkSound fs (s .up)) (cond (downlinkSound fs (s .down)) (cond (selectionSound fs most selected (s .count) (s .next)) (packetSound (s .held) part) false) false) false ≡ true
+          → cond (uplinkSound fs (s .up)) (cond (downlinkSound fs selected (s .next) (s .down)) (cond (selectionSound fs most selected (s .count) (s .next)) (packetSound (s .held) part) false) false) false ≡ true
       opened h =
           let m : s .count ≤ length selected = omega (arith, h .at-most) in
           both _ _ (uplink-test fs (s .up) (h .receiving))
-          (both _ _ (downlink-test fs (s .down) (h .sending) (h .ended) (h .aborting))
+          (both _ _ (downlink-test fs selected (s .next) (s .down) (h .sending) (h .ended) (h .aborting) (h .listing))
           (both _ _
           (both _ _ (le-leb _ _ (h .at-most)) (both _ _ (le-leb _ _ (h .next)) (taken-test fs selected (s .count) m (h .names))))
           (unfinished-test (s .held) part (h .packet))))
 
       go : (b : Bool) → s .linked ≡ b
-          → cond b (cond (uplinkSound fs (s .up)) (cond (downlinkSound fs (s .down)) (cond (selectionSound fs most selected (s .count) (s .next)) (packetSound (s .held) part) false) false) false) true ≡ true
+          → cond b (cond (uplinkSound fs (s .up)) (cond (downlinkSound fs selected (s .next) (s .down)) (cond (selectionSound fs most selected (s .count) (s .next)) (packetSound (s .held) part) false) false) false) true ≡ true
       go true l = opened (f l)
       go false l = refl
 
@@ -410,6 +456,7 @@ with-bytes R Q fs most selected part s f q =
       sending = f .sending;
       ended = f .ended;
       aborting = f .aborting;
+      listing = f .listing;
       at-most = f .at-most;
       next = f .next;
       names = f .names;

@@ -11,11 +11,14 @@ use Rattle.session.specs.declared.state.Uplink.{Uplink}
 use Rattle.session.specs.declared.state.Uplink.the-variants as up
 use Rattle.session.specs.declared.state.Downlink.{Downlink}
 use Rattle.session.specs.declared.state.Downlink.the-variants as down
+use Rattle.session.specs.declared.state.Listed.{Listed}
+use Rattle.session.specs.declared.state.Listed.the-variants as listed
 use Rattle.session.specs.State.{closedSession}
 use Rattle.table.specs.declared.File.{File}
 use Rattle.table.specs.declared.Found.{Found}
 use Rattle.table.specs.declared.Found.the-variants.{Nothing, At}
 use Rattle.table.specs.Table.{fileAt, findOf, uploaded}
+use Rattle.directory.specs.Directory.{foundIn}
 
 abbrev pub completeAt : List File → ℕ → Bool
 completeAt fs place = not (eqb (uploaded (fileAt fs place)) 0)
@@ -28,12 +31,33 @@ uplinkSound fs (up.Receiving place offset received) =
     (cond (eqb (fileAt fs place .time) 0) (leb (offset + received) (fileAt fs place .received)) false)
 uplinkSound fs up.Ignoring = true
 
+-- ---- a directory (A1 of document 02); `selected` is the session's part of the selections, and `next` its place in them
+
+-- that of one file names a complete one; those of the selection are looked at with it
+unfoldable pub listedSound : List File → Listed → Bool
+listedSound fs (listed.One place) = completeAt fs place
+listedSound fs (listed.Selected first) = true
+
+-- the announced length of the file that is found, 0 of none
+unfoldable pub sizeIn : List File → Found → ℕ
+sizeIn fs Nothing = 0
+sizeIn fs (At place) = fileAt fs place .size
+
+-- it has come to one of its files, or past the last one, and its offset is within that file
+unfoldable pub directorySound : List File → List ℕ → ℕ → Listed → ℕ → ℕ → Bool
+directorySound fs selected next l done sent =
+    cond (listedSound fs l)
+    (cond (leb done (length (foundIn l next fs selected))) (leb sent (sizeIn fs (getD (foundIn l next fs selected) done Nothing))) false)
+    false
+
 -- a download names a complete file, and an offset within it
-unfoldable pub downlinkSound : List File → Downlink → Bool
-downlinkSound fs down.Idle = true
-downlinkSound fs (down.Sending place offset sent) = cond (completeAt fs place) (leb (offset + sent) (fileAt fs place .size)) false
-downlinkSound fs (down.Ended place) = completeAt fs place
-downlinkSound fs (down.Aborting place) = completeAt fs place
+unfoldable pub downlinkSound : List File → List ℕ → ℕ → Downlink → Bool
+downlinkSound fs selected next down.Idle = true
+downlinkSound fs selected next (down.Sending place offset sent) =
+    cond (completeAt fs place) (leb (offset + sent) (fileAt fs place .size)) false
+downlinkSound fs selected next (down.Ended place) = completeAt fs place
+downlinkSound fs selected next (down.Aborting place) = completeAt fs place
+downlinkSound fs selected next (down.Listing l long done sent) = directorySound fs selected next l done sent
 
 -- a selected number is that of a complete file
 unfoldable pub namedAt : List File → Found → Bool
@@ -60,7 +84,7 @@ packetSound held part = cond (ltb held 2) true (cond (leb (announcedIn part) 256
 unfoldable pub linkSound : List File → ℕ → List ℕ → List ℕ → Session → Bool
 linkSound fs most selected part s =
     cond (s .linked)
-    (cond (uplinkSound fs (s .up)) (cond (downlinkSound fs (s .down))
+    (cond (uplinkSound fs (s .up)) (cond (downlinkSound fs selected (s .next) (s .down))
     (cond (selectionSound fs most selected (s .count) (s .next)) (packetSound (s .held) part) false) false) false)
     true
 

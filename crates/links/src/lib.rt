@@ -1,10 +1,11 @@
 // The sessions against the store: whether what their states name is there (refusal 35).
 //
 // `links_sound` takes any sessions, any numbers and slices of any length, and changes nothing. It is true exactly where each open session of
-// those in use has an upload of a partial file, within the bytes that the file has, a download and a selection of complete ones, and an
+// those in use has an upload of a partial file, within the bytes that the file has, a download, a directory and a selection of complete ones, and an
 // unfinished packet that is unfinished. `Facts` in proofs/ has these facts one by one; what calls keep besides, and refusal 35 does not ask,
 // stands in specs/Kept.antt.
 use session::state::Downlink;
+use session::state::Listed;
 use session::state::Session;
 use session::state::Uplink;
 use table::Found;
@@ -13,7 +14,7 @@ ghost use Prim.Native.Nat.{_+_, _*_, _≤_};
 ghost use lib.ListN.{length, take, drop};
 ghost use Rattle.table.specs.Table.{files, numbers, findOf};
 ghost use Rattle.table.specs.Fit.{Distinct};
-ghost use Rattle.links.specs.Sound.{completeAt, uplinkSound, downlinkSound, namedSound, namesSound, selectionSound, packetSound, linkSound, linkIn, linksSound};
+ghost use Rattle.links.specs.Sound.{completeAt, uplinkSound, listedSound, sizeIn, directorySound, downlinkSound, namedSound, namesSound, selectionSound, packetSound, linkSound, linkIn, linksSound};
 
 // The file at a place is complete.
 fn complete_at(table: &[u32], place: usize) -> bool
@@ -47,9 +48,50 @@ fn uplink_sound(up: Uplink, table: &[u32]) -> bool
     }
 }
 
+// The one file of a directory is complete; the selected ones are looked at with the selection.
+fn listed_sound(listed: Listed, table: &[u32]) -> bool
+    ensures { λ r. ⌜ r ≡ listedSound (files (now (table .entry))) listed ⌝ }
+{
+    match listed {
+        Listed::One(place) => complete_at(table, place),
+        Listed::Selected(_) => true,
+    }
+}
+
+// The announced length of the file that is found, 0 of none.
+fn size_in(found: Found, table: &[u32]) -> u32
+    ensures { λ r. ⌜ r ≡ sizeIn (files (now (table .entry))) found ⌝ }
+{
+    match found {
+        Found::Nothing => 0,
+        Found::At(place) => table::get(table, place).size,
+    }
+}
+
+// What a directory names is there, and it has come to a byte of one of its files, or past the last one.
+fn directory_sound(
+    listed: Listed,
+    done: usize,
+    sent: usize,
+    next: usize,
+    table: &[u32],
+    selected: &[u32],
+) -> bool
+    ensures { λ r. ⌜ r ≡ directorySound (files (now (table .entry))) (now (selected .entry)) next listed done sent ⌝ }
+{
+    if listed_sound(listed, table) {
+        if directory::count(listed, next, table, selected) < done {
+            return false;
+        }
+        let found = directory::found_at(listed, next, done, table, selected);
+        return sent <= size_in(found, table) as usize;
+    }
+    false
+}
+
 // What a downlink state names is there.
-fn downlink_sound(down: Downlink, table: &[u32]) -> bool
-    ensures { λ r. ⌜ r ≡ downlinkSound (files (now (table .entry))) down ⌝ }
+fn downlink_sound(down: Downlink, next: usize, table: &[u32], selected: &[u32]) -> bool
+    ensures { λ r. ⌜ r ≡ downlinkSound (files (now (table .entry))) (now (selected .entry)) next down ⌝ }
 {
     match down {
         Downlink::Idle => true,
@@ -66,6 +108,12 @@ fn downlink_sound(down: Downlink, table: &[u32]) -> bool
         }
         Downlink::Ended { place } => complete_at(table, place),
         Downlink::Aborting { place } => complete_at(table, place),
+        Downlink::Listing {
+            listed,
+            long: _,
+            done,
+            sent,
+        } => directory_sound(listed, done, sent, next, table, selected),
     }
 }
 
@@ -190,7 +238,7 @@ fn link_sound(table: &[u32], most: usize, selected: &[u32], part: &[u8], s: Sess
         let up = s.up;
         let down = s.down;
         if uplink_sound(up, table) {
-            if downlink_sound(down, table) {
+            if downlink_sound(down, s.next, table, selected) {
                 if selection_sound(table, most, selected, s.count, s.next) {
                     return packet_sound(s.held, part);
                 }

@@ -31,6 +31,8 @@ pub data Downlink : Type 0 where
   sending : ℕ → ℕ → Downlink  -- the file of a number; the next byte is the one at an offset
   ended : ℕ → Downlink  -- its DATA_END was sent
   aborting : ℕ → Downlink  -- DL_NAK_CMD brought its DATA_END; DL_ABORTED_RESP is due
+  -- a directory, long (true) or short, of the files of these numbers; the next byte is the one at an offset in their entries, one behind the other
+  listing : Bool → List ℕ → ℕ → Downlink
 
 pub record Session : Type 0 where
   pub linked : Bool  -- whether there is a link

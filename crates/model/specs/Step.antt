@@ -11,8 +11,8 @@ use Rattle.packet.specs.Frame.{Event, packet, too-long, announcedIn, packetIn}
 use Rattle.session.specs.declared.reply.Reply.the-variants as reply
 use Rattle.session.specs.declared.reply.Answer.the-variants as answer
 use Rattle.session.specs.Reply.{told, tell}
-use Rattle.model.specs.State.{Uplink, noUpload, receiving, ignoring, Downlink, noDownload, sending, ended, aborting, Session, freshSession, withHeld}
-use Rattle.model.specs.State.{Model, sessionAt, withSession, inSession, Turn, Stepped, stepped, lost, closing}
+use Rattle.model.specs.State.{Uplink, noUpload, receiving, ignoring, Downlink, noDownload, sending, ended, aborting, listing}
+use Rattle.model.specs.State.{Session, freshSession, withHeld, Model, sessionAt, withSession, inSession, Turn, Stepped, stepped, lost, closing}
 use Rattle.model.specs.Uplink.{onUploadCmd, onData, onDataEnd}
 use Rattle.model.specs.Downlink.{onDownloadCmd, onRequest, onDlAckCmd, onDlNakCmd, onDirCmd, onSelectCmd}
 
@@ -29,6 +29,7 @@ ifNoDownload noDownload t e = t
 ifNoDownload (sending n offset) t e = e
 ifNoDownload (ended n) t e = e
 ifNoDownload (aborting n) t e = e
+ifNoDownload (listing long ns offset) t e = e
 
 -- By its type; s is session i. "A type 18 to 31, a server's own type, a packet not expected in the session's state, or DATA_END or DL_NAK_CMD with
 -- information closes it at the packet's end. The server closes a link in no other case (H)." "Closing beats 1 to 16."
@@ -40,8 +41,8 @@ byType m i s clock kind info =
     (cond (eqb kind 8) (ifNoDownload (s .down) (onDownloadCmd m i s info) (closing m i))
     (cond (eqb kind 12) (onDlAckCmd (s .down) m i info)
     (cond (eqb kind 13) (cond (eqb (length info) 0) (onDlNakCmd (s .down) m i) (closing m i))
-    (cond (eqb kind 14) (ifNoDownload (s .down) (onDirCmd m) (closing m i))
-    (cond (eqb kind 15) (ifNoDownload (s .down) (onDirCmd m) (closing m i))
+    (cond (eqb kind 14) (ifNoDownload (s .down) (onDirCmd false m i s info) (closing m i))
+    (cond (eqb kind 15) (ifNoDownload (s .down) (onDirCmd true m i s info) (closing m i))
     (cond (eqb kind 16) (ifNoDownload (s .down) (onSelectCmd m i info) (closing m i))
     (closing m i)))))))))
 

@@ -16,11 +16,12 @@ use Rattle.session.specs.declared.reply.Answer.the-variants as answer
 use Rattle.session.specs.Reply.{told}
 use Rattle.decide.specs.Words.{wordAt}
 use Rattle.calls.specs.Call.{Call, login, receive, request, lose}
-use Rattle.model.specs.State.{File, Uplink, noUpload, receiving, ignoring, Downlink, noDownload, sending, ended, aborting, Session, withHeld, Model, sessionAt}
-use Rattle.model.specs.State.{inSession, Turn, Stepped, stepped}
+use Rattle.model.specs.State.{File, Uplink, noUpload, receiving, ignoring, Downlink, noDownload, sending, ended, aborting, listing, Session, withHeld}
+use Rattle.model.specs.State.{Model, sessionAt, inSession, Turn, Stepped, stepped}
 use Rattle.model.specs.Files.{find, free, uploading}
 use Rattle.model.specs.Uplink.{uploadNew, uploadContinued, onUploadCmd, dataTo, onData, timeAt, dataEndTo, onDataEnd}
-use Rattle.model.specs.Downlink.{destinationsIn, downloadOf, downloadNumbered, onDownloadCmd, onDirCmd, dataDue, onRequest, onDlAckCmd, onDlNakCmd, onSelectCmd}
+use Rattle.model.specs.Downlink.{destinationsIn, downloadOf, downloadNumbered, onDownloadCmd, dataDue, directoryOf, listingDue, onRequest, onDlAckCmd}
+use Rattle.model.specs.Downlink.{onDlNakCmd, directoryOfOne, directoryNumbered, onDirCmd, onSelectCmd}
 use Rattle.model.specs.Step.{ifNoUpload, ifNoDownload, byType, onPacket, endsIn, onEvent, refusal, unless, step}
 use Rattle.paging.specs.Paging.{Clocked}
 
@@ -87,6 +88,7 @@ module _ (m : Model) (i : ℕ) (small : Small m) where
   ack-small (sending n at) info = small
   ack-small (ended n) info = small
   ack-small (aborting n) info = small
+  ack-small (listing long ns at) info = small
 
   nak-small : (d : Downlink) → Small (onDlNakCmd d m i .after)
   unfolding onDlNakCmd
@@ -94,25 +96,39 @@ module _ (m : Model) (i : ℕ) (small : Small m) where
   nak-small (sending n at) = small
   nak-small (ended n) = small
   nak-small (aborting n) = small
+  nak-small (listing long ns at) = small
+
+  directory-small : (long : Bool) (s : Session) (info : List ℕ) → Small (onDirCmd long m i s info .after)
+  unfolding onDirCmd directoryNumbered
+  directory-small long s info =
+      either (eqb (length info) 4) _ _
+      (either (eqb (wordAt info 0) 0) _ _ (either (ltb (s .next) (length (s .selected))) _ _ small small)
+      (one (find (wordAt info 0) (m .files)) (wordAt info 0)))
+      small
+    where
+      one : (f : Option File) (n : ℕ) → Small (directoryOfOne f m i long n .after)
+      one none n = unfold directoryOfOne in small
+      one (some f) n = unfold directoryOfOne in either (eqb (f .time) 0) _ _ small small
 
   select-small : (info : List ℕ) → Small (onSelectCmd m i info .after)
   unfolding onSelectCmd
   select-small info = either (eqb (validityOf info) 0) _ _ small small
 
+  pick : (b : Bool) (x y : Stepped) → Small (x .after) → Small (y .after) → Small (cond b x y .after)
+  pick true x y p q = p
+  pick false x y p q = q
+
   due-small : (d : Downlink) (out : List ℕ) → Small (onRequest d m i out .after)
-  unfolding onRequest dataDue
+  unfolding onRequest dataDue listingDue
   due-small noDownload out = small
   due-small (sending n at) out = go (find n (m .files))
     where
-      pick : (b : Bool) (x y : Stepped) → Small (x .after) → Small (y .after) → Small (cond b x y .after)
-      pick true x y p q = p
-      pick false x y p q = q
-
       go : (f : Option File) → Small (dataDue f m i n at out .after)
       go none = small
       go (some f) = pick (ltb at (length (f .bytes))) _ _ small small
   due-small (ended n) out = small
   due-small (aborting n) out = small
+  due-small (listing long ns at) out = pick (ltb at (length (directoryOf long ns (m .files)))) _ _ small small
 
   no-upload : (u : Uplink) (x y : Turn) → Small (x .after) → Small (y .after) → Small (ifNoUpload u x y .after)
   no-upload noUpload x y p q = p
@@ -124,6 +140,7 @@ module _ (m : Model) (i : ℕ) (small : Small m) where
   no-download (sending n at) x y p q = q
   no-download (ended n) x y p q = q
   no-download (aborting n) x y p q = q
+  no-download (listing long ns at) x y p q = q
 
   -- DATA_END gives a time
   end-small : (u : Uplink) (clock : ℕ) → clock < 4294967296 → Small (onDataEnd u m i clock .after)
@@ -144,7 +161,7 @@ module _ (m : Model) (i : ℕ) (small : Small m) where
   end-small ignoring clock h = small
 
   packet-small : (clock kind : ℕ) (info : List ℕ) → clock < 4294967296 → Small (onPacket m i clock kind info .after)
-  unfolding byType onDirCmd
+  unfolding byType
   packet-small clock kind info h =
       either (eqb kind 0) _ _ (data-small (sessionAt m i .up) info)
       (either (eqb kind 1) _ _ (either (eqb (length info) 0) _ _ (end-small (sessionAt m i .up) clock h) small)
@@ -152,8 +169,8 @@ module _ (m : Model) (i : ℕ) (small : Small m) where
       (either (eqb kind 8) _ _ (no-download (sessionAt m i .down) _ _ (download-small (sessionAt m i) info) small)
       (either (eqb kind 12) _ _ (ack-small (sessionAt m i .down) info)
       (either (eqb kind 13) _ _ (either (eqb (length info) 0) _ _ (nak-small (sessionAt m i .down)) small)
-      (either (eqb kind 14) _ _ (no-download (sessionAt m i .down) _ _ small small)
-      (either (eqb kind 15) _ _ (no-download (sessionAt m i .down) _ _ small small)
+      (either (eqb kind 14) _ _ (no-download (sessionAt m i .down) _ _ (directory-small false (sessionAt m i) info) small)
+      (either (eqb kind 15) _ _ (no-download (sessionAt m i .down) _ _ (directory-small true (sessionAt m i) info) small)
       (either (eqb kind 16) _ _ (no-download (sessionAt m i .down) _ _ (select-small info) small) small))))))))
 
 event-small : (e : Option Event) (m : Model) (i clock : ℕ) (held input out : List ℕ) → Small m → clock < 4294967296

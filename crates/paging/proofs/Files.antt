@@ -2,37 +2,21 @@
 use mathlib.Core.Path.{_≡_, refl, sym, ap, _∙_, subst}
 use mathlib.Core.Bool.{Bool, true, false, cond, _&&_}
 use mathlib.Core.List.{List, [], _∷_, map, List·Memᴰ·head, List·Memᴰ·tail}
-use mathlib.Core.Option.{some}
-use Prim.Native.Nat.{ℕ, _≤_, _<_}
+use Prim.Native.Nat.{ℕ, _<_}
 use native.Mathlib.Omega.{arith}
 use lib.Dec.{eqb, ltb}
-use borrow.Author.Tests.{eq-eqb, ne-eqb, eqb-false, ltb-true, ltb-false, lt-ltb}
+use borrow.Author.Tests.{eqb-false, ltb-true, ltb-false, lt-ltb}
 use Rattle.header.specs.Items.{fieldsOf}
 use Rattle.equation.specs.Answer.{selects}
 use Rattle.model.specs.State.{File}
-use Rattle.model.specs.Files.{find, matching, placed, byTime}
+use Rattle.model.specs.Files.{matching, placed, byTime}
 use Rattle.model.proofs.Order.{In, Rising, Timed}
 use Rattle.steps.specs.Sound.{Numbers}
+use Rattle.steps.proofs.Found.{numbers-in}
 use Rattle.paging.specs.Client.{above}
 use Rattle.paging.specs.Paging.{entryOf, Rises}
 
 -- ---- found by number
-
-pub record Within (a b t : ℕ) (f : File) : Type 0 where
-  pub from : a < f .number
-  pub to : f .number ≤ b
-  pub time : f .time ≤ t
-
-pub numbers-in : (a b t : ℕ) (fs : List File) (f : File) → Numbers a b t fs → In f fs → Within a b t f
-numbers-in a b t (x ∷ fs) f n (List·Memᴰ·head e) = subst (Within a b t) (sym e) (record { from = n .0; to = n .1; time = n .2 })
-numbers-in a b t (x ∷ fs) f n (List·Memᴰ·tail m) =
-    let w = numbers-in (x .number) b t fs f (n .3) m in record { from = omega (arith, n .0, w .from); to = w .to; time = w .time }
-
-pub in-find : (a b t : ℕ) (fs : List File) (f : File) → Numbers a b t fs → In f fs → find (f .number) fs ≡ some f
-unfolding find
-in-find a b t (x ∷ fs) f n (List·Memᴰ·head e) = rw (eq-eqb (x .number) (f .number) (ap (λ (y : File). y .number) (sym e))) (ap some (sym e))
-in-find a b t (x ∷ fs) f n (List·Memᴰ·tail m) =
-    rw (ne-eqb (x .number) (f .number) (λ z. let w = numbers-in (x .number) b t fs f (n .3) m .from in omega arith)) (in-find (x .number) b t fs f (n .3) m)
 
 -- the numbers rise, so complete files of one time that have one number are one file
 pub numbers-timed : (a b t : ℕ) (fs : List File) → Numbers a b t fs

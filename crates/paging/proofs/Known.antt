@@ -1,5 +1,6 @@
 -- What holds after every history from an empty store: no two complete files have the same upload time, upload times are 32-bit numbers, and the header of
--- each complete file has its upload time. And what a call may do to complete files: leave them, or complete one with a time above all. Assumes nothing.
+-- each complete file has its upload time and items that are not refused. And what a call may do to complete files: leave them, or complete one with a
+-- time above all. Assumes nothing.
 use mathlib.Core.Path.{_≡_, refl, sym, ap, _∙_, subst}
 use mathlib.Core.Bool.{Bool, true, false, cond}
 use mathlib.Core.List.{List, [], _∷_, _++_}
@@ -11,7 +12,9 @@ use lib.Dec.{eqb}
 use borrow.Author.Tests.{eq-eqb}
 use Rattle.numbers.specs.Numbers.{four}
 use Rattle.header.specs.Items.{fieldsOf}
+use Rattle.header.specs.Header.{checkItems}
 use Rattle.header.proofs.Set.{verdict-parts}
+use Rattle.header.proofs.SetAny.{any-check}
 use Rattle.equation.specs.Holds.{bytesOf}
 use Rattle.calls.specs.Call.{Call, History, start, _▸_}
 use Rattle.model.specs.State.{File, file, receiving, Model, empty, sessionAt}
@@ -24,12 +27,12 @@ use Rattle.steps.specs.Change.{Leaves, Change, same, begins, grows, completes, 
 use Rattle.steps.specs.Sound.{Sound}
 use Rattle.steps.specs.Naming.{Partial, UpOk, Named}
 use Rattle.steps.proofs.Changes.{one-change, sound-step}
+use Rattle.steps.proofs.Found.{numbers-in}
 use Rattle.steps.proofs.Naming.{by-eq, find-changed, find-without, not-both, named-step}
 use Rattle.steps.proofs.Own.{find-away, own-file}
 use Rattle.steps.proofs.Start.{sound-empty, named-empty}
 use Rattle.paging.specs.Paging.{Clocked, Clocks}
 use Rattle.paging.proofs.Stamp.{stamped}
-use Rattle.paging.proofs.Files.{numbers-in}
 use Rattle.paging.proofs.Clock.{step-small}
 
 clash : {P : Type 0} {f : File} → none ≡ some f → P
@@ -70,6 +73,7 @@ pub record New (m : Model) (i : ℕ) (n : ℕ) (f : File) : Type 0 where
   pub own : sessionAt m i .up ≡ receiving n
   pub above : m .lastTime < f .time
   pub stamp : Stamped f
+  pub check : checkItems (f .bytes) ≡ 0
 
 module _ (m : Model) (i : ℕ) (m′ : Model) (named : Named m) where
   partial : (n : ℕ) → sessionAt m i .up ≡ receiving n → Partial n (m .files)
@@ -111,6 +115,7 @@ module _ (m : Model) (i : ℕ) (m′ : Model) (named : Named m) where
         own = k .own ∙ ap receiving (sym z);
         above = k .newer;
         stamp = stamped (k .file .number) (k .t) (k .file .bytes) (verdict-parts (k .file .bytes) (k .file .size) (k .valid) .1);
+        check = any-check (k .file .number) (k .t) (k .file .bytes) (verdict-parts (k .file .bytes) (k .file .size) (k .valid) .1);
       })))
   complete-new (drops k) n f e c =
       let w = ap (λ (x : Model). find n (x .files)) (sym (k .leaves .after)) ∙ e in
@@ -145,6 +150,7 @@ pub record Known (m : Model) : Type 0 where
   pub small : m .lastTime < 4294967296
   pub apart : (n k : ℕ) (f g : File) → find n (m .files) ≡ some f → find k (m .files) ≡ some g → (f .time ≡ 0 → ⊥) → f .time ≡ g .time → n ≡ k
   pub stamped : (n : ℕ) (f : File) → find n (m .files) ≡ some f → (f .time ≡ 0 → ⊥) → Stamped f
+  pub checked : (n : ℕ) (f : File) → find n (m .files) ≡ some f → (f .time ≡ 0 → ⊥) → checkItems (f .bytes) ≡ 0
 
 -- no number and no time is above the last one given
 pub found-low : (m : Model) → Sound m → (n : ℕ) (f : File) → find n (m .files) ≡ some f → (n ≤ m .lastNumber) × (f .time ≤ m .lastTime)
@@ -178,11 +184,16 @@ module _ (m : Model) (k : Known m) (c : Call) where
         small = step-small m c (k .small) h;
         apart = λ a b f g p q z e. apart-by a b f g z e (new-file a f p z) (new-file b g q (λ y. z (e ∙ y)));
         stamped = λ n f p z. stamped-by n f z (new-file n f p z);
+        checked = λ n f p z. checked-by n f z (new-file n f p z);
       }
     where
       stamped-by : (n : ℕ) (f : File) → (f .time ≡ 0 → ⊥) → (find n (m .files) ≡ some f) ⊎ New m i n f → Stamped f
       stamped-by n f z (inl e) = k .stamped n f e z
       stamped-by n f z (inr w) = w .stamp
+
+      checked-by : (n : ℕ) (f : File) → (f .time ≡ 0 → ⊥) → (find n (m .files) ≡ some f) ⊎ New m i n f → checkItems (f .bytes) ≡ 0
+      checked-by n f z (inl e) = k .checked n f e z
+      checked-by n f z (inr w) = w .check
 
       apart-by : (a b : ℕ) (f g : File) → (f .time ≡ 0 → ⊥) → f .time ≡ g .time → (find a (m .files) ≡ some f) ⊎ New m i a f
           → (find b (m .files) ≡ some g) ⊎ New m i b g → a ≡ b
@@ -207,6 +218,7 @@ module _ (blocks places sessions maxsel : ℕ) where
         small = omega arith;
         apart = λ n k f g p q z e. clash p;
         stamped = λ n f p z. clash p;
+        checked = λ n f p z. clash p;
       }
   known (h ▸ c) k = step-known (run m₀ h) (known h (k .0)) c (k .1)
 

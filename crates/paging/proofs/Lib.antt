@@ -8,5 +8,6 @@ pub mod Known
 pub mod Page
 pub mod Paging
 pub mod Pieces
+pub mod Directories
 pub mod Worked
 pub mod Said

@@ -28,11 +28,11 @@ use Rattle.model.specs.Files.{matching, byTime, selection}
 use Rattle.model.specs.Downlink.{onSelectCmd}
 use Rattle.model.specs.Step.{ifNoDownload, byType, onPacket, endsIn, onEvent, refusal, step}
 use Rattle.steps.proofs.Cutting.{link-held}
-use Rattle.steps.proofs.Uplink.{open-refusal, goes}
-use Rattle.steps.proofs.Downloads.{by-lt}
+use Rattle.steps.proofs.Found.{in-find}
+use Rattle.steps.proofs.Calls.{by-lt, open-refusal, goes}
 use Rattle.paging.specs.Client.{Asks, pageOf, numbersOf, Answers}
 use Rattle.paging.proofs.Bytes.{at-most-a-mark, narrowed-size}
-use Rattle.paging.proofs.Files.{in-find, above-by-time, matching-above}
+use Rattle.paging.proofs.Files.{above-by-time, matching-above}
 use Rattle.paging.proofs.Known.{Known, found-low}
 
 -- an open session is there

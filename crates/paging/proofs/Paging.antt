@@ -17,7 +17,8 @@ use Rattle.model.specs.Step.{step, run}
 use Rattle.model.proofs.Order.{Rising, find-in, byTime-in, byTime-back, byTime-rising, matching-in, matching-back, matching-apart}
 use Rattle.steps.specs.Parts.{sessionIn}
 use Rattle.steps.specs.Naming.{UpOk, Partial}
-use Rattle.steps.proofs.Downloads.{by-lt}
+use Rattle.steps.proofs.Calls.{by-lt}
+use Rattle.steps.proofs.Found.{in-find}
 use Rattle.steps.proofs.Naming.{by-eq}
 use Rattle.steps.proofs.Own.{own-file}
 use Rattle.paging.specs.Client.{Asks, oldestFirst, above, pageOf, numbersOf, Answers}
@@ -26,7 +27,7 @@ use Rattle.paging.specs.Paging.{Finished, Clocks, Matches, Stands, EachS
 use Rattle.paging.proofs.Entries.{map-in, in-map, map-same, map-map, take-map, in-left, in-right, in-either, taken-in, rises-above, rises-from}
 use Rattle.paging.proofs.Entries.{rises-take, Beyond, taken-or-beyond, rises-append, rises-unique, newest-known}
 use Rattle.paging.proofs.Entries.{newest-most, Of, newest-is, rises-once, once-append}
-use Rattle.paging.proofs.Files.{in-find, numbers-timed, rising-entries, above-in, in-above, above-rises}
+use Rattle.paging.proofs.Files.{numbers-timed, rising-entries, above-in, in-above, above-rises}
 use Rattle.paging.proofs.Known.{New, Known, found-low, new-file, complete-kept, step-grown, known, run-maxsel}
 use Rattle.paging.proofs.Page.{page-answer}
 

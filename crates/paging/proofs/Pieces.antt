@@ -17,8 +17,7 @@ use Rattle.model.specs.State.{Session, Model, empty, sessionAt, Stepped}
 use Rattle.model.specs.Step.{endsIn, onEvent, refusal, step, run}
 use Rattle.steps.specs.Parts.{sessionIn, bytesIn}
 use Rattle.steps.proofs.Cutting.{link-held}
-use Rattle.steps.proofs.Uplink.{open-refusal, goes}
-use Rattle.steps.proofs.Downloads.{others-leave}
+use Rattle.steps.proofs.Calls.{open-refusal, goes, others-leave}
 use Rattle.paging.specs.Client.{Idle, Asks}
 use Rattle.paging.specs.Paging.{Client, waits, pagedBy, stateOf, Allowed}
 use Rattle.paging.specs.Pieces.{isPiece, piecesOnly, handed, waitsFor, InPieces}

@@ -2,7 +2,7 @@
 use mathlib.Core.Path.{_≡_, refl, sym, ap, ap₂, _∙_, subst}
 use mathlib.Core.Bool.{Bool, true, false, cond}
 use mathlib.Core.List.{List, [], _∷_, _++_, map, List·Memᴰ, List·Memᴰ·head}
-use mathlib.Core.Option.{some}
+use mathlib.Core.Option.{Option, some}
 use Prim.Native.Nat.{ℕ, _-_, _≤_, _<_}
 use lib.ListN.{length, drop, length-map}
 use native.Mathlib.Omega.{arith}
@@ -29,13 +29,14 @@ use Rattle.calls.specs.Call.{Call, login, receive, request, lose, History, star
 use Rattle.model.specs.State.{File, file, noDownload, Model, sessionAt}
 use Rattle.model.specs.Files.{find, changed, without, reserved, uploading, matching, placed, byTime}
 use Rattle.model.specs.Uplink.{uploadNew, uploadContinued, onUploadCmd, dataTo, onData, dataEndTo, onDataEnd}
-use Rattle.model.specs.Downlink.{onSelectCmd}
+use Rattle.model.specs.Downlink.{directoryOf, nextTen, onSelectCmd}
 use Rattle.model.specs.Step.{byType, endsIn, onEvent, refusal, unless, step, run}
 use Rattle.paging.specs.Examples.{smallest}
 use Rattle.paging.specs.Client.{Idle, Asks, above, oldestFirst, pageOf, Answers}
-use Rattle.paging.specs.Paging.{Entry, entry, entryOf, begins, asks, stateOf, Once, Rises, Stands, AllGiven, pageIn, newestOf, pagedBy, asked}
+use Rattle.paging.specs.Paging.{Entry, entry, entryOf, timeOf, begins, asks, stateOf, Once, Rises, Stands, AllGiven, pageIn, newestOf, pagedBy, asked}
 use Rattle.paging.specs.Paging.{Clocked, Clocks, PageAnswer, Paging, PagingWhole}
 use Rattle.paging.specs.Pieces.{isPiece, piecesOnly, handed, waitsFor, AsksWith, InPieces}
+use Rattle.paging.specs.Directories.{timesIn, timesOf, TimesInDirectory, TimesOfPage}
 use Rattle.paging.specs.Worked.{small, uploaded, third, sized, longest, pieces, rest, beginning, reader, output, Met}
 
 -- an open session 1 whose downlink is idle
@@ -97,6 +98,8 @@ met =
       asking = asks-is _ sized 0 rest refl refl refl;
       oldest = refl;
       page = refl;
+      page-before = clocks-is (pagedBy small sized (asks beginning 1 8 rest output) .history) refl;
+      shown = refl;
       first-allowed = (tt, asks-is _ sized 0 rest refl refl refl);
       second-in-one = record {
         idle = idle-is _ refl refl;
@@ -167,6 +170,26 @@ module _ (page-answered : PageAnswer) where
   longest-answered =
       page-answered 3 3 2 1 uploaded (met .longest-before) longest (met .longest-accepted) 4294967295 (omega arith) 1 8
       (packetOf 16 (narrowed longest 4294967295)) output (met .longest-asking)
+
+module _ (times-of-page : TimesOfPage) where
+  -- the short directory of the first page has one header, with the upload time 7
+  pub page-times : timesIn 1 (directoryOf false (nextTen (sessionAt (stateOf small sized (asks beginning 1 8 rest output)) 0))
+      (stateOf small sized (asks beginning 1 8 rest output) .files))
+      ≡ (7 ∷ []) ∷ []
+  page-times =
+      ap (λ (es : List Entry). timesIn (length es) (directoryOf false (nextTen (sessionAt (stateOf small sized (asks beginning 1 8 rest output)) 0))
+      (stateOf small sized (asks beginning 1 8 rest output) .files))) (sym (met .shown))
+      ∙ times-of-page 3 3 2 1 (pagedBy small sized (asks beginning 1 8 rest output) .history) (met .page-before) false 1
+      ∙ ap timesOf (met .shown)
+
+module _ (times-in-directory : TimesInDirectory) where
+  -- the long directory of file 3 has one header, with the upload time 9
+  pub third-times : timesIn 1 (directoryOf true (3 ∷ []) (stateOf small sized reader .files)) ≡ (9 ∷ []) ∷ []
+  third-times =
+      times-in-directory 3 3 2 1 (pagedBy small sized reader .history) (met .clocks) true (3 ∷ [])
+      (record { file = met .last .file; found = met .last .found; time = met .last .complete }, tt)
+      ∙ ap (λ (f : Option File). (timeOf f ∷ []) ∷ []) (met .last .found)
+      ∙ ap (λ (t : ℕ). (t ∷ []) ∷ []) (met .last .time)
 
 module _ (in-pieces : InPieces) where
   -- the SELECT_CMD in three pieces asks for the first page

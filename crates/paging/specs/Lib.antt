@@ -2,4 +2,5 @@ pub mod Examples
 pub mod Client
 pub mod Paging
 pub mod Pieces
+pub mod Directories
 pub mod Worked

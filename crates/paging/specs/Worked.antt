@@ -15,6 +15,7 @@ use Rattle.paging.specs.Examples.{smallest}
 use Rattle.paging.specs.Client.{Asks, pageOf, numbersOf}
 use Rattle.paging.specs.Paging.{entry, Client, begins, waits, asks, stateOf, pagedBy, Allowed, Finished, Clocks, pageFor, Matches}
 use Rattle.paging.specs.Pieces.{waitsFor, Pieces}
+use Rattle.paging.specs.Directories.{entriesNext}
 
 abbrev pub small : Model
 small = empty 3 3 2 1
@@ -85,6 +86,9 @@ pub record Met : Type 0 where
   pub asking : Asks (stateOf small sized beginning) sized 0 1 rest output
   pub oldest : numbersOf (pageOf (stateOf small sized beginning) sized 0) ≡ 2 ∷ []
   pub page : pageFor small sized (pagedBy small sized beginning) 1 8 rest output ≡ entry 2 7 ∷ []
+  -- of the directory of this page
+  pub page-before : Clocks (pagedBy small sized (asks beginning 1 8 rest output) .history)
+  pub shown : entriesNext (stateOf small sized (asks beginning 1 8 rest output)) 1 ≡ entry 2 7 ∷ []
   -- of the second page, which is asked for in one piece behind a request of the other session
   pub first-allowed : Allowed small sized (asks beginning 1 8 rest output)
   pub second-in-one :

@@ -18,7 +18,8 @@ use Rattle.promises.specs.Closing.{ClosingIsLosing, EveryClosing}
 use Rattle.promises.specs.Cut.{CutElsewhere, LentEarlier}
 use Rattle.promises.specs.Uncut.{UncutSame}
 use Rattle.promises.specs.Feeding.{EnoughCalls, PiecesElsewhere}
-use Rattle.steps.specs.Downloads.{DownloadBegins, DownloadBrings, DownloadEnds}
+use Rattle.transfers.specs.Downloads.{DownloadBegins, DownloadBrings, DownloadEnds}
+use Rattle.transfers.specs.Directories.{DirectoryBegins, DirectoryBrings, DirectoryEnds, DirectoryBreaks}
 use Rattle.promises.specs.Requests.{NothingDue}
 
 -- the reader finds this type and this information in front of the bytes
@@ -55,6 +56,11 @@ pub record Demand2 : Type 0 where
   pub download-begins : DownloadBegins
   pub download : DownloadBrings
   pub download-ends : DownloadEnds
+  -- "the headers sent as DATA and DATA_END" (A1 of document 02): so a directory of the machine brings the entries of its files
+  pub directory-begins : DirectoryBegins
+  pub directory : DirectoryBrings
+  pub directory-ends : DirectoryEnds
+  pub directory-breaks : DirectoryBreaks
   pub closing : EveryClosing
   pub closing-is-losing : ClosingIsLosing
   pub cut : CutElsewhere

@@ -19,6 +19,7 @@ isDue down.Idle = false
 isDue (down.Sending place offset sent) = true
 isDue (down.Ended place) = false
 isDue (down.Aborting place) = true
+isDue (down.Listing listed long done sent) = true
 
 -- "with nothing due it yields nothing and changes nothing": the server, what is lent and the output are as they were
 abbrev pub NothingDue : Type 0

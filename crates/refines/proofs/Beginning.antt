@@ -45,7 +45,7 @@ use Rattle.views.proofs.Stores as stores
 use Rattle.views.proofs.Counting.{free-is, places-full, places-left}
 use Rattle.views.proofs.Bytes as bytes
 use Rattle.refines.proofs.Packets.{Here, fs, sel, s0, k0, M, does, on, stays, tells}
-use Rattle.refines.proofs.Uplink.{moved, down-stays, link-up}
+use Rattle.refines.proofs.Uplink.{moved, down-kept, link-up}
 use Rattle.refines.proofs.Uploads.{continues}
 
 module _ (c : Here) (size : ℕ) where
@@ -80,7 +80,7 @@ module _ (c : Here) (size : ℕ) where
       ∙ ap (λ (f : File). M c .files ++ f ∷ [])
       (ap₂ (λ (f : table.File) (bs : List ℕ). file (f .number) (f .size) bs (f .time)) (x .file) (x .bytes (l .disk))))
       (link-up c m (up.Receiving place 0 0) refl
-      (down-stays c m place (x .others (l .disk)) (λ (k : CompleteAt (fs c) place). k .number (x .free)))
+      (down-kept c m place (x .sound .files .numbers) (x .others (l .disk)) (λ (k : CompleteAt (fs c) place). k .number (x .free)))
       ∙ ap (λ (k : ℕ). model.withUp (model.receiving k) (k0 c)) number)
       ∙ ap (turn (reply.Go (N + 1) 0))
       (sym (set-mk sv l (c .good) (c .i) (c .inside) (model.withUp (model.receiving (N + 1))) (N + 1) (sv .last .time) (M c .files ++ file (N + 1) size [] 0 ∷ []) (k0 c)))

@@ -40,7 +40,7 @@ use Rattle.views.specs.View.{fileIn, downOf}
 use Rattle.views.proofs.Views.{facts, find-view, found-at}
 use Rattle.refines.proofs.Turns.{parts, turnView}
 use Rattle.views.proofs.Bytes as bytes
-use Rattle.refines.proofs.Packets.{Here, F, fs, sel, s0, k0, M, does, on, moves, stays, tells, ignores, closes-all}
+use Rattle.refines.proofs.Packets.{Here, F, N, fs, sel, s0, k0, M, does, on, moves, stays, tells, ignores, closes-all}
 
 module _ (c : Here) where
   abbrev sv : Server
@@ -52,18 +52,19 @@ module _ (c : Here) where
   abbrev s : Session
   s = linkOf (c .sv) (c .i)
 
-  own : LinkFacts (fs c) (sv .most) (selectionOf (sv .most) (l .selected) (c .i)) (packetOf (l .held) (c .i)) s
+  pub own : LinkFacts (fs c) (sv .most) (selectionOf (sv .most) (l .selected) (c .i)) (packetOf (l .held) (c .i)) s
   own = facts sv l (c .good) .sessions .each (c .i) (c .inside) (c .linked)
 
   -- ---- DL_NAK_CMD
 
-  pub nak-does : (d : Downlink) → does c (decide.onNak d) ≡ onDlNakCmd (downOf (F c) d) (M c) (c .i)
+  pub nak-does : (d : Downlink) → does c (decide.onNak d) ≡ onDlNakCmd (downOf (F c) (N c) (sel c) (s .next) d) (M c) (c .i)
   unfolding carryOut decide.onNak onDlNakCmd
   nak-does down.Idle = ignores c
   nak-does (down.Sending place offset sent) =
-      moves c (withDown (s0 c) (down.Aborting place)) (model.withDown (downOf (F c) (down.Aborting place))) (c .linked) refl reply.DataEnd
+      moves c (withDown (s0 c) (down.Aborting place)) (model.withDown (downOf (F c) (N c) (sel c) (s .next) (down.Aborting place))) (c .linked) refl reply.DataEnd
   nak-does (down.Ended place) = moves c (withDown (s0 c) down.Idle) (model.withDown model.noDownload) (c .linked) refl reply.Aborted
   nak-does (down.Aborting place) = closes-all c
+  nak-does (down.Listing l long done sent) = moves c (withDown (s0 c) down.Idle) (model.withDown model.noDownload) (c .linked) refl reply.DataEnd
 
   -- ---- DL_ACK_CMD
 
@@ -90,7 +91,7 @@ module _ (c : Here) where
       go true = moves c (withDown (s0 c) down.Idle) (model.withDown model.noDownload) (c .linked) refl reply.Aborted
       go false = moves c (withDown (s0 c) down.Idle) (model.withDown model.noDownload) (c .linked) refl reply.Completed
 
-  pub ack-does : (d : Downlink) → s .down ≡ d → does c (decide.onAck d (length (c .info)) (getD (padded (c .info)) 0 0)) ≡ onDlAckCmd (downOf (F c) d) (M c) (c .i) (c .info)
+  pub ack-does : (d : Downlink) → s .down ≡ d → does c (decide.onAck d (length (c .info)) (getD (padded (c .info)) 0 0)) ≡ onDlAckCmd (downOf (F c) (N c) (sel c) (s .next) d) (M c) (c .i) (c .info)
   unfolding carryOut decide.onAck onDlAckCmd
   ack-does down.Idle e = closes-all c
   ack-does (down.Sending place offset sent) e = closes-all c
@@ -106,6 +107,7 @@ module _ (c : Here) where
           ∙ confirm-does place (getD (c .info) 0 0) (own .ended place e .number)
       go false q = moves c (withDown (s0 c) down.Idle) (model.withDown model.noDownload) (c .linked) refl reply.Aborted
   ack-does (down.Aborting place) e = closes-all c
+  ack-does (down.Listing l long done sent) e = closes-all c
 
   -- ---- DOWNLOAD_CMD
 
@@ -125,7 +127,7 @@ module _ (c : Here) where
       begun : carry.Turn
       begun = turnOf (withDown (withNext (s0 c) passed) (down.Sending place offset 0)) (sv .last) reply.Nothing
 
-      from : downOf (F c) (down.Sending place offset 0) ≡ sending n offset
+      from : downOf (F c) (N c) (sel c) passed (down.Sending place offset 0) ≡ sending n offset
       from = ap₂ sending e (omega arith)
 
       go : (b : Bool) → turnView sv l (c .i) (c .part) (turned (cond b refused begun) (parts sv l (c .i)))
@@ -159,12 +161,12 @@ module _ (c : Here) where
       found-does (findOf (fs c) n) n offset lock passed refl
       ∙ ap (λ (f : Option File). downloadOf f (M c) (c .i) n offset lock passed) (sym (find-view sv l (c .good) n))
 
-  size-sel : length (sel c) ≡ sv .most
+  pub size-sel : length (sel c) ≡ sv .most
   size-sel =
       part-size (c .i * sv .most) (sv .most) (l .selected)
       (omega (arith, part-end (c .i) (sv .sessions) (sv .most) (c .inside), facts sv l (c .good) .room .selected))
 
-  count-is : length (take (s .count) (sel c)) ≡ s .count
+  pub count-is : length (take (s .count) (sel c)) ≡ s .count
   count-is = length-take-le (s .count) (sel c) (omega (arith, size-sel, own .at-most))
 
   numbered-does : (n offset lock : ℕ)

@@ -1,6 +1,8 @@
 -- Where the machine closes a link is where the table of expected packets (crates/session/specs/Expected.antt) has none. Assumes nothing.
 use mathlib.Core.Path.{_≡_, refl}
 use mathlib.Core.Bool.{Bool, true, false, cond}
+use mathlib.Core.List.{List}
+use mathlib.Core.Option.{Option}
 use Prim.Native.Nat.{ℕ}
 use native.Mathlib.Omega.{arith}
 use borrow.Author.Tests.{eqb-true, eqb-false, leb-true, ltb-true, ltb-false, ne-eqb, le-leb}
@@ -11,7 +13,7 @@ use Rattle.session.specs.declared.state.Downlink.{Downlink}
 use Rattle.session.specs.declared.state.Downlink.the-variants as down
 use Rattle.session.specs.Expected.{takesData, takesUpload, takesCommand, takesAck, takesNak, expectedUp, expectedDown, expected}
 use Rattle.acts.specs.Change.{Files}
-use Rattle.model.specs.State.{Turn}
+use Rattle.model.specs.State.{File, Turn}
 use Rattle.model.specs.Step.{ifNoUpload, ifNoDownload}
 use Rattle.views.specs.View.{upOf, downOf}
 
@@ -20,14 +22,16 @@ upload-taken F up.Idle x y = refl
 upload-taken F (up.Receiving place offset received) x y = refl
 upload-taken F up.Ignoring x y = refl
 
-command-taken : (F : Files) (d : Downlink) (x y : Turn) → ifNoDownload (downOf F d) x y ≡ cond (takesCommand d) x y
-command-taken F down.Idle x y = refl
-command-taken F (down.Sending place offset sent) x y = refl
-command-taken F (down.Ended place) x y = refl
-command-taken F (down.Aborting place) x y = refl
+command-taken : (F : Files) (N : ℕ → Option File) (selected : List ℕ) (next : ℕ) (d : Downlink) (x y : Turn)
+    → ifNoDownload (downOf F N selected next d) x y ≡ cond (takesCommand d) x y
+command-taken F N selected next down.Idle x y = refl
+command-taken F N selected next (down.Sending place offset sent) x y = refl
+command-taken F N selected next (down.Ended place) x y = refl
+command-taken F N selected next (down.Aborting place) x y = refl
+command-taken F N selected next (down.Listing listed long done sent) x y = refl
 
 -- what each packet gets, by its type; `close` where it is not expected
-module _ (kind size : ℕ) (data′ end upload download ack nak dir select close : Turn) where
+module _ (kind size : ℕ) (data′ end upload download ack nak short long select close : Turn) where
   -- as the machine has it, given which packets are taken
   abbrev upLines : Bool → Turn → Turn
   upLines takes-upload rest =
@@ -38,8 +42,8 @@ module _ (kind size : ℕ) (data′ end upload download ack nak dir select close
       cond (eqb kind 8) (cond takes-command download close)
       (cond (eqb kind 12) ack
       (cond (eqb kind 13) (cond (eqb size 0) nak close)
-      (cond (eqb kind 14) (cond takes-command dir close)
-      (cond (eqb kind 15) (cond takes-command dir close)
+      (cond (eqb kind 14) (cond takes-command short close)
+      (cond (eqb kind 15) (cond takes-command long close)
       (cond (eqb kind 16) (cond takes-command select close) close)))))
 
   -- as the table has it, for a packet that is expected
@@ -48,7 +52,7 @@ module _ (kind size : ℕ) (data′ end upload download ack nak dir select close
       cond (eqb kind 0) data′
       (cond (eqb kind 1) end
       (cond (eqb kind 3) upload
-      (cond (eqb kind 8) download (cond (eqb kind 12) ack (cond (eqb kind 13) nak (cond (eqb kind 16) select dir))))))
+      (cond (eqb kind 8) download (cond (eqb kind 12) ack (cond (eqb kind 13) nak (cond (eqb kind 16) select (cond (eqb kind 15) long short)))))))
 
   -- types below 8
   up-table : (x y z empty takes-data takes-upload : Bool) (rest : Turn) → (takes-data ≡ false → data′ ≡ close) → (takes-data ≡ false → end ≡ close)
@@ -65,36 +69,36 @@ module _ (kind size : ℕ) (data′ end upload download ack nak dir select close
 
   -- 14, 15 and 16
   last-table : (takes : Bool)
-      → cond (eqb kind 14) (cond takes dir close) (cond (eqb kind 15) (cond takes dir close) (cond (eqb kind 16) (cond takes select close) close))
-      ≡ cond (cond (leb 14 kind) (cond (leb kind 16) takes false) false) (cond (eqb kind 16) select dir) close
+      → cond (eqb kind 14) (cond takes short close) (cond (eqb kind 15) (cond takes long close) (cond (eqb kind 16) (cond takes select close) close))
+      ≡ cond (cond (leb 14 kind) (cond (leb kind 16) takes false) false) (cond (eqb kind 16) select (cond (eqb kind 15) long short)) close
   last-table takes = by14 (eqb kind 14) refl
     where
       none : (b d : Bool) → leb 14 kind ≡ b → leb kind 16 ≡ d → eqb kind 14 ≡ false → eqb kind 15 ≡ false → eqb kind 16 ≡ false
-          → close ≡ cond (cond b (cond d takes false) false) dir close
+          → close ≡ cond (cond b (cond d takes false) false) short close
       none true true p o a c q =
           absurd (omega (arith, leb-true 14 kind p, leb-true kind 16 o, eqb-false kind 14 a, eqb-false kind 15 c, eqb-false kind 16 q))
       none true false p o a c q = refl
       none false d p o a c q = refl
 
       by16 : (b : Bool) → eqb kind 16 ≡ b → eqb kind 14 ≡ false → eqb kind 15 ≡ false
-          → cond b (cond takes select close) close ≡ cond (cond (leb 14 kind) (cond (leb kind 16) takes false) false) (cond b select dir) close
+          → cond b (cond takes select close) close ≡ cond (cond (leb 14 kind) (cond (leb kind 16) takes false) false) (cond b select short) close
       by16 true q a c = let k = eqb-true kind 16 q in rw (le-leb 14 kind (omega arith), le-leb kind 16 (omega arith))
       by16 false q a c = none (leb 14 kind) (leb kind 16) refl refl a c q
 
       by15 : (b : Bool) → eqb kind 15 ≡ b → eqb kind 14 ≡ false
-          → cond b (cond takes dir close) (cond (eqb kind 16) (cond takes select close) close)
-          ≡ cond (cond (leb 14 kind) (cond (leb kind 16) takes false) false) (cond (eqb kind 16) select dir) close
+          → cond b (cond takes long close) (cond (eqb kind 16) (cond takes select close) close)
+          ≡ cond (cond (leb 14 kind) (cond (leb kind 16) takes false) false) (cond (eqb kind 16) select (cond b long short)) close
       by15 true q a =
           let k = eqb-true kind 15 q in
           rw (le-leb 14 kind (omega arith), le-leb kind 16 (omega arith), ne-eqb kind 16 (λ z. omega arith))
       by15 false q a = by16 (eqb kind 16) refl a q
 
       by14 : (b : Bool) → eqb kind 14 ≡ b
-          → cond b (cond takes dir close) (cond (eqb kind 15) (cond takes dir close) (cond (eqb kind 16) (cond takes select close) close))
-          ≡ cond (cond (leb 14 kind) (cond (leb kind 16) takes false) false) (cond (eqb kind 16) select dir) close
+          → cond b (cond takes short close) (cond (eqb kind 15) (cond takes long close) (cond (eqb kind 16) (cond takes select close) close))
+          ≡ cond (cond (leb 14 kind) (cond (leb kind 16) takes false) false) (cond (eqb kind 16) select (cond (eqb kind 15) long short)) close
       by14 true q =
           let k = eqb-true kind 14 q in
-          rw (le-leb 14 kind (omega arith), le-leb kind 16 (omega arith), ne-eqb kind 16 (λ z. omega arith))
+          rw (le-leb 14 kind (omega arith), le-leb kind 16 (omega arith), ne-eqb kind 16 (λ z. omega arith), ne-eqb kind 15 (λ z. omega arith))
       by14 false q = by15 (eqb kind 15) refl q
 
   -- types from 8 on
@@ -103,16 +107,16 @@ module _ (kind size : ℕ) (data′ end upload download ack nak dir select close
       ≡ cond (cond (eqb kind 8) takes-command
       (cond (eqb kind 12) takes-ack
       (cond (eqb kind 13) (cond (eqb size 0) takes-nak false) (cond (leb 14 kind) (cond (leb kind 16) takes-command false) false))))
-      (cond (eqb kind 8) download (cond (eqb kind 12) ack (cond (eqb kind 13) nak (cond (eqb kind 16) select dir)))) close
+      (cond (eqb kind 8) download (cond (eqb kind 12) ack (cond (eqb kind 13) nak (cond (eqb kind 16) select (cond (eqb kind 15) long short))))) close
   down-table tc ta tn h k = go (eqb kind 8) (eqb kind 12) (eqb kind 13) (eqb size 0) tc ta tn h k (last-table tc)
     where
       go : (x y z e tc ta tn : Bool) → (ta ≡ false → ack ≡ close) → (tn ≡ false → nak ≡ close)
-          → cond (eqb kind 14) (cond tc dir close) (cond (eqb kind 15) (cond tc dir close) (cond (eqb kind 16) (cond tc select close) close))
-          ≡ cond (cond (leb 14 kind) (cond (leb kind 16) tc false) false) (cond (eqb kind 16) select dir) close
+          → cond (eqb kind 14) (cond tc short close) (cond (eqb kind 15) (cond tc long close) (cond (eqb kind 16) (cond tc select close) close))
+          ≡ cond (cond (leb 14 kind) (cond (leb kind 16) tc false) false) (cond (eqb kind 16) select (cond (eqb kind 15) long short)) close
           → cond x (cond tc download close) (cond y ack (cond z (cond e nak close)
-          (cond (eqb kind 14) (cond tc dir close) (cond (eqb kind 15) (cond tc dir close) (cond (eqb kind 16) (cond tc select close) close)))))
+          (cond (eqb kind 14) (cond tc short close) (cond (eqb kind 15) (cond tc long close) (cond (eqb kind 16) (cond tc select close) close)))))
           ≡ cond (cond x tc (cond y ta (cond z (cond e tn false) (cond (leb 14 kind) (cond (leb kind 16) tc false) false))))
-          (cond x download (cond y ack (cond z nak (cond (eqb kind 16) select dir)))) close
+          (cond x download (cond y ack (cond z nak (cond (eqb kind 16) select (cond (eqb kind 15) long short))))) close
       go true y z e true ta tn h k l = refl
       go true y z e false ta tn h k l = refl
       go false true z e tc true tn h k l = refl
@@ -123,21 +127,27 @@ module _ (kind size : ℕ) (data′ end upload download ack nak dir select close
       go false false false e tc ta tn h k l = l
 
   -- THEOREM
-  pub by-table : (F : Files) (u : Uplink) (d : Downlink) → (takesData u ≡ false → data′ ≡ close) → (takesData u ≡ false → end ≡ close)
+  pub by-table : (F : Files) (N : ℕ → Option File) (selected : List ℕ) (next : ℕ) (u : Uplink) (d : Downlink) → (takesData u ≡ false → data′ ≡ close) → (takesData u ≡ false → end ≡ close)
       → (takesAck d ≡ false → ack ≡ close) → (takesNak d ≡ false → nak ≡ close)
       → cond (eqb kind 0) data′
       (cond (eqb kind 1) (cond (eqb size 0) end close)
       (cond (eqb kind 3) (ifNoUpload (upOf F u) upload close)
-      (cond (eqb kind 8) (ifNoDownload (downOf F d) download close)
+      (cond (eqb kind 8) (ifNoDownload (downOf F N selected next d) download close)
       (cond (eqb kind 12) ack
       (cond (eqb kind 13) (cond (eqb size 0) nak close)
-      (cond (eqb kind 14) (ifNoDownload (downOf F d) dir close)
-      (cond (eqb kind 15) (ifNoDownload (downOf F d) dir close)
-      (cond (eqb kind 16) (ifNoDownload (downOf F d) select close) close))))))))
+      (cond (eqb kind 14) (ifNoDownload (downOf F N selected next d) short close)
+      (cond (eqb kind 15) (ifNoDownload (downOf F N selected next d) long close)
+      (cond (eqb kind 16) (ifNoDownload (downOf F N selected next d) select close) close))))))))
       ≡ cond (expected u d kind size) expectedLines close
   unfolding expected expectedUp expectedDown
-  by-table F u d h k a n =
-      rw (upload-taken F u upload close, command-taken F d download close, command-taken F d dir close, command-taken F d select close)
+  by-table F N selected next u d h k a n =
+      rw (
+        upload-taken F u upload close,
+        command-taken F N selected next d download close,
+        command-taken F N selected next d short close,
+        command-taken F N selected next d long close,
+        command-taken F N selected next d select close,
+      )
       (by-side (ltb kind 8) refl)
     where
       by-side : (b : Bool) → ltb kind 8 ≡ b
@@ -158,7 +168,7 @@ module _ (kind size : ℕ) (data′ end upload download ack nak dir select close
             ne-eqb kind 15 (λ z. omega arith),
             ne-eqb kind 16 (λ z. omega arith),
           )
-          (up-table (eqb kind 0) (eqb kind 1) (eqb kind 3) (eqb size 0) (takesData u) (takesUpload u) dir h k)
+          (up-table (eqb kind 0) (eqb kind 1) (eqb kind 3) (eqb size 0) (takesData u) (takesUpload u) short h k)
       by-side false q =
           let b = ltb-false kind 8 q in
           rw (ne-eqb kind 0 (λ z. omega arith), ne-eqb kind 1 (λ z. omega arith), ne-eqb kind 3 (λ z. omega arith))

@@ -4,6 +4,7 @@ pub mod Turns
 pub mod Hearing
 pub mod Packets
 pub mod Downlink
+pub mod Directories
 pub mod Uplink
 pub mod Uploads
 pub mod Beginning

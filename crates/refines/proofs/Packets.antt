@@ -2,6 +2,7 @@
 use mathlib.Core.Path.{_≡_, refl, sym, ap, _∙_}
 use mathlib.Core.Bool.{Bool, true, false, cond}
 use mathlib.Core.List.{List, []}
+use mathlib.Core.Option.{Option}
 use Prim.Native.Nat.{ℕ, _*_, _≤_, _<_}
 use lib.ListN.{length}
 use Rattle.packet.specs.Frame.{padded}
@@ -22,8 +23,8 @@ use Rattle.acts.specs.Change.{Files}
 use Rattle.history.specs.Good.{Good}
 use Rattle.history.specs.Stored.{filesOf}
 use Rattle.model.specs.State as model
-use Rattle.model.specs.State.{Model, inSession, Turn, turn, closing}
-use Rattle.views.specs.View.{openFrom, view}
+use Rattle.model.specs.State.{File, Model, inSession, Turn, turn, closing}
+use Rattle.views.specs.View.{numbered, openFrom, view}
 use Rattle.views.proofs.Views.{open-from, open-view}
 use Rattle.refines.proofs.Turns.{mk, parts, turnView, set-mk, with-mk}
 
@@ -71,6 +72,9 @@ module _ (c : Here) where
   abbrev pub F : Files
   F = filesOf sv l
 
+  abbrev pub N : ℕ → Option File
+  N = numbered sv l
+
   abbrev pub fs : List table.File
   fs = files (tablePart sv l)
 
@@ -82,7 +86,7 @@ module _ (c : Here) where
   s0 = withHeld (linkOf sv i) 0
 
   abbrev pub k0 : model.Session
-  k0 = openFrom F sel p s0
+  k0 = openFrom F N sel p s0
 
   abbrev pub M : Model
   M = mk sv l i (sv .last .number) (sv .last .time) (view sv l .files) k0
@@ -99,15 +103,15 @@ module _ (c : Here) where
   on false x y X Y e f = f refl
 
   -- the session changes alone
-  pub moves : (s : Session) (h : model.Session → model.Session) → s .linked ≡ true → openFrom F sel p s ≡ h k0 → (r : Reply)
+  pub moves : (s : Session) (h : model.Session → model.Session) → s .linked ≡ true → openFrom F N sel p s ≡ h k0 → (r : Reply)
       → turnView sv l i p (turned (turnOf s (sv .last) r) (parts sv l i)) ≡ turn r (inSession i h M)
   moves s h o e r =
-      ap (λ (k : model.Session). turn r (mk sv l i (sv .last .number) (sv .last .time) (view sv l .files) k)) (open-from F sel p s o ∙ e)
+      ap (λ (k : model.Session). turn r (mk sv l i (sv .last .number) (sv .last .time) (view sv l .files) k)) (open-from F N sel p s o ∙ e)
       ∙ ap (turn r) (sym (set-mk sv l g i inside h (sv .last .number) (sv .last .time) (view sv l .files) k0))
 
   -- nothing changes
   pub stays : (r : Reply) → turnView sv l i p (turned (turnOf s0 (sv .last) r) (parts sv l i)) ≡ turn r M
-  stays r = ap (λ (k : model.Session). turn r (mk sv l i (sv .last .number) (sv .last .time) (view sv l .files) k)) (open-from F sel p s0 linked)
+  stays r = ap (λ (k : model.Session). turn r (mk sv l i (sv .last .number) (sv .last .time) (view sv l .files) k)) (open-from F N sel p s0 linked)
 
   pub tells : (r : Reply) → does (act.Tell r) ≡ turn r M
   unfolding carryOut

@@ -5,7 +5,7 @@ use mathlib.Core.List.{List, [], _++_}
 use mathlib.Core.Option.{Option, none, some}
 use Prim.Native.Nat.{ℕ, _+_, _-_, _*_, _≤_, _<_}
 use native.Mathlib.Omega.{arith}
-use borrow.Author.Tests.{ltb-true, ltb-false, eq-eqb, ne-eqb, lt-ltb}
+use borrow.Author.Tests.{eqb-true, ltb-true, ltb-false, eq-eqb, ne-eqb, lt-ltb}
 use lib.Dec.{eqb, ltb}
 use lib.ListN.{length, take, replicate, length-replicate}
 use lib.Seq.{length-take-le}
@@ -42,6 +42,7 @@ use Rattle.history.specs.Good.{Good}
 use Rattle.history.specs.Stored.{filesOf}
 use Rattle.history.specs.Calls as history
 use Rattle.history.proofs.Parts.{part-size}
+use Rattle.history.proofs.Decided.{select-taken}
 use Rattle.history.proofs.InUse.{act-in-use}
 use Rattle.history.proofs.Sessions.{packet-own, packet-stays}
 use Rattle.model.specs.State as model
@@ -49,17 +50,18 @@ use Rattle.model.specs.State.{Model, inSession, Turn, turn, Stepped, stepped, c
 use Rattle.model.specs.Uplink.{onUploadCmd, onData, onDataEnd}
 use Rattle.model.specs.Downlink.{onDownloadCmd, onDlAckCmd, onDlNakCmd, onDirCmd, onSelectCmd}
 use Rattle.model.specs.Step.{byType, onPacket, endsIn, onEvent, refusal, step}
-use Rattle.views.specs.View.{upOf, downOf, openFrom, sessionFrom, view}
+use Rattle.views.specs.View.{numbered, upOf, downOf, openFrom, sessionFrom, view}
 use Rattle.refines.specs.Refines.{Refines}
 use Rattle.views.proofs.Views.{facts, check-is, through, open-from, open-view}
 use Rattle.refines.proofs.Plain.{told-room, seen, refined, by-check}
 use Rattle.refines.proofs.Turns.{mk, parts, turnView, turned, turn-view, link-mk}
-use Rattle.refines.proofs.Packets.{Here, F, fs, sel, s0, k0, M, M-is, does, on, tells, closes-all}
+use Rattle.refines.proofs.Packets.{Here, F, N, fs, sel, s0, k0, M, M-is, does, on, closes-all}
 use Rattle.refines.proofs.Hearing.{heldAs, Waits, Hears, waits, ended, usedBy, Short, hears}
 use Rattle.refines.proofs.Expecting.{by-table}
 use Rattle.refines.proofs.Uplink.{data-does, end-does}
 use Rattle.refines.proofs.Beginning.{upload-does}
 use Rattle.refines.proofs.Downlink.{nak-does, ack-does, download-does}
+use Rattle.refines.proofs.Directories.{directory-does}
 use Rattle.refines.proofs.Select.{select-does}
 
 clash : {A : Type 0} → false ≡ true → A
@@ -81,7 +83,8 @@ module _ (c : Here) (kind : ℕ) where
       (cond (eqb kind 12) (onDlAckCmd (k0 c .down) (M c) (c .i) (c .info))
       (cond (eqb kind 13) (onDlNakCmd (k0 c .down) (M c) (c .i))
       (cond (eqb kind 16) (onSelectCmd (M c) (c .i) (c .info))
-      (turn (reply.DownloadError 1) (M c)))))
+      (cond (eqb kind 15) (onDirCmd true (M c) (c .i) (k0 c) (c .info))
+      (onDirCmd false (M c) (c .i) (k0 c) (c .info))))))
 
   abbrev lines : Turn
   lines =
@@ -104,15 +107,18 @@ module _ (c : Here) (kind : ℕ) where
       go false false true e = upload-does c
       go false false false e = clash e
 
-  downlink-does : does c (onDownlink (s .down) (s .count) (s .next) kind size (padded (c .info)) (fs c) (sel c)) ≡ below
+  downlink-does : expectedDown (s .down) kind size ≡ true
+      → does c (onDownlink (s .down) (s .count) (s .next) kind size (padded (c .info)) (fs c) (sel c)) ≡ below
   unfolding onDownlink
-  downlink-does =
+  downlink-does x =
       on c (eqb kind 8) _ _ _ _ (λ _. download-does c)
       (λ _.
       on c (eqb kind 12) _ _ _ _ (λ _. ack-does c (s .down) refl)
       (λ _.
       on c (eqb kind 13) _ _ _ _ (λ _. nak-does c (s .down))
-      (λ _. on c (eqb kind 16) _ _ _ _ (λ _. select-does c) (λ _. tells c (reply.DownloadError 1)))))
+      (λ _.
+      on c (eqb kind 16) _ _ _ _ (λ q. select-does c (select-taken (s .down) kind size (eqb-true kind 16 q) x))
+      (λ _. on c (eqb kind 15) _ _ _ _ (λ _. directory-does c true) (λ _. directory-does c false)))))
 
   above : ltb kind 8 ≡ false → lines ≡ below
   above e =
@@ -131,7 +137,7 @@ module _ (c : Here) (kind : ℕ) where
           (onDownlink (s .down) (s .count) (s .next) kind size (padded (c .info)) (fs c) (sel c)))
           ≡ lines
       go true q e = uplink-does e
-      go false q e = downlink-does ∙ sym (above q)
+      go false q e = downlink-does e ∙ sym (above q)
 
   -- DATA and DATA_END without an upload, DL_ACK_CMD and DL_NAK_CMD where they are not expected
   data-closes : (u : Uplink) → takesData u ≡ false → onData (upOf (F c) u) (M c) (c .i) (c .info) ≡ closing (M c) (c .i)
@@ -146,30 +152,33 @@ module _ (c : Here) (kind : ℕ) where
   end-closes (up.Receiving place offset received) e = clash (sym e)
   end-closes up.Ignoring e = clash (sym e)
 
-  ack-closes : (d : Downlink) → takesAck d ≡ false → onDlAckCmd (downOf (F c) d) (M c) (c .i) (c .info) ≡ closing (M c) (c .i)
+  ack-closes : (d : Downlink) → takesAck d ≡ false → onDlAckCmd (downOf (F c) (N c) (sel c) (s .next) d) (M c) (c .i) (c .info) ≡ closing (M c) (c .i)
   unfolding onDlAckCmd
   ack-closes down.Idle e = refl
   ack-closes (down.Sending place offset sent) e = refl
   ack-closes (down.Ended place) e = clash (sym e)
   ack-closes (down.Aborting place) e = refl
+  ack-closes (down.Listing l long done sent) e = refl
 
-  nak-closes : (d : Downlink) → takesNak d ≡ false → onDlNakCmd (downOf (F c) d) (M c) (c .i) ≡ closing (M c) (c .i)
+  nak-closes : (d : Downlink) → takesNak d ≡ false → onDlNakCmd (downOf (F c) (N c) (sel c) (s .next) d) (M c) (c .i) ≡ closing (M c) (c .i)
   unfolding onDlNakCmd
   nak-closes down.Idle e = clash (sym e)
   nak-closes (down.Sending place offset sent) e = clash (sym e)
   nak-closes (down.Ended place) e = clash (sym e)
   nak-closes (down.Aborting place) e = refl
+  nak-closes (down.Listing l long done sent) e = clash (sym e)
 
   -- what the machine does, its session being k0
   machine-is : onPacket (M c) (c .i) (c .clock) kind (c .info) ≡ cond (expected (s .up) (s .down) kind size) lines (closing (M c) (c .i))
-  unfolding byType onDirCmd
+  unfolding byType
   machine-is =
       ap (λ (k : model.Session). byType (M c) (c .i) k (c .clock) kind (c .info))
       (link-mk (c .sv) (c .l) (c .good) (c .i) (c .inside) (c .sv .last .number) (c .sv .last .time) (view (c .sv) (c .l) .files) (k0 c))
       ∙ by-table kind size (onData (k0 c .up) (M c) (c .i) (c .info)) (onDataEnd (k0 c .up) (M c) (c .i) (c .clock))
       (onUploadCmd (M c) (c .i) (c .info)) (onDownloadCmd (M c) (c .i) (k0 c) (c .info)) (onDlAckCmd (k0 c .down) (M c) (c .i) (c .info))
-      (onDlNakCmd (k0 c .down) (M c) (c .i)) (turn (reply.DownloadError 1) (M c)) (onSelectCmd (M c) (c .i) (c .info)) (closing (M c) (c .i))
-      (F c) (s .up) (s .down) (data-closes (s .up)) (end-closes (s .up)) (ack-closes (s .down)) (nak-closes (s .down))
+      (onDlNakCmd (k0 c .down) (M c) (c .i)) (onDirCmd false (M c) (c .i) (k0 c) (c .info)) (onDirCmd true (M c) (c .i) (k0 c) (c .info))
+      (onSelectCmd (M c) (c .i) (c .info)) (closing (M c) (c .i))
+      (F c) (N c) (sel c) (s .next) (s .up) (s .down) (data-closes (s .up)) (end-closes (s .up)) (ack-closes (s .down)) (nak-closes (s .down))
 
   pub packet-does : does c (decide.onPacket (s0 c) (c .sv .links) kind size (padded (c .info)) (fs c) (sel c)) ≡ onPacket (M c) (c .i) (c .clock) kind (c .info)
   unfolding decide.onPacket
@@ -267,13 +276,13 @@ module _ (sv : Server) (l : Lent) (g : Good sv l) (i : ℕ) (inside : i < sv .se
       bytes = ap (take (w .state .count)) (packet-own (sv .sessions) i (w .state .part) (l .held) inside lent-room (w .size)) ∙ w .bytes
 
       state-is : mk sv l i (sv .last .number) (sv .last .time) (view sv l .files)
-          (sessionFrom (filesOf sv l) (part (i * sv .most) (sv .most) (l .selected)) (packetOf (now .held) i) (withHeld (linkOf sv i) (w .state .count)))
+          (sessionFrom (filesOf sv l) (numbered sv l) (part (i * sv .most) (sv .most) (l .selected)) (packetOf (now .held) i) (withHeld (linkOf sv i) (w .state .count)))
           ≡ inSession i (model.withHeld (take count was ++ input)) (view sv l)
       state-is =
           ap (model.withSession (view sv l) i)
-          (open-from (filesOf sv l) (part (i * sv .most) (sv .most) (l .selected)) (packetOf (now .held) i) (withHeld (linkOf sv i) (w .state .count)) linked
+          (open-from (filesOf sv l) (numbered sv l) (part (i * sv .most) (sv .most) (l .selected)) (packetOf (now .held) i) (withHeld (linkOf sv i) (w .state .count)) linked
           ∙ ap (λ (bs : List ℕ).
-          model.withHeld bs (openFrom (filesOf sv l) (part (i * sv .most) (sv .most) (l .selected)) was (linkOf sv i))) bytes
+          model.withHeld bs (openFrom (filesOf sv l) (numbered sv l) (part (i * sv .most) (sv .most) (l .selected)) was (linkOf sv i))) bytes
           ∙ ap (model.withHeld (take count was ++ input)) (sym (open-view sv l g i inside linked)))
 
   -- ---- they end in a packet, or in an announced length that is too long

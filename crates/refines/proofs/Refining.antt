@@ -17,7 +17,7 @@ use Rattle.history.proofs.Histories.{good-after}
 use Rattle.model.specs.State as model
 use Rattle.model.specs.State.{Model, empty}
 use Rattle.model.specs.Step.{step, run}
-use Rattle.views.specs.View.{listed, each, sessionFrom, sessionOf, view}
+use Rattle.views.specs.View.{numbered, listed, each, sessionFrom, sessionOf, view}
 use Rattle.refines.specs.Refines.{EveryCall, EveryHistory}
 use Rattle.refines.proofs.Plain.{login-refines, lose-refines}
 use Rattle.refines.proofs.Requests.{request-refines}
@@ -50,7 +50,7 @@ new-view blocks places sessions most l =
     ap (λ (ks : List model.Session). record { blocks = blocks; places = places; maxsel = most; lastNumber = 0; lastTime = 0; files = []; sessions = ks })
     (each-none sessions (sessionOf (newServer blocks places sessions most) l)
     (λ i.
-    ap (sessionFrom (filesOf (newServer blocks places sessions most) l) (part (i * most) most (l .selected)) (part (i * 258) 258 (l .held)))
+    ap (sessionFrom (filesOf (newServer blocks places sessions most) l) (numbered (newServer blocks places sessions most) l) (part (i * most) most (l .selected)) (part (i * 258) 258 (l .held)))
     (all-same 4 i closedSession)))
 
 pub made-server : (s : Start) → legal s ≡ true → made s .server ≡ newServer (s .blocks) (s .files) (s .sessions) (s .most)

@@ -17,8 +17,11 @@ use Rattle.equation.specs.declared.evaluation.Truth.the-variants.{No, Yes, Refu
 use Rattle.equation.specs.Answer.{answerOf, refusal, validityOf}
 use Rattle.equation.specs.Answer as equation
 use Rattle.equation.specs.Tree.{Tree, parse}
+use Rattle.session.specs.declared.state.Downlink.{Downlink}
+use Rattle.session.specs.declared.state.Downlink.the-variants as down
 use Rattle.session.specs.declared.reply.Reply.the-variants as reply
 use Rattle.session.specs.State.{withSelection}
+use Rattle.session.specs.Expected.{takesCommand}
 use Rattle.table.specs.declared.Key.the-variants.{Time}
 use Rattle.table.specs.declared.Found.{Found}
 use Rattle.table.specs.declared.Found.the-variants.{Nothing, At}
@@ -46,13 +49,13 @@ use Rattle.model.specs.State as model
 use Rattle.model.specs.State.{File, inSession, turn}
 use Rattle.model.specs.Files.{matching, byTime, selection}
 use Rattle.model.specs.Downlink.{onSelectCmd}
-use Rattle.views.specs.View.{fileOf, fileIn, numbered, view}
+use Rattle.views.specs.View.{fileOf, fileIn, numbered, downOf, view}
 use Rattle.views.proofs.Views.{facts, numbered-own, open-from}
 use Rattle.refines.proofs.Turns.{mk, parts, turnView, set-mk}
 use Rattle.views.proofs.Stores as stores
 use Rattle.views.proofs.Bytes as bytes
 use Rattle.views.proofs.Order as order
-use Rattle.refines.proofs.Packets.{Here, F, fs, sel, s0, k0, M, does, stays}
+use Rattle.refines.proofs.Packets.{Here, F, N, fs, sel, s0, k0, M, does, stays}
 
 -- both layers' test of an answer
 yes-same : (r : Truth) → selection.isYes r ≡ equation.isYes r
@@ -249,24 +252,35 @@ module _ (c : Here) where
   page : take count (listed (sv .most) ns (sel c)) ≡ selection (sv .most) (c .info) (M c .files)
   page = take-at ns (replicate (sv .most - length ns) 0 ++ drop (sv .most) (sel c)) count count-is ∙ chosen-is
 
-  selects-does : turnView sv l (c .i) (c .part) (turned (turnOf (withSelection (s0 c) count) (sv .last) (reply.Selected count)) m)
+  -- the downlink is idle, so it names no file of the selection
+  idle-same : (d : Downlink) → takesCommand d ≡ true → (a b : List ℕ) (x y : ℕ) → downOf (F c) (N c) a x d ≡ downOf (F c) (N c) b y d
+  idle-same down.Idle e a b x y = refl
+  idle-same (down.Sending place offset sent) e a b x y = refl
+  idle-same (down.Ended place) e a b x y = refl
+  idle-same (down.Aborting place) e a b x y = refl
+  idle-same (down.Listing listed long done sent) e a b x y = absurd (let z : _≡_ {A = ℕ} 0 1 = cc in omega arith)
+
+  selects-does : takesCommand (s0 c .down) ≡ true
+      → turnView sv l (c .i) (c .part) (turned (turnOf (withSelection (s0 c) count) (sv .last) (reply.Selected count)) m)
       ≡ turn (reply.Selected (length (selection (sv .most) (c .info) (M c .files))))
       (inSession (c .i) (model.withSelection (selection (sv .most) (c .info) (M c .files))) (M c))
-  selects-does =
+  selects-does idle =
       ap₂ (λ (k : ℕ) (x : model.Session). turn (reply.Selected k) (mk sv l (c .i) (sv .last .number) (sv .last .time) (view sv l .files) x))
       (sym count-is ∙ ap length chosen-is)
-      (open-from (F c) (listed (sv .most) ns (sel c)) (c .part) (withSelection (s0 c) count) (c .linked)
-      ∙ ap (λ (xs : List ℕ). model.withSelection xs (k0 c)) page)
+      (open-from (F c) (N c) (listed (sv .most) ns (sel c)) (c .part) (withSelection (s0 c) count) (c .linked)
+      ∙ ap₂ (λ (d : model.Downlink) (xs : List ℕ). model.withDown d (model.withSelection xs (k0 c)))
+      (idle-same (s0 c .down) idle (listed (sv .most) ns (sel c)) (sel c) 0 (s0 c .next)) page)
       ∙ ap (turn (reply.Selected (length (selection (sv .most) (c .info) (M c .files)))))
       (sym (set-mk sv l (c .good) (c .i) (c .inside) (model.withSelection (selection (sv .most) (c .info) (M c .files))) (sv .last .number) (sv .last .time)
       (view sv l .files) (k0 c)))
 
-  chooses-does : turnView sv l (c .i) (c .part)
+  chooses-does : takesCommand (s0 c .down) ≡ true
+      → turnView sv l (c .i) (c .part)
       (onChooses (parts sv l (c .i))
       (download.selectedAs (s0 c) (sv .last) (selectOf (c .info) (l .disk) (ownerPart sv l) (tablePart sv l) (sel c) (sv .most))))
       ≡ onSelectCmd (M c) (c .i) (c .info)
   unfolding onChooses download.selectedAs selectOf onSelectCmd
-  chooses-does = rw number-is (go (eqb (validityOf (c .info)) 0) refl)
+  chooses-does idle = rw number-is (go (eqb (validityOf (c .info)) 0) refl)
     where
       go : (t : Bool) → eqb (validityOf (c .info)) 0 ≡ t
           → turnView sv l (c .i) (c .part)
@@ -276,14 +290,14 @@ module _ (c : Here) where
           ≡ cond t (turn (reply.Selected (length (selection (sv .most) (c .info) (M c .files))))
           (inSession (c .i) (model.withSelection (selection (sv .most) (c .info) (M c .files))) (M c)))
           (turn (reply.DownloadError 8) (M c))
-      go true q = selects-does
+      go true q = selects-does idle
       go false q =
           rw q
           (stays c (reply.DownloadError (validityOf (c .info)))
           ∙ ap (λ (k : ℕ). turn (reply.DownloadError k) (M c)) (refused-8 (c .info) (c .short) (eqb-false (validityOf (c .info)) 0 q)))
 
-  pub select-does : does c act.Select ≡ onSelectCmd (M c) (c .i) (c .info)
+  pub select-does : takesCommand (s0 c .down) ≡ true → does c act.Select ≡ onSelectCmd (M c) (c .i) (c .info)
   unfolding carryOut download.selectTurn
-  select-does =
+  select-does idle =
       rw (le-ltb (length (padded (c .info))) (length (c .info)) (omega (arith, padded-length (c .info) (c .short), c .short)), bytes.take-padded (c .info))
-      chooses-does
+      (chooses-does idle)

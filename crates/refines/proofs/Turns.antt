@@ -2,6 +2,7 @@
 use mathlib.Core.Path.{_≡_, refl, ap, ap₂, _∙_}
 use mathlib.Core.Bool.{Bool, true, false, cond}
 use mathlib.Core.List.{List}
+use mathlib.Core.Option.{Option}
 use Prim.Native.Nat.{ℕ, _+_, _*_, _≤_, _<_}
 use native.Mathlib.Omega.{arith}
 use lib.ListN.{length, set, take}
@@ -12,8 +13,10 @@ use Rattle.session.specs.declared.state.Uplink.{Uplink}
 use Rattle.session.specs.declared.state.Uplink.the-variants as up
 use Rattle.session.specs.declared.state.Downlink.{Downlink}
 use Rattle.session.specs.declared.state.Downlink.the-variants as down
+use Rattle.session.specs.declared.state.Listed.{Listed}
 use Rattle.session.specs.State.{closedSession, withHeld}
-use Rattle.table.specs.Table.{files, findOf}
+use Rattle.table.specs.Table.{files, numbers, findOf}
+use Rattle.table.specs.Fit.{Distinct}
 use Rattle.files.specs.View.{View, viewAt}
 use Rattle.links.proofs.Facts.{LinkFacts, CompleteAt, selectionOf, packetOf, part-end}
 use Rattle.carry.specs.Turn.{Mem, Turned}
@@ -31,10 +34,11 @@ use Rattle.history.proofs.Sessions.{part-stays, part-own, apart-both}
 use Rattle.history.proofs.Leaves.{memOf, backIn, stored-parts}
 use Rattle.model.specs.State as model
 use Rattle.model.specs.State.{File, Model, inSession, Turn, turn}
-use Rattle.views.specs.View.{fileIn, listed, upOf, downOf, openFrom, sessionFrom, sessionOf, each, view}
+use Rattle.views.specs.View.{fileIn, numbered, listed, upOf, downOf, openFrom, sessionFrom, sessionOf, each, view}
 use Rattle.views.proofs.Lists.{each-set, each-length}
 use Rattle.views.proofs.Views.{facts, four}
-use Rattle.views.proofs.Stores.{filesBy}
+use Rattle.views.proofs.Stores.{filesBy, byNumber}
+use Rattle.views.proofs.Listings.{listing-stays}
 
 -- ---- a session in two stores
 
@@ -43,23 +47,44 @@ up-same F G up.Idle h = refl
 up-same F G (up.Receiving place offset received) h = ap (λ (v : View). model.receiving (v .file .number)) (h place offset received refl)
 up-same F G up.Ignoring h = refl
 
-pub down-same : (F G : Files) (d : Downlink) → ((place offset sent : ℕ) → d ≡ down.Sending place offset sent → G place ≡ F place)
-    → ((place : ℕ) → d ≡ down.Ended place → G place ≡ F place) → ((place : ℕ) → d ≡ down.Aborting place → G place ≡ F place) → downOf G d ≡ downOf F d
-down-same F G down.Idle a b c = refl
-down-same F G (down.Sending place offset sent) a b c = ap (λ (v : View). model.sending (v .file .number) (offset + sent)) (a place offset sent refl)
-down-same F G (down.Ended place) a b c = ap (λ (v : View). model.ended (v .file .number)) (b place refl)
-down-same F G (down.Aborting place) a b c = ap (λ (v : View). model.aborting (v .file .number)) (c place refl)
+-- the files by place and by number in both
+module _ (F G : Files) (N O : ℕ → Option File) (selected : List ℕ) where
+  pub down-same : (next : ℕ) (d : Downlink) → ((place offset sent : ℕ) → d ≡ down.Sending place offset sent → G place ≡ F place)
+      → ((place : ℕ) → d ≡ down.Ended place → G place ≡ F place) → ((place : ℕ) → d ≡ down.Aborting place → G place ≡ F place)
+      → ((listed : Listed) (long : Bool) (done sent : ℕ) → d ≡ down.Listing listed long done sent
+      → downOf G O selected next (down.Listing listed long done sent) ≡ downOf F N selected next (down.Listing listed long done sent))
+      → downOf G O selected next d ≡ downOf F N selected next d
+  down-same next down.Idle a b c e = refl
+  down-same next (down.Sending place offset sent) a b c e = ap (λ (v : View). model.sending (v .file .number) (offset + sent)) (a place offset sent refl)
+  down-same next (down.Ended place) a b c e = ap (λ (v : View). model.ended (v .file .number)) (b place refl)
+  down-same next (down.Aborting place) a b c e = ap (λ (v : View). model.aborting (v .file .number)) (c place refl)
+  down-same next (down.Listing listed long done sent) a b c e = e listed long done sent refl
 
-link-same : (F G : Files) (selected held : List ℕ) (s : Session) → (s .linked ≡ true → (upOf G (s .up) ≡ upOf F (s .up)) × (downOf G (s .down) ≡ downOf F (s .down)))
-    → sessionFrom G selected held s ≡ sessionFrom F selected held s
-link-same F G selected held s h = go (s .linked) h
-  where
-    go : (b : Bool) → (b ≡ true → (upOf G (s .up) ≡ upOf F (s .up)) × (downOf G (s .down) ≡ downOf F (s .down)))
-        → cond b (openFrom G selected held s) model.closedSession ≡ cond b (openFrom F selected held s) model.closedSession
-    go true h =
-        ap₂ (λ (u : model.Uplink) (d : model.Downlink).
-        record { linked = true; up = u; down = d; selected = take (s .count) selected; next = s .next; held = take (s .held) held }) (h refl .0) (h refl .1)
-    go false h = refl
+  link-same : (held : List ℕ) (s : Session)
+      → (s .linked ≡ true → (upOf G (s .up) ≡ upOf F (s .up)) × (downOf G O selected (s .next) (s .down) ≡ downOf F N selected (s .next) (s .down)))
+      → sessionFrom G O selected held s ≡ sessionFrom F N selected held s
+  link-same held s h = go (s .linked) h
+    where
+      go : (b : Bool)
+          → (b ≡ true → (upOf G (s .up) ≡ upOf F (s .up)) × (downOf G O selected (s .next) (s .down) ≡ downOf F N selected (s .next) (s .down)))
+          → cond b (openFrom G O selected held s) model.closedSession ≡ cond b (openFrom F N selected held s) model.closedSession
+      go true h =
+          ap₂ (λ (u : model.Uplink) (d : model.Downlink).
+          record { linked = true; up = u; down = d; selected = take (s .count) selected; next = s .next; held = take (s .held) held }) (h refl .0) (h refl .1)
+      go false h = refl
+
+-- the downlink of a session names complete files, so it is the same in another store where these are as they were
+pub down-stays : (m m′ : Mem) (most : ℕ) (part : List ℕ) (s : Session) → LinkFacts (files (m .table)) most (m .selected) part s
+    → Distinct (numbers (files (m .table))) → Distinct (numbers (files (m′ .table)))
+    → ((q : ℕ) → CompleteAt (files (m .table)) q → filesIn m′ q ≡ filesIn m q)
+    → downOf (filesIn m′) (byNumber m′) (m .selected) (s .next) (s .down) ≡ downOf (filesIn m) (byNumber m) (m .selected) (s .next) (s .down)
+down-stays m m′ most part s f one two stays =
+    down-same (filesIn m) (filesIn m′) (byNumber m) (byNumber m′) (m .selected) (s .next) (s .down)
+    (λ place offset sent e. stays place (f .sending place offset sent e .complete))
+    (λ place e. stays place (f .ended place e))
+    (λ place e. stays place (f .aborting place e))
+    (λ listed long done sent e.
+    listing-stays m one (m .selected) (s .count) (s .next) (f .next) (f .names) m′ two stays listed (f .listing listed long done sent e .one) long done sent)
 
 -- ---- the view of a turn
 
@@ -76,7 +101,7 @@ module _ (sv : Server) (l : Lent) (i : ℕ) where
   turnView p t =
       turn (t .turn .reply)
       (mk (t .turn .last .number) (t .turn .last .time) (filesBy (t .mem) (t .turn .last .number))
-      (sessionFrom (filesIn (t .mem)) (t .mem .selected) p (t .turn .session)))
+      (sessionFrom (filesIn (t .mem)) (byNumber (t .mem)) (t .mem .selected) p (t .turn .session)))
 
 module _ (sv : Server) (l : Lent) (g : Good sv l) (i : ℕ) (inside : i < sv .sessions) where
   listed-four : i < length (each (sv .sessions) (sessionOf sv l))
@@ -113,7 +138,8 @@ module _ (sv : Server) (l : Lent) (g : Good sv l) (i : ℕ) (inside : i < sv .se
     -- what another session names is as it was
     other-same : (j : ℕ) → j < sv .sessions → (j ≡ i → ⊥) → linkOf sv j .linked ≡ true
         → (upOf (filesIn (turned .mem)) (linkOf sv j .up) ≡ upOf (filesOf sv l) (linkOf sv j .up))
-        × (downOf (filesIn (turned .mem)) (linkOf sv j .down) ≡ downOf (filesOf sv l) (linkOf sv j .down))
+        × (downOf (filesIn (turned .mem)) (byNumber (turned .mem)) (selectionOf (sv .most) (l .selected) j) (linkOf sv j .next) (linkOf sv j .down)
+        ≡ downOf (filesOf sv l) (numbered sv l) (selectionOf (sv .most) (l .selected) j) (linkOf sv j .next) (linkOf sv j .down))
     other-same j h ne o =
         let f = facts sv l g .sessions .each j h o in
         let four = facts sv l g .sizes .sessions in (
@@ -126,10 +152,8 @@ module _ (sv : Server) (l : Lent) (g : Good sv l) (i : ℕ) (inside : i < sv .se
               (omega (arith, four)) (omega (arith, four)) place
               (record { linked = linked; offset = u .offset; received = u .received; receiving = u .receiving })
               (record { linked = o; offset = offset; received = received; receiving = e }))),
-          down-same (filesOf sv l) (filesIn (turned .mem)) (linkOf sv j .down)
-              (λ place offset sent e. complete-stays place (f .sending place offset sent e .complete))
-              (λ place e. complete-stays place (f .ended place e))
-              (λ place e. complete-stays place (f .aborting place e)),
+          down-stays (parts sv l j) (turned .mem) (sv .most) (packetOf (l .held) j) (linkOf sv j) f (facts sv l g .store .files .numbers)
+              (kept .stored .sound .files .numbers) complete-stays,
         )
 
     module _ (held : List ℕ) (others : (j : ℕ) → (j ≡ i → ⊥) → packetOf held j ≡ packetOf (l .held) j) where
@@ -152,23 +176,28 @@ module _ (sv : Server) (l : Lent) (g : Good sv l) (i : ℕ) (inside : i < sv .se
       mine = kept .lengths .selected ∙ part-size (i * sv .most) (sv .most) (l .selected) room
 
       -- a session as the state left has it
-      seen-in : (a b : List ℕ) (s : Session) → sessionFrom (filesOf server left) a b s ≡ sessionFrom (filesIn (turned .mem)) a b s
-      seen-in a b s = ap₂ (λ (o t : List ℕ). sessionFrom (λ place. viewAt (turned .mem .disk) o t place) a b s) owner-back table-back
+      seen-in : (a b : List ℕ) (s : Session)
+          → sessionFrom (filesOf server left) (numbered server left) a b s ≡ sessionFrom (filesIn (turned .mem)) (byNumber (turned .mem)) a b s
+      seen-in a b s =
+          ap₂ (λ (o t : List ℕ).
+          sessionFrom (λ place. viewAt (turned .mem .disk) o t place)
+          (λ n. fileIn (λ place. viewAt (turned .mem .disk) o t place) (findOf (files t) n)) a b s) owner-back table-back
 
-      here : sessionOf server left i ≡ sessionFrom (filesIn (turned .mem)) (turned .mem .selected) (packetOf held i) (turned .turn .session)
+      here : sessionOf server left i
+          ≡ sessionFrom (filesIn (turned .mem)) (byNumber (turned .mem)) (turned .mem .selected) (packetOf held i) (turned .turn .session)
       here =
           seen-in _ _ (linkOf server i)
-          ∙ ap₂ (λ (a : List ℕ) (s : Session). sessionFrom (filesIn (turned .mem)) a (packetOf held i) s)
+          ∙ ap₂ (λ (a : List ℕ) (s : Session). sessionFrom (filesIn (turned .mem)) (byNumber (turned .mem)) a (packetOf held i) s)
           (part-own (i * sv .most) (sv .most) (turned .mem .selected) (l .selected) mine room)
           (getD-set-same (sv .links) i (turned .turn .session) closedSession (four sv l g i inside))
 
       there : (j : ℕ) → j < sv .sessions → (j ≡ i → ⊥) → sessionOf server left j ≡ sessionOf sv l j
       there j h ne =
           seen-in _ _ (linkOf server j)
-          ∙ ap (sessionFrom (filesIn (turned .mem)) _ (packetOf held j)) (getD-set-other (sv .links) i j (turned .turn .session) closedSession ne)
-          ∙ ap₂ (λ (a b : List ℕ). sessionFrom (filesIn (turned .mem)) a b (linkOf sv j))
+          ∙ ap (sessionFrom (filesIn (turned .mem)) (byNumber (turned .mem)) _ (packetOf held j)) (getD-set-other (sv .links) i j (turned .turn .session) closedSession ne)
+          ∙ ap₂ (λ (a b : List ℕ). sessionFrom (filesIn (turned .mem)) (byNumber (turned .mem)) a b (linkOf sv j))
           (part-stays (sv .sessions) (sv .most) i (turned .mem .selected) (l .selected) inside (facts sv l g .sessions .selections) mine j ne) (others j ne)
-          ∙ link-same (filesOf sv l) (filesIn (turned .mem)) _ _ (linkOf sv j) (other-same j h ne)
+          ∙ link-same (filesOf sv l) (filesIn (turned .mem)) (numbered sv l) (byNumber (turned .mem)) _ _ (linkOf sv j) (other-same j h ne)
 
       -- THE VIEW OF A TURN
       pub turn-view : view server left ≡ turnView sv l i (packetOf held i) turned .after

@@ -1,13 +1,13 @@
 -- The packets of an upload are steps of the machine: DATA and DATA_END.
 use mathlib.Core.Path.{_≡_, refl, sym, ap, ap₂, _∙_, subst}
 use mathlib.Core.Bool.{Bool, true, false, cond}
-use mathlib.Core.List.{List, []}
+use mathlib.Core.List.{List}
 use mathlib.Core.Option.{Option, some}
 use Prim.Native.Nat.{ℕ, _+_, _≤_, _<_}
 use native.Mathlib.Omega.{arith}
 use borrow.Author.Tests.{eqb-true, eqb-false, ltb-false, le-ltb, eq-eqb, ne-eqb}
 use lib.Dec.{eqb, ltb}
-use lib.ListN.{length, take}
+use lib.ListN.{length}
 use Rattle.packet.specs.Frame.{padded}
 use Rattle.packet.proofs.FrameLaws.{padded-length}
 use Rattle.header.specs.Header.{verdict}
@@ -45,8 +45,8 @@ use Rattle.model.specs.Files.{find, changed, without}
 use Rattle.model.specs.Uplink.{discarded, grown, dataTo, onData, timeAt, completed, dataEndTo, onDataEnd}
 use Rattle.views.specs.View.{fileOf, upOf, downOf, openFrom}
 use Rattle.views.proofs.Views.{facts, found-at, open-from}
-use Rattle.views.proofs.Stores.{filesBy}
-use Rattle.refines.proofs.Turns.{mk, parts, turnView, down-same, set-mk}
+use Rattle.views.proofs.Stores.{filesBy, byNumber}
+use Rattle.refines.proofs.Turns.{mk, parts, turnView, down-stays, set-mk}
 use Rattle.views.proofs.Stores as stores
 use Rattle.views.proofs.Bytes as bytes
 use Rattle.refines.proofs.Packets.{Here, F, fs, sel, s0, k0, M, does, on, moves, ignores, closes-all}
@@ -73,26 +73,26 @@ module _ (c : Here) where
   -- ---- a turn that leaves another store
 
   pub moved : (m : Mem) (s′ : Session) (last : Last) (r : Reply) (files : List File) (k : model.Session) → s′ .linked ≡ true → filesBy m (last .number) ≡ files
-      → openFrom (filesIn m) (m .selected) (c .part) s′ ≡ k
+      → openFrom (filesIn m) (byNumber m) (m .selected) (c .part) s′ ≡ k
       → turnView sv l (c .i) (c .part) (turned (turnOf s′ last r) m) ≡ turn r (mk sv l (c .i) (last .number) (last .time) files k)
   moved m s′ last r files k o e f =
       ap₂ (λ (xs : List File) (x : model.Session). turn r (mk sv l (c .i) (last .number) (last .time) xs x)) e
-      (open-from (filesIn m) (m .selected) (c .part) s′ o ∙ f)
+      (open-from (filesIn m) (byNumber m) (m .selected) (c .part) s′ o ∙ f)
 
-  -- the session's download names a complete file, and is as it was
-  pub down-stays : (m : Mem) (place : ℕ) → ((q : ℕ) → (q ≡ place → ⊥) → filesIn m q ≡ F c q) → (CompleteAt (fs c) place → ⊥)
-      → downOf (filesIn m) (s .down) ≡ downOf (F c) (s .down)
-  down-stays m place others n =
-      down-same (F c) (filesIn m) (s .down)
-      (λ q o t e. others q (λ z. n (subst (CompleteAt (fs c)) z (own .sending q o t e .complete))))
-      (λ q e. others q (λ z. n (subst (CompleteAt (fs c)) z (own .ended q e))))
-      (λ q e. others q (λ z. n (subst (CompleteAt (fs c)) z (own .aborting q e))))
+  -- the session's downlink names complete files, and is as it was
+  pub down-kept : (m : Mem) (place : ℕ) → Distinct (numbers (files (m .table))) → ((q : ℕ) → (q ≡ place → ⊥) → filesIn m q ≡ F c q)
+      → (CompleteAt (fs c) place → ⊥)
+      → downOf (filesIn m) (byNumber m) (sel c) (s .next) (s .down) ≡ k0 c .down
+  down-kept m place two others n =
+      down-stays P m (sv .most) (packetOf (l .held) (c .i)) s own one two
+      (λ q k. others q (λ z. n (subst (CompleteAt (fs c)) z k)))
 
   -- the session with another uplink
-  pub link-up : (m : Mem) (u : Uplink) → m .selected ≡ sel c → downOf (filesIn m) (s .down) ≡ downOf (F c) (s .down)
-      → openFrom (filesIn m) (m .selected) (c .part) (withUp (s0 c) u) ≡ model.withUp (upOf (filesIn m) u) (k0 c)
+  pub link-up : (m : Mem) (u : Uplink) → m .selected ≡ sel c → downOf (filesIn m) (byNumber m) (sel c) (s .next) (s .down) ≡ k0 c .down
+      → openFrom (filesIn m) (byNumber m) (m .selected) (c .part) (withUp (s0 c) u) ≡ model.withUp (upOf (filesIn m) u) (k0 c)
   link-up m u e d =
-      ap₂ (λ (x : model.Downlink) (xs : List ℕ). record { linked = true; up = upOf (filesIn m) u; down = x; selected = take (s .count) xs; next = s .next; held = [] }) d e
+      ap (λ (xs : List ℕ). openFrom (filesIn m) (byNumber m) xs (c .part) (withUp (s0 c) u)) e
+      ∙ ap (λ (x : model.Downlink). model.withDown x (model.withUp (upOf (filesIn m) u) (k0 c))) d
 
   -- ---- the partial file that the session receives
 
@@ -129,7 +129,7 @@ module _ (c : Here) where
         moved d (withUp (s0 c) u) (sv .last) r (without n (M c .files)) (model.withUp U (k0 c)) (c .linked)
         (stores.files-without P d one (dropped .sound .files .numbers) place (dropped .others (l .disk)) (partial .number)
         (ap (λ (f : table.File). f .number) (dropped .file)) (sv .last .number))
-        (link-up d u refl (down-stays d place (dropped .others (l .disk)) incomplete) ∙ ap (λ (x : model.Uplink). model.withUp x (k0 c)) h)
+        (link-up d u refl (down-kept d place (dropped .sound .files .numbers) (dropped .others (l .disk)) incomplete) ∙ ap (λ (x : model.Uplink). model.withUp x (k0 c)) h)
         ∙ ap (turn r) (sym (set-mk sv l (c .good) (c .i) (c .inside) (model.withUp U) (sv .last .number) (sv .last .time) (without n (M c .files)) (k0 c)))
 
     -- ---- DATA
@@ -159,7 +159,7 @@ module _ (c : Here) where
         (changed n (grown (c .info)) (M c .files)) (k0 c) (c .linked)
         (stores.files-changed P w one (a .sound .files .numbers) place (a .others) (partial .number) (grown (c .info)) number
         (ap₂ (λ (f : table.File) (b : List ℕ). file (f .number) (f .size) b (f .time)) (a .file) (a .bytes)) (sv .last .number))
-        (link-up w (up.Receiving place offset (upload.grown received (length (c .info)))) refl (down-stays w place (a .others) incomplete)
+        (link-up w (up.Receiving place offset (upload.grown received (length (c .info)))) refl (down-kept w place (a .sound .files .numbers) (a .others) incomplete)
         ∙ ap (λ (u : model.Uplink). model.withUp u (k0 c)) (ap model.receiving number ∙ sym (ap (upOf (F c)) e)))
       where
         a : AppendLeaves (mapPart sv l) (l .disk) (ownerPart sv l) (tablePart sv l) (sv .last .number) (sv .last .time) place (c .info)
@@ -236,7 +236,7 @@ module _ (c : Here) where
           (stores.files-changed P x one sound-after place (k .others) (partial .number) (completed time)
           (ap (λ (f : table.File). f .number) (k .file))
           (ap₂ (λ (f : table.File) (b : List ℕ). file (f .number) (f .size) b (f .time)) (k .file) (k .bytes)) (sv .last .number))
-          (link-up x up.Idle refl (down-stays x place (k .others) incomplete))
+          (link-up x up.Idle refl (down-kept x place sound-after (k .others) incomplete))
           ∙ ap (turn reply.Ack)
           (sym (set-mk sv l (c .good) (c .i) (c .inside) (model.withUp model.noUpload) (sv .last .number) time (changed n (completed time) (M c .files)) (k0 c)))
 

@@ -31,7 +31,7 @@ use Rattle.model.specs.Uplink.{uploadContinued}
 use Rattle.views.specs.View.{fileIn, upOf, openFrom, sessionFrom, sessionOf, each}
 use Rattle.views.proofs.Views.{facts, find-view, open-view}
 use Rattle.views.proofs.Bytes as bytes
-use Rattle.refines.proofs.Packets.{Here, F, fs, s0, k0, M, does, on, moves, tells}
+use Rattle.refines.proofs.Packets.{Here, F, N, fs, s0, k0, M, does, on, moves, tells}
 
 -- ---- one of the first n numbers passes a test
 
@@ -112,11 +112,11 @@ module _ (c : Here) where
     receives-same up.Ignoring h = refl
 
     link-same : (a b : List ℕ) (s : Session) → (s .linked ≡ true → (q o r : ℕ) → s .up ≡ up.Receiving q o r → F c q .file .number ≡ 0 → ⊥)
-        → receives (sessionFrom (F c) a b s .up) n ≡ uploads s place
+        → receives (sessionFrom (F c) (N c) a b s .up) n ≡ uploads s place
     link-same a b s h = go (s .linked) h
       where
         go : (t : Bool) → (t ≡ true → (q o r : ℕ) → s .up ≡ up.Receiving q o r → F c q .file .number ≡ 0 → ⊥)
-            → receives (cond t (openFrom (F c) a b s) model.closedSession .up) n ≡ cond t (uploadsIn (s .up) place) false
+            → receives (cond t (openFrom (F c) (N c) a b s) model.closedSession .up) n ≡ cond t (uploadsIn (s .up) place) false
         go true h = receives-same (s .up) (h refl)
         go false h = refl
 

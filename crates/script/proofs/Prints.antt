@@ -8,9 +8,11 @@ use lib.Dec.{eqb, ltb}
 use lib.ListN.{length, take, drop, replicate}
 use lib.Seq.{take-append-seam}
 use borrow.Author.Tests.{le-ltb}
+use Rattle.packet.specs.Packet.{packetOf}
 use Rattle.session.specs.declared.state.Session.{Session}
 use Rattle.session.specs.declared.state.Downlink.{Downlink}
 use Rattle.session.specs.declared.state.Downlink.the-variants as down
+use Rattle.session.specs.declared.state.Listed.{Listed}
 use Rattle.session.specs.declared.reply.Reply.{Reply}
 use Rattle.session.specs.declared.reply.Reply.the-variants as reply
 use Rattle.session.specs.declared.reply.Answer.{Answer}
@@ -24,7 +26,10 @@ use Rattle.server.specs.declared.check.Check.{Check}
 use Rattle.server.specs.declared.check.Check.the-variants.{Go, Refuse}
 use Rattle.server.specs.State.{Lent, Outcome, linkOf, ownerPart, tablePart}
 use Rattle.server.specs.Check.{fits, inState, sessionCheck}
-use Rattle.sending.specs.Sending.{told, leastOf, dataOf, sendingOf, dueOf}
+use Rattle.listing.specs.declared.Filled.{Filled}
+use Rattle.listing.specs.Listing.{entriesOf}
+use Rattle.listing.proofs.FillLaws.{fill-size}
+use Rattle.sending.specs.Sending.{told, asked, askedOf, leastOf, dataOf, sendingOf, listedAs, dueOf}
 use Rattle.server.specs.Calls.{answeredBy, heardBy, stepOf, onCheck, onLogin, onLose, dueAs, onRequest}
 use Rattle.server.specs.Calls.{receiveBy, loginBy, loseBy, requestBy}
 use Rattle.server.specs.Check.{checkFor, checkBy}
@@ -125,17 +130,29 @@ sending-small s place offset sent disk owner out fs = go (ltb (offset + sent) (f
     go true = tt
     go false = answered-small reply.DataEnd 0 out
 
-due-small : (d : Downlink) (s : Session) (disk owner out : List ℕ) (fs : List File) → Small (dueOf d s disk owner fs out .asked .answer)
+listed-small : (s : Session) (l : Listed) (long : Bool) (f : Filled) (out : List ℕ) → f .size ≤ 256 → Small (listedAs s l long f out .asked .answer)
+unfolding listedAs Small
+listed-small s l long f out h = go (eqb (f .size) 0)
+  where
+    go : (t : Bool) → Small (cond t (told (withDown s down.Idle) (answered reply.DataEnd 0 out))
+        (asked (askedOf (withDown s (down.Listing l long (f .done) (f .sent))) (answer.Sent 0 (2 + f .size)))
+        (packetOf 0 (take (f .size) (f .bytes)) ++ drop (2 + f .size) out)) .asked .answer)
+    go true = answered-small reply.DataEnd 0 out
+    go false = tt
+
+due-small : (d : Downlink) (s : Session) (disk owner selected out : List ℕ) (fs : List File) → Small (dueOf d s disk owner fs selected out .asked .answer)
 unfolding dueOf Small
-due-small down.Idle s disk owner out fs = tt
-due-small (down.Sending place offset sent) s disk owner out fs = sending-small s place offset sent disk owner out fs
-due-small (down.Ended place) s disk owner out fs = tt
-due-small (down.Aborting place) s disk owner out fs = answered-small reply.Aborted 0 out
+due-small down.Idle s disk owner selected out fs = tt
+due-small (down.Sending place offset sent) s disk owner selected out fs = sending-small s place offset sent disk owner out fs
+due-small (down.Ended place) s disk owner selected out fs = tt
+due-small (down.Aborting place) s disk owner selected out fs = answered-small reply.Aborted 0 out
+due-small (down.Listing l long done sent) s disk owner selected out fs =
+    listed-small s l long _ out (fill-size (entriesOf l long (s .next) disk owner fs selected) done sent)
 
 request-small : (c : Check) (sv : Server) (l : Lent) (out : List ℕ) → SmallCheck c → Small (onRequest c sv l out .done .answer)
 unfolding onRequest dueAs Small SmallCheck
 request-small (Refuse n) sv l out p = p
-request-small (Go i) sv l out p = due-small (linkOf sv i .down) (linkOf sv i) (l .disk) (ownerPart sv l) out (files (tablePart sv l))
+request-small (Go i) sv l out p = due-small (linkOf sv i .down) (linkOf sv i) (l .disk) (ownerPart sv l) _ out (files (tablePart sv l))
 
 pub call-small : (d : Doing) (sv : Server) (clock : ℕ) (bytes : List ℕ) (l : Lent) (out : List ℕ) → Small (callOf sv clock d bytes l out .done .answer)
 unfolding callOf hearOf loginBy loseBy receiveBy requestBy Small

@@ -1,14 +1,15 @@
 -- What is due on the downlink at a request (document 01, "Downlink"): "Each further request by the driver yields one DATA of up to 256 bytes, as
 -- full as can be, then DATA_END; with nothing due it yields nothing and changes nothing." Assumes nothing.
-use mathlib.Core.Bool.{cond}
+use mathlib.Core.Bool.{Bool, cond}
 use mathlib.Core.List.{List, _++_}
 use Prim.Native.Nat.{ℕ, _+_, _-_, _%_}
-use lib.Dec.{ltb}
-use lib.ListN.{length, drop, replicate}
+use lib.Dec.{ltb, eqb}
+use lib.ListN.{length, take, drop, replicate}
 use Rattle.packet.specs.Packet.{packetOf}
 use Rattle.session.specs.declared.state.Session.{Session}
 use Rattle.session.specs.declared.state.Downlink.{Downlink}
 use Rattle.session.specs.declared.state.Downlink.the-variants as down
+use Rattle.session.specs.declared.state.Listed.{Listed}
 use Rattle.session.specs.declared.reply.Answer.{Answer}
 use Rattle.session.specs.declared.reply.Answer.the-variants as answer
 use Rattle.session.specs.declared.reply.Reply.the-variants.{DataEnd, Aborted}
@@ -17,6 +18,8 @@ use Rattle.session.specs.Reply.{Told, answered}
 use Rattle.blocks.specs.Answers.{readOut}
 use Rattle.table.specs.declared.File.{File}
 use Rattle.table.specs.Table.{fileAt}
+use Rattle.listing.specs.declared.Filled.{Filled}
+use Rattle.listing.specs.Listing.{entriesOf, fillOf}
 use Rattle.sending.specs.declared.Asked.{Asked}
 
 -- a request's answer with the session, and the output afterwards
@@ -54,14 +57,26 @@ sendingOf s place offset sent disk owner fs out =
     (dataOf s place offset sent (leastOf (fileAt fs place .size - (offset + sent))) disk owner out)
     (told (withDown s (down.Ended place)) (answered DataEnd 0 out))
 
--- "DL_ABORTED_RESP at the next request"
-unfoldable pub dueOf : Downlink → Session → List ℕ → List ℕ → List File → List ℕ → Due
-dueOf down.Idle s disk owner fs out = asked (askedOf s (answer.Quiet 0)) out
-dueOf (down.Sending place offset sent) s disk owner fs out = sendingOf s place offset sent disk owner fs out
-dueOf (down.Ended place) s disk owner fs out = asked (askedOf s (answer.Quiet 0)) out
-dueOf (down.Aborting place) s disk owner fs out = told (withDown s down.Idle) (answered Aborted 0 out)
+-- a directory (A1 of document 02): "the headers sent as DATA and DATA_END"; behind DATA_END the downlink is idle (001, appendix B)
+unfoldable pub listedAs : Session → Listed → Bool → Filled → List ℕ → Due
+listedAs s listed long f out =
+    cond (eqb (f .size) 0) (told (withDown s down.Idle) (answered DataEnd 0 out))
+    (asked (askedOf (withDown s (down.Listing listed long (f .done) (f .sent))) (answer.Sent 0 (2 + f .size)))
+    (packetOf 0 (take (f .size) (f .bytes)) ++ drop (2 + f .size) out))
 
--- "32 local: output shorter than 258 bytes", which is the longest packet
-unfoldable pub dueIn : Session → List ℕ → List ℕ → List File → List ℕ → Due
-dueIn s disk owner fs out =
-    cond (ltb (length out) 258) (asked (askedOf s (answer.Refused 32)) out) (dueOf (s .down) s disk owner fs out)
+abbrev pub listingOf : Session → Listed → Bool → ℕ → ℕ → List ℕ → List ℕ → List File → List ℕ → List ℕ → Due
+listingOf s listed long done sent disk owner fs selected out =
+    listedAs s listed long (fillOf (entriesOf listed long (s .next) disk owner fs selected) done sent) out
+
+-- "DL_ABORTED_RESP at the next request"
+unfoldable pub dueOf : Downlink → Session → List ℕ → List ℕ → List File → List ℕ → List ℕ → Due
+dueOf down.Idle s disk owner fs selected out = asked (askedOf s (answer.Quiet 0)) out
+dueOf (down.Sending place offset sent) s disk owner fs selected out = sendingOf s place offset sent disk owner fs out
+dueOf (down.Ended place) s disk owner fs selected out = asked (askedOf s (answer.Quiet 0)) out
+dueOf (down.Aborting place) s disk owner fs selected out = told (withDown s down.Idle) (answered Aborted 0 out)
+dueOf (down.Listing listed long done sent) s disk owner fs selected out = listingOf s listed long done sent disk owner fs selected out
+
+-- "32 local: output shorter than 258 bytes", which is the longest packet; `selected` is the session's selection
+unfoldable pub dueIn : Session → List ℕ → List ℕ → List File → List ℕ → List ℕ → Due
+dueIn s disk owner fs selected out =
+    cond (ltb (length out) 258) (asked (askedOf s (answer.Refused 32)) out) (dueOf (s .down) s disk owner fs selected out)

@@ -1,14 +1,16 @@
 // What is due on a session's downlink at a request of the driver: one packet, or nothing. An output that has no room for every packet is refused by
 // 32, and nothing changes.
+use listing::Filled;
 use session::reply::Answer;
 use session::reply::Reply;
 use session::state::Downlink;
+use session::state::Listed;
 use session::state::Session;
 ghost use mathlib.Core.Path.{_≡_};
 ghost use Prim.Native.Nat.{_+_, _*_, _≤_};
 ghost use lib.ListN.{length};
 ghost use Rattle.table.specs.Table.{files};
-ghost use Rattle.sending.specs.Sending.{asked, leastOf, dataOf, sendingOf, dueOf, dueIn};
+ghost use Rattle.sending.specs.Sending.{asked, leastOf, dataOf, sendingOf, listedAs, listingOf, dueOf, dueIn};
 
 // The session after a request, and the answer.
 pub struct Asked {
@@ -83,10 +85,66 @@ fn send_next(
     }
 }
 
-// What is due, if anything, in an output that has room for it.
-fn send_due(s: Session, disk: &[u8], owner: &[u16], table: &[u32], out: &mut [u8]) -> Asked
+// The next bytes of a directory as DATA, or DATA_END where there are none.
+fn send_filled(s: Session, listed: Listed, long: bool, f: Filled, out: &mut [u8]) -> Asked
+    requires { ⌜ (f .size ≤ 256) × (length (f .bytes) ≡ 256) × (258 ≤ length (now out)) ⌝ }
+    ensures { λ r. ⌜ asked r (now (out .exit)) ≡ listedAs s listed long f (now (out .entry)) ⌝ }
+{
+    if f.size == 0 {
+        let answer = session::reply::send(Reply::DataEnd, 0, out);
+        return Asked {
+            session: session::state::with_down(s, Downlink::Idle),
+            answer: answer,
+        };
+    }
+    let n = f.size;
+    let bytes = f.bytes;
+    packet::plain::write_packet(0, &bytes[..n], out);
+    let down = Downlink::Listing {
+        listed: listed,
+        long: long,
+        done: f.done,
+        sent: f.sent,
+    };
+    Asked {
+        session: session::state::with_down(s, down),
+        answer: Answer::Sent(0, 2 + n),
+    }
+}
+
+// The next packet of a directory.
+fn send_listing(
+    s: Session,
+    listed: Listed,
+    long: bool,
+    done: usize,
+    sent: usize,
+    disk: &[u8],
+    owner: &[u16],
+    table: &[u32],
+    selected: &[u32],
+    out: &mut [u8],
+) -> Asked
     requires { ⌜ 258 ≤ length (now out) ⌝ }
-    ensures { λ r. ⌜ asked r (now (out .exit)) ≡ dueOf (s .down) s (now (disk .entry)) (now (owner .entry)) (files (now (table .entry))) (now (out .entry)) ⌝ }
+    ensures { λ r. ⌜ asked r (now (out .exit))
+        ≡ listingOf s listed long done sent (now (disk .entry)) (now (owner .entry)) (files (now (table .entry))) (now (selected .entry)) (now (out .entry)) ⌝ }
+{
+    let next = s.next;
+    let f = listing::fill(listed, long, next, done, sent, disk, owner, table, selected);
+    send_filled(s, listed, long, f, out)
+}
+
+// What is due, if anything, in an output that has room for it.
+fn send_due(
+    s: Session,
+    disk: &[u8],
+    owner: &[u16],
+    table: &[u32],
+    selected: &[u32],
+    out: &mut [u8],
+) -> Asked
+    requires { ⌜ 258 ≤ length (now out) ⌝ }
+    ensures { λ r. ⌜ asked r (now (out .exit)) ≡ dueOf (s .down) s (now (disk .entry)) (now (owner .entry)) (files (now (table .entry))) (now (selected .entry)) (now (out .entry)) ⌝ }
 {
     let down = s.down;
     match down {
@@ -110,12 +168,36 @@ fn send_due(s: Session, disk: &[u8], owner: &[u16], table: &[u32], out: &mut [u8
                 answer: answer,
             }
         }
+        Downlink::Listing {
+            listed,
+            long,
+            done,
+            sent,
+        } => send_listing(
+            s,
+            listed,
+            long,
+            done,
+            sent,
+            disk,
+            owner,
+            table,
+            selected,
+            out,
+        ),
     }
 }
 
 // What is due, if anything; 32 where the output is shorter than 258 bytes.
-pub fn due(s: Session, disk: &[u8], owner: &[u16], table: &[u32], out: &mut [u8]) -> Asked
-    ensures { λ r. ⌜ asked r (now (out .exit)) ≡ dueIn s (now (disk .entry)) (now (owner .entry)) (files (now (table .entry))) (now (out .entry)) ⌝ }
+pub fn due(
+    s: Session,
+    disk: &[u8],
+    owner: &[u16],
+    table: &[u32],
+    selected: &[u32],
+    out: &mut [u8],
+) -> Asked
+    ensures { λ r. ⌜ asked r (now (out .exit)) ≡ dueIn s (now (disk .entry)) (now (owner .entry)) (files (now (table .entry))) (now (selected .entry)) (now (out .entry)) ⌝ }
 {
     if out.len() < 258 {
         return Asked {
@@ -123,5 +205,5 @@ pub fn due(s: Session, disk: &[u8], owner: &[u16], table: &[u32], out: &mut [u8]
             answer: Answer::Refused(32),
         };
     }
-    send_due(s, disk, owner, table, out)
+    send_due(s, disk, owner, table, selected, out)
 }

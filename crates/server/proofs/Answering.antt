@@ -3,12 +3,13 @@ use mathlib.Core.Path.{_≡_, refl}
 use mathlib.Core.Bool.{Bool, true, false, cond}
 use mathlib.Core.List.{List}
 use Prim.Native.Nat.{ℕ, _+_, _≤_}
-use lib.Dec.{ltb}
+use lib.Dec.{ltb, eqb}
 use lib.ListN.{length}
 use borrow.Author.Tests.{le-ltb}
 use Rattle.session.specs.declared.state.Session.{Session}
 use Rattle.session.specs.declared.state.Downlink.{Downlink}
 use Rattle.session.specs.declared.state.Downlink.the-variants as down
+use Rattle.session.specs.declared.state.Listed.{Listed}
 use Rattle.session.specs.declared.reply.Answer.{Answer}
 use Rattle.session.specs.declared.reply.Answer.the-variants as answer
 use Rattle.session.specs.declared.reply.Reply.{Reply}
@@ -18,7 +19,8 @@ use Rattle.table.specs.declared.File.{File}
 use Rattle.table.specs.Table.{fileAt}
 use Rattle.server.specs.declared.Server.{Server}
 use Rattle.server.specs.State.{Lent}
-use Rattle.sending.specs.Sending.{Due, dueOf, sendingOf, dataOf}
+use Rattle.sending.specs.Sending.{Due, dueOf, sendingOf, dataOf, listedAs}
+use Rattle.listing.specs.declared.Filled.{Filled}
 use Rattle.server.specs.Calls.{answeredBy, heardBy, stepOf}
 
 abbrev pub isRefused : Answer → Bool
@@ -62,10 +64,16 @@ unfolding sendingOf dataOf
 sending-not s place offset sent disk owner fs out h =
     either-not (ltb (offset + sent) (fileAt fs place .size)) _ _ refl (answered-not reply.DataEnd 0 out h)
 
-pub due-not : (d : Downlink) (s : Session) (disk owner : List ℕ) (fs : List File) (out : List ℕ) → 258 ≤ length out
-    → isRefused (dueOf d s disk owner fs out .asked .answer) ≡ false
+listed-not : (s : Session) (l : Listed) (long : Bool) (f : Filled) (out : List ℕ) → 258 ≤ length out
+    → isRefused (listedAs s l long f out .asked .answer) ≡ false
+unfolding listedAs
+listed-not s l long f out h = either-not (eqb (f .size) 0) _ _ (answered-not reply.DataEnd 0 out h) refl
+
+pub due-not : (d : Downlink) (s : Session) (disk owner : List ℕ) (fs : List File) (selected out : List ℕ) → 258 ≤ length out
+    → isRefused (dueOf d s disk owner fs selected out .asked .answer) ≡ false
 unfolding dueOf
-due-not down.Idle s disk owner fs out h = refl
-due-not (down.Sending place offset sent) s disk owner fs out h = sending-not s place offset sent disk owner fs out h
-due-not (down.Ended place) s disk owner fs out h = refl
-due-not (down.Aborting place) s disk owner fs out h = answered-not reply.Aborted 0 out h
+due-not down.Idle s disk owner fs selected out h = refl
+due-not (down.Sending place offset sent) s disk owner fs selected out h = sending-not s place offset sent disk owner fs out h
+due-not (down.Ended place) s disk owner fs selected out h = refl
+due-not (down.Aborting place) s disk owner fs selected out h = answered-not reply.Aborted 0 out h
+due-not (down.Listing l long done sent) s disk owner fs selected out h = listed-not s l long _ out h

@@ -157,19 +157,21 @@ module _ (sv : Server) (i disk o : ℕ) (map owner table selected held : List �
   pub go-lose : LosePre sv i selected held
   go-lose = record { session = go-index; most = p .sizes .most; selections = go-selections; part = go-part }
 
-  pub go-due : (out : List ℕ) → o ≡ length out → DuePre sv i owner table out
+  pub go-due : (out : List ℕ) → o ≡ length out → DuePre sv i owner table selected out
   go-due out e =
       record {
         session = go-index;
         files = p .sizes .files;
+        most = p .sizes .most;
         owners = p .room .owner;
         records = p .room .table;
+        selections = go-selections;
         packet = omega (arith, p .out, e);
       }
 
--- a request looks at the storage, the owners and the file table alone
+-- a request looks at the storage, the owners, the file table and the selections alone
 pub request-parts : (k : Check) (sv : Server) (l : Lent) (out : List ℕ)
-    → onRequest k sv (lent (l .disk) [] (l .owner) (l .table) [] []) out ≡ onRequest k sv l out
+    → onRequest k sv (lent (l .disk) [] (l .owner) (l .table) (l .selected) []) out ≡ onRequest k sv l out
 unfolding onRequest
 request-parts (Go i) sv l out = refl
 request-parts (Refuse n) sv l out = refl

@@ -15,7 +15,7 @@ use Rattle.server.specs.declared.Server.{Server}
 use Rattle.server.specs.declared.Done.{Done}
 use Rattle.server.specs.declared.check.Check.{Check}
 use Rattle.server.specs.declared.check.Check.the-variants.{Go, Refuse}
-use Rattle.server.specs.State.{Lent, lent, Outcome, outcome, doneWith, linkOf, withLink, withTurn, withPart, ownerPart, tablePart}
+use Rattle.server.specs.State.{Lent, lent, Outcome, outcome, doneWith, linkOf, withLink, withTurn, part, withPart, ownerPart, tablePart}
 use Rattle.server.specs.Check.{soundIn, checkFor}
 use Rattle.table.specs.Table.{files}
 use Rattle.sending.specs.Sending.{Due, dueOf}
@@ -122,7 +122,8 @@ dueAs sv i d = opened (doneWith (withLink sv i (d .asked .session)) (d .asked .a
 unfoldable pub onRequest : Check → Server → Lent → List ℕ → Opened
 onRequest (Refuse n) sv l out = opened (doneWith sv (answer.Refused n)) out
 onRequest (Go i) sv l out =
-    dueAs sv i (dueOf (linkOf sv i .down) (linkOf sv i) (l .disk) (ownerPart sv l) (files (tablePart sv l)) out)
+    dueAs sv i
+    (dueOf (linkOf sv i .down) (linkOf sv i) (l .disk) (ownerPart sv l) (files (tablePart sv l)) (part (i * sv .most) (sv .most) (l .selected)) out)
 
 unfoldable pub requestBy : Bool → Server → Lent → List ℕ → ℕ → Opened
 requestBy sound sv l out session = onRequest (checkFor sound sv l session true (length out)) sv l out
@@ -131,9 +132,11 @@ unfoldable pub requestOf : Server → Lent → List ℕ → ℕ → Opened
 requestOf sv l out session = requestBy (soundIn sv l) sv l out session
 
 -- what the slices have room for
-pub record DuePre (sv : Server) (i : ℕ) (owner table out : List ℕ) : Type 0 where
+pub record DuePre (sv : Server) (i : ℕ) (owner table selected out : List ℕ) : Type 0 where
   pub session : i ≤ 3
   pub files : sv .files ≤ 256
+  pub most : sv .most ≤ 50
   pub owners : sv .blocks ≤ length owner
   pub records : 4 * sv .files ≤ length table
+  pub selections : i * sv .most + sv .most ≤ length selected
   pub packet : 258 ≤ length out

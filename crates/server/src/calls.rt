@@ -98,17 +98,19 @@ pub(crate) fn on_lose(k: Check, server: Server, selected: &mut [u32], held: &mut
     }
 }
 
-// What is due on a session's downlink. The map, the selections and the unfinished packets are not looked at.
+// What is due on a session's downlink. The map and the unfinished packets are not looked at.
 pub(crate) fn on_request(
     k: Check,
     server: Server,
     disk: &[u8],
     owner: &[u16],
     table: &[u32],
+    selected: &[u32],
     out: &mut [u8],
 ) -> Done
-    requires { ⌜ Goes k (λ i. DuePre server i (now owner) (now table) (now out)) ⌝ }
-    ensures { λ r. ⌜ opened r (now (out .exit)) ≡ onRequest k server (lent (now (disk .entry)) [] (now (owner .entry)) (now (table .entry)) [] []) (now (out .entry)) ⌝ }
+    requires { ⌜ Goes k (λ i. DuePre server i (now owner) (now table) (now selected) (now out)) ⌝ }
+    ensures { λ r. ⌜ opened r (now (out .exit))
+        ≡ onRequest k server (lent (now (disk .entry)) [] (now (owner .entry)) (now (table .entry)) (now (selected .entry)) []) (now (out .entry)) ⌝ }
 {
     match k {
         Check::Refuse(n) => Done {
@@ -119,9 +121,12 @@ pub(crate) fn on_request(
             let s = server.links[i];
             let b = server.blocks;
             let x = 4 * server.files;
-            let a = sending::due(s, disk, &owner[..b], &table[..x], out);
-            let next = a.session;
-            let answer = a.answer;
+            let most = server.most;
+            let a = i * most;
+            let e = a + most;
+            let asked = sending::due(s, disk, &owner[..b], &table[..x], &selected[a..e], out);
+            let next = asked.session;
+            let answer = asked.answer;
             Done {
                 server: turns::with_link(server, i, next),
                 answer: answer,

@@ -168,5 +168,5 @@ pub fn request(
         held: held.len(),
     };
     let k = check::judge(server, sound, session, true, out.len(), n);
-    calls::on_request(k, server, disk, owner, table, out)
+    calls::on_request(k, server, disk, owner, table, selected, out)
 }

@@ -23,6 +23,7 @@ takesCommand down.Idle = true
 takesCommand (down.Sending place offset sent) = false
 takesCommand (down.Ended place) = false
 takesCommand (down.Aborting place) = false
+takesCommand (down.Listing listed long done sent) = false
 
 -- "Before DATA_END is sent DL_ACK_CMD is unexpected"
 abbrev pub takesAck : Downlink → Bool
@@ -30,13 +31,16 @@ takesAck down.Idle = false
 takesAck (down.Sending place offset sent) = false
 takesAck (down.Ended place) = true
 takesAck (down.Aborting place) = false
+takesAck (down.Listing listed long done sent) = false
 
--- "any downlink command between these two being unexpected"; with the downlink idle it is expected and does nothing (001, appendix B)
+-- "any downlink command between these two being unexpected"; with the downlink idle it is expected and does nothing, and it breaks a directory off
+-- (001, appendix B)
 abbrev pub takesNak : Downlink → Bool
 takesNak down.Idle = true
 takesNak (down.Sending place offset sent) = true
 takesNak (down.Ended place) = true
 takesNak (down.Aborting place) = false
+takesNak (down.Listing listed long done sent) = true
 
 -- THE TABLE. "A type 18 to 31, a server's own type, a packet not expected in the session's state, or DATA_END or DL_NAK_CMD with
 -- information closes it at the packet's end. The server closes a link in no other case (H)."

@@ -16,8 +16,16 @@ pub enum Uplink {
     Ignoring,
 }
 
+// The files of a directory: the one at a place, or those of the session's selection from one on up to the session's place in it, which the command
+// moved past the last of them. No command moves that place before DATA_END goes out, so all of them are known until then.
+pub enum Listed {
+    One(usize),
+    Selected(usize),
+}
+
 // The downlink. Sending carries the file's place, the offset asked for, and the bytes sent since. Ended: DATA_END is sent.
-// Aborting: DATA_END is sent after DL_NAK_CMD, and DL_ABORTED_RESP is due.
+// Aborting: DATA_END is sent after DL_NAK_CMD, and DL_ABORTED_RESP is due. Listing is a directory: of which files, in the long form or the short
+// one, how many of them lie behind, and how many bytes of the next one's entry.
 pub enum Downlink {
     Idle,
     Sending {
@@ -30,6 +38,12 @@ pub enum Downlink {
     },
     Aborting {
         place: usize,
+    },
+    Listing {
+        listed: Listed,
+        long: bool,
+        done: usize,
+        sent: usize,
     },
 }
 
@@ -169,6 +183,12 @@ fn takes_command(down: Downlink) -> bool
         } => false,
         Downlink::Ended { place: _ } => false,
         Downlink::Aborting { place: _ } => false,
+        Downlink::Listing {
+            listed: _,
+            long: _,
+            done: _,
+            sent: _,
+        } => false,
     }
 }
 
@@ -185,6 +205,12 @@ fn takes_ack(down: Downlink) -> bool
         } => false,
         Downlink::Ended { place: _ } => true,
         Downlink::Aborting { place: _ } => false,
+        Downlink::Listing {
+            listed: _,
+            long: _,
+            done: _,
+            sent: _,
+        } => false,
     }
 }
 
@@ -201,6 +227,12 @@ fn takes_nak(down: Downlink) -> bool
         } => true,
         Downlink::Ended { place: _ } => true,
         Downlink::Aborting { place: _ } => false,
+        Downlink::Listing {
+            listed: _,
+            long: _,
+            done: _,
+            sent: _,
+        } => true,
     }
 }
 

@@ -13,12 +13,13 @@ use Rattle.packet.specs.Frame.{Event, packet, too-long}
 use Rattle.header.specs.Header.{verdict}
 use Rattle.equation.specs.Answer.{validityOf}
 use Rattle.table.specs.Given.{blocksFor, mostGiven}
-use Rattle.model.specs.State.{File, file, Uplink, noUpload, receiving, ignoring, Downlink, noDownload, sending, ended, aborting, Session}
+use Rattle.model.specs.State.{File, file, Uplink, noUpload, receiving, ignoring, Downlink, noDownload, sending, ended, aborting, listing, Session}
 use Rattle.model.specs.State.{closedSession, freshSession, withUp, withDown, withSelection, withNext, withHeld, Model, model, sessionAt, withSession}
 use Rattle.model.specs.State.{inSession, Turn, Stepped, stepped, closing}
 use Rattle.model.specs.Files.{find, changed, without, reserved, free, uploading, selection}
 use Rattle.model.specs.Uplink.{uploadNew, uploadContinued, onUploadCmd, discarded, grown, dataTo, onData, timeAt, completed, dataEndTo, onDataEnd}
-use Rattle.model.specs.Downlink.{destinationsIn, downloadOf, downloadNumbered, onDownloadCmd, onDirCmd, dataDue, onRequest, onDlAckCmd, onDlNakCmd, onSelectCmd}
+use Rattle.model.specs.Downlink.{destinationsIn, downloadOf, downloadNumbered, onDownloadCmd, dataDue, directoryOf, listingDue, onRequest}
+use Rattle.model.specs.Downlink.{onDlAckCmd, onDlNakCmd, nextTen, directoryOfOne, directoryNumbered, onDirCmd, onSelectCmd}
 use Rattle.calls.specs.Call.{login, receive, request, lose}
 use Rattle.model.specs.Step.{ifNoUpload, ifNoDownload, byType, onPacket, endsIn, onEvent, refusal, unless, step}
 use Rattle.decide.specs.Words.{wordAt}
@@ -185,6 +186,7 @@ module _ (m : Model) (i : ℕ) where
   ack-does (sending n at) info = closing-does
   ack-does (ended n) info = moves m i (withDown noDownload (sessionAt m i))
   ack-does (aborting n) info = closing-does
+  ack-does (listing long ns at) info = closing-does
 
   nak-does : (d : Downlink) → Does m i (onDlNakCmd d m i)
   unfolding onDlNakCmd
@@ -192,6 +194,24 @@ module _ (m : Model) (i : ℕ) where
   nak-does (sending n at) = moves m i (withDown (aborting n) (sessionAt m i))
   nak-does (ended n) = moves m i (withDown noDownload (sessionAt m i))
   nak-does (aborting n) = closing-does
+  nak-does (listing long ns at) = moves m i (withDown noDownload (sessionAt m i))
+
+  one-does : (f : Option File) (long : Bool) (n : ℕ) → Does m i (directoryOfOne f m i long n)
+  unfolding directoryOfOne
+  one-does none long n = stays
+  one-does (some f) long n = by m i (eqb (f .time) 0) _ _ (λ _. stays) (λ _. moves m i (withDown (listing long (n ∷ []) 0) (sessionAt m i)))
+
+  directory-does : (long : Bool) (s : Session) (info : List ℕ) → Does m i (onDirCmd long m i s info)
+  unfolding onDirCmd directoryNumbered
+  directory-does long s info =
+      by m i (eqb (length info) 4) _ _
+      (λ _.
+      by m i (eqb (wordAt info 0) 0) _ _
+      (λ _.
+      by m i (ltb (s .next) (length (s .selected))) _ _
+      (λ _. moves m i (withDown (listing long (nextTen s) 0) (withNext (s .next + length (nextTen s)) (sessionAt m i)))) (λ _. stays))
+      (λ _. one-does (find (wordAt info 0) (m .files)) long (wordAt info 0)))
+      (λ _. stays)
 
   select-does : (info : List ℕ) → Does m i (onSelectCmd m i info)
   unfolding onSelectCmd
@@ -208,9 +228,10 @@ module _ (m : Model) (i : ℕ) where
   if-no-download (sending n offset) x y f g = g
   if-no-download (ended n) x y f g = g
   if-no-download (aborting n) x y f g = g
+  if-no-download (listing long ns at) x y f g = g
 
   packet-does : (clock kind : ℕ) (info : List ℕ) → Does m i (onPacket m i clock kind info)
-  unfolding byType onDirCmd
+  unfolding byType
   packet-does clock kind info =
       by m i (eqb kind 0) _ _ (λ _. data-does (sessionAt m i .up) refl info)
       (λ _.
@@ -224,9 +245,9 @@ module _ (m : Model) (i : ℕ) where
       (λ _.
       by m i (eqb kind 13) _ _ (λ _. by m i (eqb (length info) 0) _ _ (λ _. nak-does (sessionAt m i .down)) (λ _. closing-does))
       (λ _.
-      by m i (eqb kind 14) _ _ (λ _. if-no-download (sessionAt m i .down) _ _ stays closing-does)
+      by m i (eqb kind 14) _ _ (λ _. if-no-download (sessionAt m i .down) _ _ (directory-does false (sessionAt m i) info) closing-does)
       (λ _.
-      by m i (eqb kind 15) _ _ (λ _. if-no-download (sessionAt m i .down) _ _ stays closing-does)
+      by m i (eqb kind 15) _ _ (λ _. if-no-download (sessionAt m i .down) _ _ (directory-does true (sessionAt m i) info) closing-does)
       (λ _. by m i (eqb kind 16) _ _ (λ _. if-no-download (sessionAt m i .down) _ _ (select-does info) closing-does) (λ _. closing-does)))))))))
 
 -- a state that differs in what session i holds
@@ -281,7 +302,7 @@ module _ (m : Model) (i : ℕ) where
       over m i there [] _ (packet-does (inSession i (withHeld []) m) i clock kind info)
 
   due-does : (d : Downlink) (out : List ℕ) → Change m i (onRequest d m i out .after)
-  unfolding onRequest dataDue
+  unfolding onRequest dataDue listingDue
   due-does noDownload out = keeps m i
   due-does (sending n at) out = go (find n (m .files))
     where
@@ -290,6 +311,8 @@ module _ (m : Model) (i : ℕ) where
       go (some f) = either m i (ltb at (length (f .bytes))) _ _ (moves m i _) (moves m i (withDown (ended n) (sessionAt m i)))
   due-does (ended n) out = keeps m i
   due-does (aborting n) out = moves m i (withDown noDownload (sessionAt m i))
+  due-does (listing long ns at) out =
+      either m i (ltb at (length (directoryOf long ns (m .files)))) _ _ (moves m i _) (moves m i (withDown noDownload (sessionAt m i)))
 
 unless-does : (n : ℕ) (m : Model) (i : ℕ) (out : List ℕ) (x : Stepped) → (n ≡ 0 → Change m i (x .after)) → Change m i (unless n m out x .after)
 unfolding unless

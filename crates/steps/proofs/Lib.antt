@@ -1,9 +1,8 @@
 pub mod Cutting
 pub mod Changes
+pub mod Found
 pub mod Naming
 pub mod Own
+pub mod Calls
 pub mod Neighbour
-pub mod Uplink
-pub mod Downloads
-pub mod Begins
 pub mod Start

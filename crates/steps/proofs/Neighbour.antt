@@ -1,12 +1,12 @@
--- Two states with the same complete files and the same session answer its SELECT_CMD, its DOWNLOAD_CMD of a complete file and its requests alike, and
--- stay alike. Assumes nothing.
+-- Two states with the same complete files and the same session answer its SELECT_CMD, its DOWNLOAD_CMD of a complete file, its directories of complete
+-- files and its requests alike, and stay alike. Assumes nothing.
 use mathlib.Core.Path.{_≡_, refl, sym, ap, _∙_, subst}
 use mathlib.Core.Bool.{Bool, true, false, cond}
 use mathlib.Core.List.{List, [], _∷_, map}
 use mathlib.Core.Option.{Option, none, some}
 use Prim.Native.Nat.{ℕ, _+_, _<_}
 use native.Mathlib.Omega.{arith}
-use borrow.Author.Tests.{eqb-true, ne-eqb}
+use borrow.Author.Tests.{eqb-true, eqb-false, ne-eqb}
 use lib.Dec.{eqb, ltb}
 use lib.ListN.{length, take, drop, length-set}
 use lib.Seq.{getD-set-same}
@@ -14,12 +14,15 @@ use Rattle.header.specs.Items.{fieldsOf}
 use Rattle.equation.specs.Answer.{selects, validityOf}
 use Rattle.session.specs.declared.reply.Reply.{Reply}
 use Rattle.session.specs.declared.reply.Reply.the-variants as reply
-use Rattle.model.specs.State.{File, Downlink, noDownload, sending, ended, aborting, Session, closedSession, withDown, withSelection}
+use Rattle.model.specs.State.{File, Downlink, noDownload, sending, ended, aborting, listing, Session, closedSession, withDown, withSelection}
 use Rattle.model.specs.State.{withNext, Model, sessionAt, inSession, Turn, turn, Stepped}
 use Rattle.model.specs.Files.{find, matching, byTime, selection}
-use Rattle.model.specs.Downlink.{destinationsIn, downloadOf, dataDue, onRequest, onSelectCmd}
+use Rattle.model.specs.Downlink.{destinationsIn, downloadOf, dataDue, directoryOf, listingDue, onRequest, nextTen, directoryOfOne}
+use Rattle.model.specs.Downlink.{directoryNumbered, onSelectCmd}
 use Rattle.steps.specs.Sound.{Numbers}
+use Rattle.steps.specs.Naming.{Complete, AllComplete}
 use Rattle.steps.specs.Neighbour.{completes, Alike, AlikeTurn, AlikeStep}
+use Rattle.steps.proofs.Found.{directory-same}
 
 matching-completes : (eq : List ℕ) (fs : List File) → matching eq (completes fs) ≡ matching eq fs
 unfolding completes matching
@@ -130,17 +133,58 @@ module _ (m m′ : Model) (i : ℕ) (a : Alike m m′ i) where
         after = moves (λ k. withDown (sending n offset) (withNext passed k)) (λ k. withDown (sending n offset) (withNext passed k)) refl;
       }))))
 
+  -- THEOREM: DIR_SHORT_CMD and DIR_LONG_CMD of the next files selected, or of a complete file
+  pub directory-alike : (long : Bool) (n : ℕ) → ((n ≡ 0 → ⊥) → Complete n (m .files))
+      → AlikeTurn (directoryNumbered m i (sessionAt m i) long n) (directoryNumbered m′ i (sessionAt m′ i) long n) i
+  unfolding directoryNumbered directoryOfOne
+  directory-alike long n c = go (eqb n 0) refl
+    where
+      one : Complete n (m .files) → AlikeTurn (directoryOfOne (find n (m .files)) m i long n) (directoryOfOne (find n (m′ .files)) m′ i long n) i
+      one k =
+          rw (k .found, found n (k .file) (k .found) (k .time))
+          (by (eqb (k .file .time) 0) _ _ _ _ (stays (reply.DownloadError 11))
+          (record { reply = refl; after = moves (withDown (listing long (n ∷ []) 0)) (withDown (listing long (n ∷ []) 0)) refl }))
+
+      next : (s s′ : Session) → s′ ≡ s
+          → AlikeTurn
+          (cond (ltb (s .next) (length (s .selected)))
+          (turn reply.Nothing (inSession i (λ x. withDown (listing long (nextTen s) 0) (withNext (s .next + length (nextTen s)) x)) m))
+          (turn (reply.DownloadError 5) m))
+          (cond (ltb (s′ .next) (length (s′ .selected)))
+          (turn reply.Nothing (inSession i (λ x. withDown (listing long (nextTen s′) 0) (withNext (s′ .next + length (nextTen s′)) x)) m′))
+          (turn (reply.DownloadError 5) m′))
+          i
+      next s s′ e =
+          rw e
+          (by (ltb (s .next) (length (s .selected))) _ _ _ _
+          (record {
+            reply = refl;
+            after = moves (λ x. withDown (listing long (nextTen s) 0) (withNext (s .next + length (nextTen s)) x))
+                (λ x. withDown (listing long (nextTen s) 0) (withNext (s .next + length (nextTen s)) x)) refl;
+          })
+          (stays (reply.DownloadError 5)))
+
+      go : (b : Bool) → eqb n 0 ≡ b
+          → AlikeTurn (directoryNumbered m i (sessionAt m i) long n) (directoryNumbered m′ i (sessionAt m′ i) long n) i
+      go true e = rw e (next (sessionAt m i) (sessionAt m′ i) (a .session))
+      go false e = rw e (one (c (eqb-false n 0 e)))
+
   either : (b : Bool) (x y x′ y′ : Stepped) → AlikeStep x x′ i → AlikeStep y y′ i → AlikeStep (cond b x y) (cond b x′ y′) i
   either true x y x′ y′ p q = p
   either false x y x′ y′ p q = q
 
-  -- THEOREM: a request, the session's download being of a complete file
+  -- the same directory
+  listed : (long : Bool) (ns : List ℕ) → AllComplete (m .files) ns → directoryOf long ns (m′ .files) ≡ directoryOf long ns (m .files)
+  listed long ns c = directory-same long (m .files) (m′ .files) (λ n k. found n (k .file) (k .found) (k .time) ∙ sym (k .found)) ns c
+
+  -- THEOREM: a request, the session's download being of a complete file, or its directory of complete files
   pub request-alike : (d : Downlink) (out : List ℕ) → ((n at : ℕ) → d ≡ sending n at → (f : File) → find n (m .files) ≡ some f → f .time ≡ 0 → ⊥)
       → ((n at : ℕ) → d ≡ sending n at → find n (m .files) ≡ none → ⊥)
+      → ((long : Bool) (ns : List ℕ) (at : ℕ) → d ≡ listing long ns at → AllComplete (m .files) ns)
       → AlikeStep (onRequest d m i out) (onRequest d m′ i out) i
-  unfolding onRequest dataDue
-  request-alike noDownload out c k = record { told = refl; after = a }
-  request-alike (sending n at) out c k = go (find n (m .files)) refl
+  unfolding onRequest dataDue listingDue
+  request-alike noDownload out c k l = record { told = refl; after = a }
+  request-alike (sending n at) out c k l = go (find n (m .files)) refl
     where
       go : (x : Option File) → find n (m .files) ≡ x → AlikeStep (dataDue (find n (m .files)) m i n at out) (dataDue (find n (m′ .files)) m′ i n at out) i
       go none e = absurd (k n at refl e)
@@ -152,5 +196,17 @@ module _ (m m′ : Model) (i : ℕ) (a : Alike m m′ i) where
             after = moves (withDown (sending n (at + length (take 256 (drop at (f .bytes)))))) (withDown (sending n (at + length (take 256 (drop at (f .bytes)))))) refl;
           })
           (record { told = refl; after = moves (withDown (ended n)) (withDown (ended n)) refl }))
-  request-alike (ended n) out c k = record { told = refl; after = a }
-  request-alike (aborting n) out c k = record { told = refl; after = moves (withDown noDownload) (withDown noDownload) refl }
+  request-alike (ended n) out c k l = record { told = refl; after = a }
+  request-alike (aborting n) out c k l = record { told = refl; after = moves (withDown noDownload) (withDown noDownload) refl }
+  request-alike (listing long ns at) out c k l = due (directoryOf long ns (m .files)) (directoryOf long ns (m′ .files)) (listed long ns (l long ns at refl))
+    where
+      due : (x x′ : List ℕ) → x′ ≡ x → AlikeStep (listingDue x m i long ns at out) (listingDue x′ m′ i long ns at out) i
+      due x x′ e =
+          rw e
+          (either (ltb at (length x)) _ _ _ _
+          (record {
+            told = refl;
+            after = moves (withDown (listing long ns (at + length (take 256 (drop at x)))))
+                (withDown (listing long ns (at + length (take 256 (drop at x))))) refl;
+          })
+          (record { told = refl; after = moves (withDown noDownload) (withDown noDownload) refl }))

@@ -7,7 +7,7 @@ use mathlib.Core.List.{[]}
 use Rattle.model.specs.State.{noUpload, receiving, Session, closedSession, empty}
 use Rattle.model.specs.Files.{reserved}
 use Rattle.steps.specs.Sound.{Sound}
-use Rattle.steps.specs.Naming.{UpOk, DownOk, Named}
+use Rattle.steps.specs.Naming.{UpOk, DownOk, AllComplete, Named}
 
 pub sound-empty : (blocks places sessions maxsel : ℕ) → Sound (empty blocks places sessions maxsel)
 unfolding reserved
@@ -26,5 +26,6 @@ named-empty blocks places sessions maxsel =
     record {
       up = λ j. subst (λ (s : Session). UpOk [] (s .up)) (sym (all-closed sessions j)) tt;
       down = λ j. subst (λ (s : Session). DownOk [] (s .down)) (sym (all-closed sessions j)) tt;
+      selected = λ j. subst (λ (s : Session). AllComplete [] (s .selected)) (sym (all-closed sessions j)) tt;
       alone = λ j k n a b. absurd (no-upload n (sym (ap (λ (s : Session). s .up) (all-closed sessions j)) ∙ a));
     }

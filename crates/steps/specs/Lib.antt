@@ -4,4 +4,3 @@ pub mod Sound
 pub mod Naming
 pub mod Cut
 pub mod Neighbour
-pub mod Downloads

@@ -5,3 +5,4 @@ pub mod Bytes
 pub mod Stores
 pub mod Counting
 pub mod Order
+pub mod Listings

@@ -154,10 +154,10 @@ pub map-back : (g : ℕ → File) (ps : List ℕ) (p : ℕ) → Of p ps → In (
 map-back g (q ∷ ps) p (List·Memᴰ·head e) = List·Memᴰ·head (ap g e)
 map-back g (q ∷ ps) p (List·Memᴰ·tail m) = List·Memᴰ·tail (map-back g ps p m)
 
-pub take-map : (g : ℕ → File) (n : ℕ) (ps : List ℕ) → take n (map g ps) ≡ map g (take n ps)
+pub take-map : {A B : Type 0} (g : A → B) (n : ℕ) (ps : List A) → take n (map g ps) ≡ map g (take n ps)
 take-map g zero ps = refl
 take-map g (suc n) [] = refl
-take-map g (suc n) (p ∷ ps) = ap (λ (fs : List File). g p ∷ fs) (take-map g n ps)
+take-map g (suc n) (p ∷ ps) = ap (λ l. g p ∷ l) (take-map g n ps)
 
 pub map-twice : (h : File → ℕ) (g : ℕ → File) (ps : List ℕ) → map h (map g ps) ≡ map (λ p. h (g p)) ps
 map-twice h g [] = refl

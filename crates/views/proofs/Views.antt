@@ -2,7 +2,7 @@
 use mathlib.Core.Path.{_≡_, refl, sym, ap, ap₂, _∙_}
 use mathlib.Core.Bool.{Bool, true, false, cond, not}
 use mathlib.Core.List.{List}
-use mathlib.Core.Option.{none, some}
+use mathlib.Core.Option.{Option, none, some}
 use Prim.Native.Nat.{ℕ, _-_, _*_, _≤_, _<_}
 use native.Mathlib.Omega.{arith}
 use borrow.Author.Tests.{eqb-false, ltb-false}
@@ -91,15 +91,15 @@ module _ (sv : Server) (l : Lent) (g : Good sv l) where
   pub link-view : (i : ℕ) → i < sv .sessions → model.sessionAt (view sv l) i ≡ sessionOf sv l i
   link-view i h = each-at (sv .sessions) (sessionOf sv l) i h
 
-pub linked-from : (F : Files) (selected held : List ℕ) (s : Session) → sessionFrom F selected held s .linked ≡ s .linked
-linked-from F selected held s = go (s .linked)
+pub linked-from : (F : Files) (N : ℕ → Option File) (selected held : List ℕ) (s : Session) → sessionFrom F N selected held s .linked ≡ s .linked
+linked-from F N selected held s = go (s .linked)
   where
-    go : (b : Bool) → cond b (openFrom F selected held s) model.closedSession .linked ≡ b
+    go : (b : Bool) → cond b (openFrom F N selected held s) model.closedSession .linked ≡ b
     go true = refl
     go false = refl
 
-pub open-from : (F : Files) (selected held : List ℕ) (s : Session) → s .linked ≡ true → sessionFrom F selected held s ≡ openFrom F selected held s
-open-from F selected held s e = ap (λ (b : Bool). cond b (openFrom F selected held s) model.closedSession) e
+pub open-from : (F : Files) (N : ℕ → Option File) (selected held : List ℕ) (s : Session) → s .linked ≡ true → sessionFrom F N selected held s ≡ openFrom F N selected held s
+open-from F N selected held s e = ap (λ (b : Bool). cond b (openFrom F N selected held s) model.closedSession) e
 
 -- ---- the check
 
@@ -131,7 +131,7 @@ module _ (sv : Server) (l : Lent) (g : Good sv l) (session : ℕ) (wanted : Bool
   there = model.sessionAt (view sv l) i .linked
 
   linked-is : i < sv .sessions → there ≡ linkOf sv i .linked
-  linked-is h = ap (λ (k : model.Session). k .linked) (link-view sv l g i h) ∙ linked-from _ _ _ (linkOf sv i)
+  linked-is h = ap (λ (k : model.Session). k .linked) (link-view sv l g i h) ∙ linked-from _ _ _ _ (linkOf sv i)
 
   refusal-is : refusal (view sv l) session wanted out
       ≡ cond (eqb session 0) 34 (cond (ltb (sv .sessions) session) 34 (cond (cond wanted there (not there)) (cond (ltb out 258) 32 0) 34))
@@ -190,7 +190,7 @@ module _ (sv : Server) (l : Lent) (g : Good sv l) (i : ℕ) (inside : i < sv .se
       → ((j : ℕ) → (j ≡ i → ⊥) → part (j * 258) 258 held ≡ part (j * 258) 258 (l .held))
       → view (withLink sv i s) (lent (l .disk) (l .map) (l .owner) (l .table) selected held)
       ≡ model.withSession (view sv l) i
-      (sessionFrom (filesOf sv l) (part (i * sv .most) (sv .most) selected) (part (i * 258) 258 held) s)
+      (sessionFrom (filesOf sv l) (numbered sv l) (part (i * sv .most) (sv .most) selected) (part (i * 258) 258 held) s)
   link-moved s selected held p q =
       ap (λ (ks : List model.Session). model.model (view sv l) (sv .last .number) (sv .last .time) (view sv l .files) ks)
       (each-set (sv .sessions) (sessionOf sv l) now i inside others ∙ ap (set (each (sv .sessions) (sessionOf sv l)) i) here)
@@ -198,35 +198,35 @@ module _ (sv : Server) (l : Lent) (g : Good sv l) (i : ℕ) (inside : i < sv .se
       now : ℕ → model.Session
       now = sessionOf (withLink sv i s) (lent (l .disk) (l .map) (l .owner) (l .table) selected held)
 
-      here : now i ≡ sessionFrom (filesOf sv l) (part (i * sv .most) (sv .most) selected) (part (i * 258) 258 held) s
+      here : now i ≡ sessionFrom (filesOf sv l) (numbered sv l) (part (i * sv .most) (sv .most) selected) (part (i * 258) 258 held) s
       here =
-          ap (sessionFrom (filesOf sv l) (part (i * sv .most) (sv .most) selected) (part (i * 258) 258 held))
+          ap (sessionFrom (filesOf sv l) (numbered sv l) (part (i * sv .most) (sv .most) selected) (part (i * 258) 258 held))
           (getD-set-same (sv .links) i s closedSession four)
 
       others : (j : ℕ) → j < sv .sessions → (j ≡ i → ⊥) → now j ≡ sessionOf sv l j
       others j h n =
-          ap (sessionFrom (filesOf sv l) (part (j * sv .most) (sv .most) selected) (part (j * 258) 258 held))
+          ap (sessionFrom (filesOf sv l) (numbered sv l) (part (j * sv .most) (sv .most) selected) (part (j * 258) 258 held))
           (getD-set-other (sv .links) i j s closedSession n)
-          ∙ ap₂ (λ (a b : List ℕ). sessionFrom (filesOf sv l) a b (linkOf sv j)) (p j n) (q j n)
+          ∙ ap₂ (λ (a b : List ℕ). sessionFrom (filesOf sv l) (numbered sv l) a b (linkOf sv j)) (p j n) (q j n)
 
   -- ---- an open session, changed
 
   module _ (linked : linkOf sv i .linked ≡ true) where
     pub open-view : model.sessionAt (view sv l) i
-        ≡ openFrom (filesOf sv l) (part (i * sv .most) (sv .most) (l .selected)) (part (i * 258) 258 (l .held)) (linkOf sv i)
+        ≡ openFrom (filesOf sv l) (numbered sv l) (part (i * sv .most) (sv .most) (l .selected)) (part (i * 258) 258 (l .held)) (linkOf sv i)
     open-view =
         link-view sv l g i inside
-        ∙ open-from (filesOf sv l) (part (i * sv .most) (sv .most) (l .selected)) (part (i * 258) 258 (l .held)) (linkOf sv i) linked
+        ∙ open-from (filesOf sv l) (numbered sv l) (part (i * sv .most) (sv .most) (l .selected)) (part (i * 258) 258 (l .held)) (linkOf sv i) linked
 
     -- its own part of what is lent is as it was
     pub state-moved : (s : Session) (h : model.Session → model.Session) → s .linked ≡ true
-        → openFrom (filesOf sv l) (part (i * sv .most) (sv .most) (l .selected)) (part (i * 258) 258 (l .held)) s
-        ≡ h (openFrom (filesOf sv l) (part (i * sv .most) (sv .most) (l .selected)) (part (i * 258) 258 (l .held)) (linkOf sv i))
+        → openFrom (filesOf sv l) (numbered sv l) (part (i * sv .most) (sv .most) (l .selected)) (part (i * 258) 258 (l .held)) s
+        ≡ h (openFrom (filesOf sv l) (numbered sv l) (part (i * sv .most) (sv .most) (l .selected)) (part (i * 258) 258 (l .held)) (linkOf sv i))
         → view (withLink sv i s) l ≡ inSession i h (view sv l)
     state-moved s h o e =
         link-moved s (l .selected) (l .held) (λ j n. refl) (λ j n. refl)
         ∙ ap (model.withSession (view sv l) i)
-        (open-from (filesOf sv l) (part (i * sv .most) (sv .most) (l .selected)) (part (i * 258) 258 (l .held)) s o ∙ e ∙ ap h (sym open-view))
+        (open-from (filesOf sv l) (numbered sv l) (part (i * sv .most) (sv .most) (l .selected)) (part (i * 258) 258 (l .held)) s o ∙ e ∙ ap h (sym open-view))
 
   pub link-stays : model.withSession (view sv l) i (model.sessionAt (view sv l) i) ≡ view sv l
   link-stays =

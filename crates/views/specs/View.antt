@@ -1,16 +1,17 @@
 -- What a state of the server stands for in the machine of crates/model. Assumes nothing.
-use mathlib.Core.Path.{_≡_}
-use mathlib.Core.Bool.{true, cond}
-use mathlib.Core.List.{List, [], _∷_, _++_}
+use mathlib.Core.Bool.{Bool, true, cond}
+use mathlib.Core.List.{List, [], _∷_, _++_, map}
 use mathlib.Core.Option.{Option, none, some}
 use Prim.Native.Nat.{ℕ, zero, suc, _+_, _*_, _-_}
-use lib.ListN.{take}
+use lib.ListN.{length, take, drop}
+use Rattle.header.specs.Entries.{runningOn}
 use Rattle.session.specs.declared.state.Session.{Session}
 use Rattle.session.specs.declared.state.Uplink.{Uplink}
 use Rattle.session.specs.declared.state.Uplink.the-variants as up
 use Rattle.session.specs.declared.state.Downlink.{Downlink}
 use Rattle.session.specs.declared.state.Downlink.the-variants as down
-use Rattle.session.specs.Reply.{told}
+use Rattle.session.specs.declared.state.Listed.{Listed}
+use Rattle.session.specs.declared.state.Listed.the-variants.{One, Selected}
 use Rattle.table.specs.declared.Found.{Found}
 use Rattle.table.specs.declared.Found.the-variants.{Nothing, At}
 use Rattle.table.specs.Table.{files, findOf}
@@ -18,12 +19,10 @@ use Rattle.files.specs.View.{View}
 use Rattle.server.specs.declared.Server.{Server}
 use Rattle.server.specs.State.{Lent, linkOf, part, tablePart}
 use Rattle.acts.specs.Change.{Files}
-use Rattle.history.specs.Good.{Good}
 use Rattle.history.specs.Stored.{filesOf}
-use Rattle.history.specs.Calls.{Call, callOf, Start, legal, History, start, _▸_, after}
 use Rattle.model.specs.State as model
-use Rattle.model.specs.State.{File, file, noUpload, receiving, ignoring, noDownload, sending, ended, aborting, Model, empty}
-use Rattle.model.specs.Step.{step}
+use Rattle.model.specs.State.{File, file, noUpload, receiving, ignoring, noDownload, sending, ended, aborting, listing, Model}
+use Rattle.model.specs.Downlink.{entryIn}
 
 -- ---- files
 
@@ -54,30 +53,42 @@ upOf F up.Idle = noUpload
 upOf F (up.Receiving place offset received) = receiving (F place .file .number)
 upOf F up.Ignoring = ignoring
 
-abbrev pub downOf : Files → Downlink → model.Downlink
-downOf F down.Idle = noDownload
-downOf F (down.Sending place offset sent) = sending (F place .file .number) (offset + sent)
-downOf F (down.Ended place) = ended (F place .file .number)
-downOf F (down.Aborting place) = aborting (F place .file .number)
+-- the numbers of the files of a directory: the one at a place, or those of the session's selection from one on up to its place in it
+abbrev pub namesOf : Files → List ℕ → ℕ → Listed → List ℕ
+namesOf F selected next (One place) = F place .file .number ∷ []
+namesOf F selected next (Selected first) = take (next - first) (drop first selected)
+
+-- how many bytes lie behind: the entries of so many files of these numbers, and so many bytes of the next one's; N has the file of a number
+abbrev pub bytesBehind : (ℕ → Option File) → Bool → List ℕ → ℕ → ℕ → ℕ
+bytesBehind N long ns files bytes = length (runningOn (map (λ n. entryIn long (N n)) (take files ns))) + bytes
+
+abbrev pub downOf : Files → (ℕ → Option File) → List ℕ → ℕ → Downlink → model.Downlink
+downOf F N selected next down.Idle = noDownload
+downOf F N selected next (down.Sending place offset sent) = sending (F place .file .number) (offset + sent)
+downOf F N selected next (down.Ended place) = ended (F place .file .number)
+downOf F N selected next (down.Aborting place) = aborting (F place .file .number)
+downOf F N selected next (down.Listing l long done sent) =
+    listing long (namesOf F selected next l) (bytesBehind N long (namesOf F selected next l) done sent)
 
 -- an open session, with its part of the selections and of the unfinished packets; of a closed one nothing counts
-abbrev pub openFrom : Files → List ℕ → List ℕ → Session → model.Session
-openFrom F selected held s =
+abbrev pub openFrom : Files → (ℕ → Option File) → List ℕ → List ℕ → Session → model.Session
+openFrom F N selected held s =
     record {
       linked = true;
       up = upOf F (s .up);
-      down = downOf F (s .down);
+      down = downOf F N selected (s .next) (s .down);
       selected = take (s .count) selected;
       next = s .next;
       held = take (s .held) held;
     }
 
-abbrev pub sessionFrom : Files → List ℕ → List ℕ → Session → model.Session
-sessionFrom F selected held s = cond (s .linked) (openFrom F selected held s) model.closedSession
+abbrev pub sessionFrom : Files → (ℕ → Option File) → List ℕ → List ℕ → Session → model.Session
+sessionFrom F N selected held s = cond (s .linked) (openFrom F N selected held s) model.closedSession
 
 -- session i, counted from 0
 abbrev pub sessionOf : Server → Lent → ℕ → model.Session
-sessionOf sv l i = sessionFrom (filesOf sv l) (part (i * sv .most) (sv .most) (l .selected)) (part (i * 258) 258 (l .held)) (linkOf sv i)
+sessionOf sv l i =
+    sessionFrom (filesOf sv l) (numbered sv l) (part (i * sv .most) (sv .most) (l .selected)) (part (i * 258) 258 (l .held)) (linkOf sv i)
 
 unfoldable pub each : ℕ → (ℕ → model.Session) → List model.Session
 each zero f = []

@@ -18,9 +18,9 @@ use Rattle.model.specs.Files.{find}
 use Rattle.model.specs.Step.{step}
 use Rattle.steps.specs.Parts.{sentBy}
 use Rattle.steps.specs.Sound.{Sound}
-use Rattle.steps.specs.Naming.{Complete, UpOk, DownOk, Named}
-use Rattle.steps.specs.Downloads.{forUplink, requestOrUplink, ownOrOther, requestsAndUplink, asksIn, asks, sentTo, dataIn, dataTo, endTo, Downloading}
-use Rattle.steps.specs.Downloads.{numberAsked, Begins}
+use Rattle.steps.specs.Naming.{Complete, AllComplete, UpOk, DownOk, Named}
+use Rattle.transfers.specs.Downloads.{forUplink, requestOrUplink, ownOrOther, requestsAndUplink, asksIn, asks, sentTo, dataIn, dataTo, endTo, Downloading}
+use Rattle.transfers.specs.Downloads.{numberAsked, Begins}
 use Rattle.promises.specs.Demand2.{Demand2}
 use Rattle.worked.proofs.Passes.{small, output, rx, nak, download, nextFile, lostOnce, picked, downloading, downloading40, sentAll, complete80}
 use Rattle.worked.proofs.Passes.{two, crowded, atOnce, serverAfter, lentAfter, machine, crowd, crowdedModel}
@@ -65,13 +65,17 @@ ignores n e = let z : _≡_ {A = ℕ} 0 1 = cc in omega arith
 -- the first session alone may upload one
 named-by : (m : Model) (s : Session) (ss : List Session) → m .sessions ≡ s ∷ ss → Each (λ x. UpOk (m .files) (x .up)) (s ∷ ss)
     → Each (λ x. DownOk (m .files) (x .down)) (s ∷ ss)
+    → Each (λ x. AllComplete (m .files) (x .selected)) (s ∷ ss)
     → Each NoFile ss
     → Named m
-named-by m s ss e u d p =
+named-by m s ss e u d l p =
     record {
       up = λ j. subst (λ (xs : List Session). UpOk (m .files) (getD xs j closedSession .up)) (sym e) (each-at (λ x. UpOk (m .files) (x .up)) (s ∷ ss) u j);
       down = λ j.
           subst (λ (xs : List Session). DownOk (m .files) (getD xs j closedSession .down)) (sym e) (each-at (λ x. DownOk (m .files) (x .down)) (s ∷ ss) d j);
+      selected = λ j.
+          subst (λ (xs : List Session). AllComplete (m .files) (getD xs j closedSession .selected)) (sym e)
+          (each-at (λ x. AllComplete (m .files) (x .selected)) (s ∷ ss) l j);
       alone = λ j k n a b. first j n (at j n a) ∙ sym (first k n (at k n b));
     }
   where
@@ -93,7 +97,7 @@ sound-downloading = record { numbers = (omega arith, omega arith, omega arith, t
 named-downloading : Named (machine downloading)
 unfolding at-work
 named-downloading =
-    named-by (machine downloading) _ [] refl (tt, tt) (record { file = file80; found = refl; time = λ e. omega (arith, e) }, tt) idle
+    named-by (machine downloading) _ [] refl (tt, tt) (record { file = file80; found = refl; time = λ e. omega (arith, e) }, tt) (tt, tt) idle
 
 sound-40 : Sound (machine downloading40)
 unfolding at-work
@@ -102,7 +106,7 @@ sound-40 = record { numbers = (omega arith, omega arith, omega arith, tt); room 
 named-40 : Named (machine downloading40)
 unfolding at-work
 named-40 =
-    named-by (machine downloading40) _ [] refl (tt, tt) (record { file = file80; found = refl; time = λ e. omega (arith, e) }, tt) idle
+    named-by (machine downloading40) _ [] refl (tt, tt) (record { file = file80; found = refl; time = λ e. omega (arith, e) }, tt) (tt, tt) idle
 
 -- ---- a whole download
 
@@ -162,7 +166,7 @@ named-crowded : Named crowdedModel
 unfolding at-work crowdedModel
 named-crowded =
     named-by crowdedModel _ _ refl (record { file = file 3 80 (take 40 smallest) 0; found = refl; time = refl }, (tt, (tt, tt)))
-    (whole, (whole, (whole, tt))) (ignores, (idle, idle))
+    (whole, (whole, (whole, tt))) (tt, (tt, (tt, tt))) (ignores, (idle, idle))
   where
     whole : Complete 1 (crowdedModel .files)
     whole = record { file = file7; found = refl; time = λ e. omega (arith, e) }

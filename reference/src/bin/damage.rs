@@ -147,11 +147,7 @@ fn write_scripts(seed: u64, count: u64, folder: &Path) -> io::Result<()> {
 /// The seed, the count and the folder that the arguments name.
 fn asked(arguments: &[String]) -> Option<(u64, u64, &Path)> {
     match arguments {
-        [seed, count, folder] => Some((
-            seed.parse().ok()?,
-            count.parse().ok()?,
-            Path::new(folder),
-        )),
+        [seed, count, folder] => Some((seed.parse().ok()?, count.parse().ok()?, Path::new(folder))),
         _ => None,
     }
 }

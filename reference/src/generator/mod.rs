@@ -16,7 +16,7 @@ use themes::{Theme, MIXED, THEMES};
 
 pub use equations::{equation, relation};
 pub use pieces::{destination, offset, stray};
-pub use plans::{plan, sound, Plan, Wishes};
+pub use plans::{plan, sound, wide, Plan, Wishes};
 
 /// A script and what its author meant.
 #[derive(Clone, Debug)]

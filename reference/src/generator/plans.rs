@@ -14,7 +14,7 @@ pub struct Plan {
 }
 
 impl Plan {
-    fn whole(bytes: Vec<u8>) -> Plan {
+    pub(super) fn whole(bytes: Vec<u8>) -> Plan {
         Plan {
             announced: bytes.len() as u32,
             bytes,
@@ -118,6 +118,36 @@ pub fn sound(random: &mut Random, body: usize) -> Draft {
         _ => random.below(body + 1),
     };
     draft.with_body(&random.bytes(length))
+}
+
+/// A sound file with a large header: items of many bytes, or a header that ends
+/// at the border of a block or near it.
+pub fn wide(random: &mut Random) -> Draft {
+    let mut draft = sound(random, 40);
+    let most = match random.below(12) {
+        0 => 14_000,
+        1..=3 => 5_000,
+        _ => 1_500,
+    };
+    let target = match random.below(3) {
+        0 => random.between(1, most / 256) * 256 + random.below(3) - 1,
+        _ => random.between(100, most),
+    };
+    loop {
+        let header = draft.bytes().len() - draft.body.len();
+        // An item's id and length take three bytes.
+        let room = match target.checked_sub(header + 3) {
+            Some(room) => room,
+            None => return draft,
+        };
+        let length = match room {
+            0..=255 => room,
+            _ => random.between(room.min(258) - 200, 252),
+        };
+        let at = random.between(11, draft.items.len());
+        let id = *random.pick(&[0x22, 0x23, 0x24, 0x30, 0x0112, DESTINATION]);
+        draft.items.insert(at, (id, random.bytes(length)));
+    }
 }
 
 /// Adds an item such that the data of upload_time, coming next, lie across the

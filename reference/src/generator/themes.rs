@@ -25,6 +25,10 @@ pub(super) struct Theme {
     /// The chance of a call on a session that refuses it.
     pub(super) odd: usize,
     pub(super) clock: usize,
+    /// The chance of a directory rather than a download.
+    pub(super) directory: usize,
+    /// The chance of a file with a large header.
+    pub(super) wide: usize,
     pub(super) wishes: Wishes,
 }
 
@@ -54,6 +58,8 @@ pub(super) const MIXED: Theme = Theme {
     lost: 4,
     odd: 2,
     clock: 8,
+    directory: 30,
+    wide: 1,
     wishes: Wishes {
         damaged: 20,
         long: 4,
@@ -61,7 +67,7 @@ pub(super) const MIXED: Theme = Theme {
     },
 };
 
-pub(super) const THEMES: [Theme; 12] = [
+pub(super) const THEMES: [Theme; 14] = [
     MIXED,
     Theme {
         name: "damaged files",
@@ -151,6 +157,7 @@ pub(super) const THEMES: [Theme; 12] = [
         sessions: 2,
         stray: 25,
         moment: 50,
+        directory: 50,
         ..MIXED
     },
     Theme {
@@ -189,6 +196,35 @@ pub(super) const THEMES: [Theme; 12] = [
             damaged: 15,
             long: 0,
             body: 30,
+        },
+        ..MIXED
+    },
+    Theme {
+        name: "directories",
+        prelude: Prelude::Files(24),
+        sessions: 2,
+        uplink: 12,
+        more: 45,
+        directory: 75,
+        wishes: Wishes {
+            damaged: 5,
+            long: 0,
+            body: 60,
+        },
+        ..MIXED
+    },
+    Theme {
+        name: "large headers",
+        prelude: Prelude::Files(6),
+        sessions: 2,
+        uplink: 25,
+        more: 40,
+        directory: 65,
+        wide: 70,
+        wishes: Wishes {
+            damaged: 0,
+            long: 0,
+            body: 40,
         },
         ..MIXED
     },

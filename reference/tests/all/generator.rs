@@ -6,7 +6,7 @@ use std::collections::{BTreeMap, BTreeSet};
 use crate::common::model::Onlooker;
 use reference::coverage::Coverage;
 use reference::equation::{is_number, Equation, Symbol};
-use reference::generator::{equation, seed_of, sound, story, uploads};
+use reference::generator::{equation, seed_of, sound, story, uploads, wide};
 use reference::header;
 use reference::random::Random;
 use reference::script::{run, run_watched, Line};
@@ -70,6 +70,22 @@ fn many_files_have_several_items_of_one_id() {
     assert!(any > 450, "{any}");
     let each = [destinations, titles, unlisted, wrong_first, wrong_later];
     assert!(each.iter().all(|&count| count > 100), "{each:?}");
+}
+
+#[test]
+fn large_headers_are_sound_and_of_many_lengths() {
+    let mut random = Random::new(15);
+    let (mut above_a_block, mut above_ten, mut at_a_border) = (0, 0, 0);
+    for _ in 0..1000 {
+        let file = wide(&mut random).bytes();
+        let header = header::check(&file, file.len() as u32).unwrap();
+        above_a_block += usize::from(header.length > 256);
+        above_ten += usize::from(header.length > 2560);
+        at_a_border += usize::from(header.length % 256 == 0);
+    }
+    assert!(above_a_block > 700, "{above_a_block}");
+    assert!(above_ten > 80, "{above_ten}");
+    assert!(at_a_border > 80, "{at_a_border}");
 }
 
 #[test]

@@ -4,7 +4,9 @@
 use std::collections::{BTreeMap, BTreeSet};
 
 use crate::common::model::Model;
-use crate::common::{above, ack, data_end, download, nak, packet, proceed, select, upload, Desk};
+use crate::common::{
+    above, ack, data_end, directory, download, nak, packet, proceed, select, upload, Desk,
+};
 use reference::draft::Draft;
 use reference::header;
 use reference::packet::{number, Frame, Packet, Type};
@@ -211,21 +213,32 @@ impl Driver {
         upload(length)
     }
 
+    fn directory_command(&mut self) -> Type {
+        *self.random.pick(&[Type::DirShortCmd, Type::DirLongCmd])
+    }
+
     fn downlink_packet(&mut self, index: usize) -> Vec<u8> {
         let session = self.desk.server.sessions[index].as_ref().unwrap();
         match session.downlink {
-            Downlink::Idle => match self.random.below(8) {
+            Downlink::Idle => match self.random.below(11) {
                 0..=2 => select(&above(self.random.below(40) as u32)),
                 3 => select(b"\x83\x22\0\x06*land*"),
                 4 => select(b"\x93\x22\0\x01m"),
                 5 => download(self.random.below(12) as u32, 0, 0),
+                6 | 7 => directory(self.directory_command(), 0),
+                8 => {
+                    let number = self.random.below(12) as u32;
+                    directory(self.directory_command(), number)
+                }
                 _ => download(0, 0, self.random.below(2) as u8),
             },
             Downlink::Ended { .. } => match self.random.below(4) {
                 0 => nak(),
                 other => ack(other as u8 - 1),
             },
-            Downlink::Sending { .. } if self.random.chance(1, 3) => nak(),
+            Downlink::Sending { .. } | Downlink::Listing { .. } if self.random.chance(1, 3) => {
+                nak()
+            }
             // Nothing is expected on the downlink; an uplink packet instead.
             _ => self.uplink_packet(index),
         }

@@ -279,8 +279,13 @@ fn a_half_packet_behind_a_download_is_still_pumped() {
 #[test]
 fn directories_and_selects_in_the_wrong_moment() {
     let directory = Packet::new(Type::DirShortCmd, &[1, 0, 0, 0]).bytes();
-    let lines = told(&[store(), rx(std::slice::from_ref(&directory))]);
-    assert_eq!(lines[2..], ["1\tDL_ERROR_RESP\t01"]);
+    let lines = told(&[store(), rx(&[directory.clone(), vec![0x00]])]);
+    assert!(lines[2].starts_with("1\tDATA\taa550100040100000002000830303030303030310300"));
+    assert_eq!(lines[3..], ["1\tDATA_END\t"]);
+    let lines = told(&[store(), rx(&[directory.clone(), nak(), nak()])]);
+    assert_eq!(lines[2..], ["1\tDATA_END\t"]);
+    let lines = told(&[store(), rx(&[directory.clone(), directory.clone()])]);
+    assert_eq!(lines[2..], ["1\tclosed"]);
     let lines = told(&[store(), rx(&[download(1, 0, 0), directory])]);
     assert_eq!(lines[2..], ["1\tclosed"]);
     let lines = told(&[store(), rx(&[download(1, 80, 0)]), rx(&[select_above(0)])]);

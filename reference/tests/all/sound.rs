@@ -4,7 +4,7 @@
 use crate::common::{data, download, nak, select, upload, Desk};
 use reference::draft::Draft;
 use reference::packet::Frame;
-use reference::server::{Downlink, Server, Session, Sizes, Uplink};
+use reference::server::{Directory, Downlink, Listed, Server, Session, Sizes, Uplink};
 use reference::store::File;
 
 /// Two complete files, of which the second is longer than a block, and the
@@ -61,9 +61,21 @@ fn sending(server: &mut Server, place: usize, sent: u32) {
     };
 }
 
+/// Session 4, whose selection is files 1 and 2, lists something.
+fn listing(server: &mut Server, listed: Listed, sent: u32) {
+    session(server, 4).downlink = Downlink::Listing {
+        directory: Directory { long: true, listed },
+        sent,
+    };
+}
+
+fn listing_selected(server: &mut Server, first: usize, end: usize) {
+    listing(server, Listed::Selected { first, end }, 0);
+}
+
 type Change = (&'static str, fn(&mut Server));
 
-const CHANGES: [Change; 39] = [
+const CHANGES: [Change; 46] = [
     ("the sizes are in the table", |s| s.sizes.maxsel = 51),
     ("there are so many blocks", |s| s.store.free.push(true)),
     ("each block has its bytes", |s| s.store.disk.push(0)),
@@ -162,6 +174,25 @@ const CHANGES: [Change; 39] = [
     ("a selected file is complete", |s| {
         session(s, 4).selection.numbers[0] = 0;
     }),
+    ("a listed file is complete", |s| {
+        listing(s, Listed::One { place: 2 }, 0);
+    }),
+    ("a listed file is complete", |s| {
+        listing(s, Listed::One { place: 6 }, 0);
+    }),
+    ("listed files are selected", |s| listing_selected(s, 0, 3)),
+    ("listed files are selected", |s| listing_selected(s, 2, 1)),
+    ("at most ten files are listed", |s| {
+        s.sizes.maxsel = 11;
+        session(s, 4).selection.numbers = vec![1; 11];
+        listing_selected(s, 0, 11);
+    }),
+    ("the bytes listed are within the entries", |s| {
+        listing(s, Listed::One { place: 1 }, 81);
+    }),
+    ("the bytes listed are within the entries", |s| {
+        listing(s, Listed::Selected { first: 0, end: 2 }, 161);
+    }),
     ("a packet begun announces at most 256", |s| {
         session(s, 4).frame = Frame::holding(&[1, 0x20]);
     }),
@@ -174,10 +205,13 @@ const CHANGES: [Change; 39] = [
 ];
 
 /// What calls keep besides: no fact of 35.
-const KEPT: [Change; 2] = [
+const KEPT: [Change; 3] = [
     ("an upload's bytes are the file's", |s| received(s, 19)),
     ("two sessions do not upload one file", |s| {
         session(s, 4).uplink = session(s, 1).uplink;
+    }),
+    ("the place is behind the listed files", |s| {
+        listing_selected(s, 0, 1);
     }),
 ];
 
@@ -205,11 +239,13 @@ fn each_broken_fact_is_found() {
 /// Nothing else is a fact of 35: D57 and D58 name what is not looked at.
 #[test]
 fn what_breaks_no_fact() {
-    let changes: [fn(&mut Server); 6] = [
+    let changes: [fn(&mut Server); 8] = [
         |s| session(s, 4).selection.numbers = vec![2, 2],
         |s| session(s, 4).selection.position = 2,
         |s| session(s, 4).frame = Frame::holding(&[255]),
         |s| sending(s, 1, 380),
+        |s| listing(s, Listed::Selected { first: 0, end: 2 }, 160),
+        |s| listing(s, Listed::One { place: 1 }, 80),
         |s| s.store.disk[0] ^= 1,
         |s| s.store.last_number = u32::MAX,
     ];

@@ -1,6 +1,6 @@
 //! The second program's state as it must stand in the memory that is lent to the proved server.
 use crate::proved::Proved;
-use reference::server::{Downlink, Server, Session, Uplink};
+use reference::server::{Directory, Downlink, Listed, Server, Session, Uplink};
 use reference::store::Store;
 
 /// The words before those of the sessions.
@@ -22,8 +22,49 @@ fn uplink(state: Uplink) -> [u64; 4] {
     }
 }
 
-fn downlink(state: Downlink) -> [u64; 4] {
-    match state {
+/// How many entries lie behind after so many bytes of all of them together, and how many bytes of the next one: an entry whose last byte is
+/// sent lies behind.
+fn progress(entries: &[Vec<u8>], sent: usize) -> (usize, usize) {
+    let mut left = sent;
+    for (behind, entry) in entries.iter().enumerate() {
+        if left == 0 || left < entry.len() {
+            return (behind, left);
+        }
+        left -= entry.len();
+    }
+    (entries.len(), 0)
+}
+
+/// The entries of a directory, each by itself.
+pub fn entries(server: &Server, session: &Session, directory: Directory) -> Vec<Vec<u8>> {
+    let places = server.listed_places(session, directory.listed).into_iter();
+    let one = |place| Directory {
+        listed: Listed::One { place },
+        ..directory
+    };
+    places
+        .map(|place| server.entries(session, one(place)))
+        .collect()
+}
+
+/// The form and what is listed, the place or the first one of the selection, the entries behind, the bytes of the next one. The files of the
+/// selection end at the session's place in it.
+fn listing(server: &Server, session: &Session, directory: Directory, sent: u32) -> [u64; 4] {
+    let (case, which) = match directory.listed {
+        Listed::One { place } => (4, place),
+        Listed::Selected { first, .. } => (6, first),
+    };
+    let (done, sent) = progress(&entries(server, session, directory), sent as usize);
+    [
+        case + u64::from(directory.long),
+        which as u64,
+        done as u64,
+        sent as u64,
+    ]
+}
+
+fn downlink(server: &Server, session: &Session) -> [u64; 4] {
+    match session.downlink {
         Downlink::Idle => [0; 4],
         Downlink::Sending {
             place,
@@ -32,15 +73,17 @@ fn downlink(state: Downlink) -> [u64; 4] {
         } => [1, place as u64, offset.into(), sent.into()],
         Downlink::Ended { place } => [2, place as u64, 0, 0],
         Downlink::Aborting { place } => [3, place as u64, 0, 0],
+        Downlink::Listing { directory, sent } => listing(server, session, directory, sent),
     }
 }
 
-fn session(session: Option<&Session>) -> [u64; SESSION] {
+/// The words of a session, counted from 0.
+pub fn session_words(server: &Server, index: usize) -> [u64; SESSION] {
     let mut words = [0; SESSION];
-    if let Some(session) = session {
+    if let Some(Some(session)) = server.sessions.get(index) {
         words[0] = 1;
         words[1..5].copy_from_slice(&uplink(session.uplink));
-        words[5..9].copy_from_slice(&downlink(session.downlink));
+        words[5..9].copy_from_slice(&downlink(server, session));
         words[9] = session.frame.held().len() as u64;
         words[10] = session.selection.numbers.len() as u64;
         words[11] = session.selection.position as u64;
@@ -56,7 +99,7 @@ fn state(server: &Server) -> Vec<u64> {
     words.push(server.store.last_number.into());
     words.push(server.store.last_time.into());
     for index in 0..4 {
-        words.extend(session(server.sessions.get(index).and_then(Option::as_ref)));
+        words.extend(session_words(server, index));
     }
     words
 }

@@ -1,7 +1,7 @@
 //! Which facts of refusal 35 are broken in the memory that is lent, by name, and which local refusal it gets before a session is looked at.
 //!
 //! Written from document 01 ("Sizes", "Packets", "Two states a session", "Refusals by number") and docs/DECISIONS.md (D31, D36, D37, D38, D40,
-//! D43, D57, D58, D59, D83); where each word stands is from docs/EMBEDDING.md and the head of crates/embed/specs/Words.antt. Not from the
+//! D43, D57, D58, D59, D83, D127); where each word stands is from docs/EMBEDDING.md and the head of crates/embed/specs/Words.antt. Not from the
 //! server's code, nor from its definitions of soundness. All facts are judged, also behind the first broken one.
 use crate::image::{HEAD, PART, SESSION};
 use crate::proved::Proved;
@@ -41,6 +41,9 @@ pub enum Fact {
     SendingBytes,
     EndedFile,
     AbortingFile,
+    ListedFile,
+    ListedDone,
+    ListedBytes,
     Count,
     Next,
     Selected,
@@ -114,6 +117,18 @@ const TABLE: [(Fact, &str, &[&str]); FACTS] = [
     (
         Fact::AbortingFile,
         "a file being aborted is complete",
+        SESSIONS,
+    ),
+    // D127
+    (Fact::ListedFile, "a listed file is complete", SESSIONS),
+    (
+        Fact::ListedDone,
+        "a directory is at one of its files, or at its end",
+        SESSIONS,
+    ),
+    (
+        Fact::ListedBytes,
+        "the bytes listed are within the file",
         SESSIONS,
     ),
     (Fact::Count, "at most MAXSEL files are selected", SESSIONS),
@@ -268,6 +283,9 @@ fn words(state: &[u64], broken: &mut Broken) {
             }
             // ended, or aborting: place
             2 | 3 => broken.unless(words[7..9] == [0, 0], Fact::DownlinkUnused, index),
+            // a directory, short or long, of one file: place, files behind, bytes of the next one's entry; or of the selection: its first one, and
+            // the same
+            4..=7 => {}
             _ => broken.unless(false, Fact::DownlinkCase, index),
         }
     }
@@ -432,6 +450,11 @@ fn sessions(lent: &Proved, sizes: Sizes, files: &Files, broken: &mut Broken) {
         downlink(&words[5..9], files, index, broken);
         packet(words[9], &lent.held[PART * index..][..PART], index, broken);
         let selected = &lent.selected[sizes.maxsel * index..][..sizes.maxsel];
+        match words[5] {
+            4 | 5 => directory_of_one(&words[6..9], files, index, broken),
+            6 | 7 => directory_of_selected(&words[6..9], words[11], selected, files, index, broken),
+            _ => {}
+        }
         selection(words[10], words[11], selected, files, index, broken);
     }
 }
@@ -463,6 +486,42 @@ fn downlink(words: &[u64], files: &Files, index: usize, broken: &mut Broken) {
     }
 }
 
+/// A directory is at its first file, or at its end: no file is left to have bytes then.
+fn directory_of_one(words: &[u64], files: &Files, index: usize, broken: &mut Broken) {
+    let complete = files.named(words[0]).filter(|file| file.is_complete());
+    broken.unless(complete.is_some(), Fact::ListedFile, index);
+    broken.unless(words[1] <= 1, Fact::ListedDone, index);
+    match (words[1], complete) {
+        (0, Some(file)) => broken.unless(words[2] <= file.length.into(), Fact::ListedBytes, index),
+        (1, _) => broken.unless(words[2] == 0, Fact::ListedBytes, index),
+        _ => {}
+    }
+}
+
+/// The files are those of the selection from the first one named up to the session's place in it, or none where that place is before it.
+fn directory_of_selected(
+    words: &[u64],
+    next: u64,
+    selected: &[u32],
+    files: &Files,
+    index: usize,
+    broken: &mut Broken,
+) {
+    let count = next.min(selected.len() as u64).saturating_sub(words[0]);
+    broken.unless(words[1] <= count, Fact::ListedDone, index);
+    if words[1] == count {
+        return broken.unless(words[2] == 0, Fact::ListedBytes, index);
+    }
+    if words[1] < count {
+        let number = selected[(words[0] + words[1]) as usize];
+        let mut named = files.records.iter().filter(|file| file.number == number);
+        // a selected number that no file has is a fact of its own
+        if let (false, Some(file)) = (number == 0, named.next()) {
+            broken.unless(words[2] <= file.length.into(), Fact::ListedBytes, index);
+        }
+    }
+}
+
 /// "An announced length above 256 closes the link at its second byte", and a packet at its end is not unfinished.
 fn packet(held: u64, part: &[u8], index: usize, broken: &mut Broken) {
     if held < 2 {
@@ -491,7 +550,51 @@ fn selection(
 
 // ---- what calls keep
 
-/// What holds of the sessions in every state that calls made and is no fact of 35 (D58, D59): the first that is broken in memory with no
+/// "A maximum of 10 file headers will be transmitted for each DIR command."
+pub const LISTED: u64 = 10;
+
+/// The length of the header of the file at a place, as its body_offset says, which stands at bytes 68 and 69 of each complete file.
+fn header_length(lent: &Proved, place: u64) -> Option<u64> {
+    let owner = u16::try_from(place).ok()?.checked_add(1)?;
+    let block = lent.owner.iter().position(|other| *other == owner)?;
+    let offset = lent.disk.get(256 * block + 68..256 * block + 70)?;
+    Some(u64::from(offset[0]) + 256 * u64::from(offset[1]))
+}
+
+/// What calls keep of a directory: it has one to ten files, and is within the entry of the next one.
+fn directory_kept(
+    lent: &Proved,
+    files: &Files,
+    words: &[u64],
+    selected: &[u32],
+) -> Result<(), &'static str> {
+    let (which, done, sent) = (words[6], words[7], words[8]);
+    let mut place = Some(which);
+    let mut count = 1;
+    if 6 <= words[5] {
+        count = words[11].saturating_sub(which);
+        let number = usize::try_from(which.saturating_add(done)).ok();
+        let number = number.and_then(|at| selected.get(at)).copied().unwrap_or(0);
+        let named = files.records.iter().position(|file| file.number == number);
+        place = named.map(|place| place as u64);
+    }
+    if count == 0 {
+        return Err("a directory has a file");
+    }
+    if LISTED < count {
+        return Err("a directory has at most ten files");
+    }
+    let entry = match words[5] % 2 {
+        0 => Some(80),
+        _ => place.and_then(|place| header_length(lent, place)),
+    };
+    match done == count || entry.map_or(false, |length| sent < length) {
+        true => Ok(()),
+        false => Err("a directory is within an entry"),
+    }
+}
+
+/// What holds of the sessions in every state that calls made and is no fact of 35 (D58, D59, D127): the first that is broken in memory with no
 /// broken fact.
 pub fn kept(lent: &Proved) -> Result<(), &'static str> {
     let sizes = Sizes::of(lent).ok_or("the sizes are in the table")?;
@@ -501,6 +604,10 @@ pub fn kept(lent: &Proved) -> Result<(), &'static str> {
         let words = session_words(&lent.state, index);
         if words[0] == 1 && sizes.sessions <= index {
             return Err("a session beyond the last is closed");
+        }
+        if words[0] == 1 && 4 <= words[5] {
+            let selected = &lent.selected[sizes.maxsel * index..][..sizes.maxsel];
+            directory_kept(lent, &files, words, selected)?;
         }
         if words[0] != 1 || words[1] != 1 {
             continue;

@@ -32,6 +32,15 @@ pub fn download(number: u32, offset: u32, destination: u8) -> Vec<u8> {
     packet(Type::DownloadCmd, &information)
 }
 
+/// DIR_LONG_CMD or DIR_SHORT_CMD; number 0 is for the next files of the selection.
+pub fn directory(long: bool, number: u32) -> Vec<u8> {
+    let kind = match long {
+        true => Type::DirLongCmd,
+        false => Type::DirShortCmd,
+    };
+    packet(kind, &number.to_le_bytes())
+}
+
 pub fn ack(destination: u8) -> Vec<u8> {
     packet(Type::DlAckCmd, &[destination])
 }

@@ -1,13 +1,14 @@
-//! Clients that ask for new files page by page, while files are uploaded between the pages, links are lost and the clock runs as it likes.
+//! Clients that ask for new files page by page, while files are uploaded between the pages, links are lost and the clock runs as it likes. They
+//! learn the files of a page and their upload times from downloads, or from directories as document 003's loop does.
 use crate::call::{Act, Call};
-use crate::packets::{ack, data, data_end, download, select, upload};
+use crate::packets::{ack, data, data_end, directory, download, select, upload};
 use crate::pair::{Pair, Start};
 use crate::proved::Answer;
 use reference::draft::Draft;
 use reference::header;
 use reference::packet::{number, Type};
 use reference::random::Random;
-use reference::server::{Sizes, OUTPUT};
+use reference::server::{Sizes, ENTRIES, OUTPUT};
 
 /// The kinds of file that equations ask for, as file_type.
 const KINDS: u8 = 3;
@@ -82,7 +83,10 @@ impl World {
         }
         let kind = self.random.below(KINDS.into()) as u8;
         let length = self.random.below(30);
-        let mut draft = Draft::new().with_body(&self.random.bytes(length));
+        let title = self.random.below(60);
+        let mut draft = Draft::new()
+            .with_item(0x22, &self.random.bytes(title))
+            .with_body(&self.random.bytes(length));
         draft.set(header::FILE_TYPE, &[kind]);
         let bytes = draft.bytes();
         let command = upload(0, bytes.len() as u32);
@@ -127,6 +131,33 @@ struct Given {
     time: u32,
 }
 
+impl Given {
+    /// What a header says.
+    fn of(header: &[u8]) -> Given {
+        let item = |id| number(header::first(header, id).expect("a mandatory item"));
+        Given {
+            number: item(header::FILE_NUMBER),
+            kind: item(header::FILE_TYPE) as u8,
+            time: item(header::UPLOAD_TIME),
+        }
+    }
+}
+
+/// The headers that run on one behind the other.
+fn headers(mut bytes: &[u8]) -> Vec<&[u8]> {
+    let mut headers = Vec::new();
+    while !bytes.is_empty() {
+        let end = match header::items(bytes).last() {
+            Some(last) => last.at + last.length + 3,
+            None => panic!("{bytes:02x?} is no header"),
+        };
+        assert_eq!(bytes[end - 3..end], [0; 3]);
+        headers.push(&bytes[..end]);
+        bytes = &bytes[end..];
+    }
+    headers
+}
+
 /// What a client wants: all kinds of file, or one.
 #[derive(Clone, Copy, Debug)]
 enum Wanted {
@@ -150,9 +181,20 @@ impl Wanted {
     }
 }
 
+/// How a client reads the files of a page.
+#[derive(Clone, Copy, Debug)]
+enum Way {
+    Downloads,
+    Short,
+    Long,
+    /// Any of these, file by file.
+    Mixed,
+}
+
 struct Client {
     session: usize,
     wanted: Wanted,
+    way: Way,
     given: Vec<Given>,
     /// How many files of the page are still to be read, and whether it is the last page.
     left: usize,
@@ -165,10 +207,11 @@ struct Client {
 }
 
 impl Client {
-    fn new(session: usize, wanted: Wanted) -> Client {
+    fn new(session: usize, wanted: Wanted, way: Way) -> Client {
         Client {
             session,
             wanted,
+            way,
             given: Vec::new(),
             left: 0,
             last: false,
@@ -182,10 +225,18 @@ impl Client {
         self.last && self.left == 0
     }
 
-    /// Asks for a page, now and then on a new link, or reads its next file.
+    /// Asks for a page, now and then on a new link, or reads its next file or files.
     fn step(&mut self, world: &mut World) {
         if self.left != 0 {
-            return self.read(world);
+            let way = match self.way {
+                Way::Mixed => *world.random.pick(&[Way::Downloads, Way::Short, Way::Long]),
+                way => way,
+            };
+            return match way {
+                Way::Short => self.list(world, false),
+                Way::Long => self.list(world, true),
+                _ => self.read(world),
+            };
         }
         if world.random.chance(1, 4) {
             world.relink(self.session);
@@ -219,13 +270,29 @@ impl Client {
         let file = world.sent(self.session, Act::Request, Type::Data);
         world.sent(self.session, Act::Request, Type::DataEnd);
         world.sent(self.session, Act::Receive(ack(0)), Type::DlCompletedResp);
-        let item = |id| number(header::first(&file, id).expect("a mandatory item"));
-        self.given.push(Given {
-            number: item(header::FILE_NUMBER),
-            kind: item(header::FILE_TYPE) as u8,
-            time: item(header::UPLOAD_TIME),
-        });
+        self.given.push(Given::of(&file));
         self.left -= 1;
+    }
+
+    /// Asks for the directory of the next selected files, ten of them or as many as are left, and learns the same from it.
+    fn list(&mut self, world: &mut World, long: bool) {
+        let quiet = world.call(self.session, Act::Receive(directory(long, 0)));
+        assert!(matches!(quiet, Answer::Quiet(_)), "{quiet:?}");
+        let mut sent = Vec::new();
+        loop {
+            match world.call(self.session, Act::Request) {
+                Answer::Sent(0, packet) if packet[1] % 32 == Type::Data.number() => {
+                    sent.extend(&packet[2..])
+                }
+                Answer::Sent(0, packet) if packet == [0, 1] => break,
+                answer => panic!("{answer:?}"),
+            }
+        }
+        let headers = headers(&sent);
+        assert_eq!(headers.len(), self.left.min(ENTRIES));
+        assert!(long || headers.iter().all(|header| header.len() == 80));
+        self.given.extend(headers.into_iter().map(Given::of));
+        self.left -= self.left.min(ENTRIES);
     }
 
     /// "has been given every matching file complete by then once, oldest first"
@@ -269,10 +336,15 @@ pub fn run(maxsel: usize, files: usize, first: usize, random: Random) -> Read {
         let session = world.random.between(1, 4);
         world.upload(session);
     }
-    let wanted = [Wanted::All, Wanted::All, Wanted::Kind(0), Wanted::Kind(2)];
+    let wanted = [
+        (Wanted::All, Way::Downloads),
+        (Wanted::All, Way::Mixed),
+        (Wanted::Kind(0), Way::Short),
+        (Wanted::Kind(2), Way::Long),
+    ];
     let mut clients: Vec<Client> = (1..)
         .zip(wanted)
-        .map(|(session, wanted)| Client::new(session, wanted))
+        .map(|(session, (wanted, way))| Client::new(session, wanted, way))
         .collect();
     while clients.iter().any(|client| !client.done()) {
         let at = world.random.below(4);

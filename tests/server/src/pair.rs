@@ -1,6 +1,6 @@
 //! The proved server and the second program side by side. Each call is made on both; then answers, outputs and states are compared.
 use crate::call::{Act, Call};
-use crate::coverage::Coverage;
+use crate::coverage::{session, Coverage};
 use crate::image::{same_bytes, same_words};
 use crate::oracle::{judge, kept};
 use crate::proved::{empty, memory, Answer, Proved};
@@ -72,9 +72,12 @@ impl Pair {
         self.proved.out.resize(call.room, fill);
         self.proved.counts = vec![71, 72, 73];
         self.remember();
+        let before = session(&self.second, call).map(|session| session.downlink);
         let got = on_proved(&mut self.proved, call);
         let want = on_second(&mut self.second, call, &mut output);
         self.coverage.count(&got);
+        self.coverage
+            .count_directory(before, call, &got, &self.second);
         if got != want {
             return Err(format!("proved {got:02x?}, second {want:02x?}"));
         }

@@ -1,12 +1,12 @@
 //! States for the sweep: those of random histories with the most different cases in them, and some in which all four sessions are in one case.
 use crate::call::{Act, Call};
 use crate::history::{run_from, shortened, Failure};
-use crate::packets::{data, download, nak, select, upload, whole_upload};
+use crate::packets::{data, directory, download, nak, select, upload, whole_upload};
 use crate::pair::{Pair, Start};
 use crate::proved::{Answer, Proved};
 use reference::draft::Draft;
 use reference::random::Random;
-use reference::server::{Downlink, Server, Sizes, Uplink, OUTPUT};
+use reference::server::{Downlink, Listed, Server, Sizes, Uplink, OUTPUT};
 
 /// How many different cases a state has.
 fn cases(server: &Server) -> u32 {
@@ -22,6 +22,13 @@ fn cases(server: &Server) -> u32 {
         note(6, matches!(session.downlink, Downlink::Aborting { .. }));
         note(7, 2 <= session.frame.held().len());
         note(8, session.selection.numbers.len() == server.sizes.maxsel);
+        if let Downlink::Listing { directory, sent } = session.downlink {
+            let one = matches!(directory.listed, Listed::One { .. });
+            let form = u32::from(directory.long);
+            note(15 + form, one);
+            note(17 + form, !one);
+            note(19, 0 < sent);
+        }
     }
     note(9, server.sessions.iter().any(Option::is_none));
     note(10, server.store.free.contains(&true));
@@ -144,6 +151,15 @@ impl Class {
         });
     }
 
+    /// Short and long directories in turn: of the file with the session's number, or of the selection.
+    fn list(&mut self, selected: bool) {
+        self.each(|class, session| {
+            class.send(session, select(&[0x83, 2, 0, 1, b'*']));
+            let number = if selected { 0 } else { session as u32 };
+            class.send(session, directory(session % 2 == 0, number));
+        });
+    }
+
     /// Begins a packet: all but the first session have its head.
     fn begin_packet(mut self) -> Proved {
         self.each(|class, session| class.send(session, data(&[5; 256])[..session].to_vec()));
@@ -192,16 +208,63 @@ fn downloads_aborted() -> Proved {
     class.begin_packet()
 }
 
-pub fn of_one_case() -> [Proved; 4] {
+/// Four complete files whose headers have 340 bytes, and a selection of all of them.
+fn with_long_headers() -> Class {
+    let mut class = Class {
+        pair: Pair::new(start((16, 8, 4, 4), 0)),
+    };
+    class.each(|class, session| class.call(session, Act::Open));
+    let file = Draft::new()
+        .with_item(0x22, &[b't'; 254])
+        .with_body(&[7; 20])
+        .bytes();
+    class.each(|class, session| {
+        for packet in whole_upload(&file) {
+            class.send(session, packet);
+        }
+    });
+    class
+}
+
+/// Directories of one file: just begun, or with all bytes of a short one or 256 of a long one sent.
+fn directories_of_one() -> Proved {
+    let mut class = with_long_headers();
+    class.list(false);
+    class.call(2, Act::Request);
+    class.call(3, Act::Request);
+    class.begin_packet()
+}
+
+/// Directories of the selection, up to their last byte.
+fn directories_of_the_selection() -> Proved {
+    let mut class = with_long_headers();
+    class.list(true);
+    for (session, requests) in [(2, 3), (3, 1), (4, 6)] {
+        (0..requests).for_each(|_| class.call(session, Act::Request));
+    }
+    class.begin_packet()
+}
+
+pub fn of_one_case() -> [Proved; 6] {
     [
         uploads_begun(),
         uploads_whole(),
         uploads_ignored(),
         downloads_aborted(),
+        directories_of_one(),
+        directories_of_the_selection(),
     ]
 }
 
-/// Nearly all blocks and places of the largest store are taken; each session is in another case, with a full selection.
+/// So many complete files, all of them selected on each of four sessions; the downlinks are idle.
+pub fn all_selected(files: usize) -> Pair {
+    let mut class = Class::with_files(start((2 * files, files, 4, files), 0), files, &[8; 300]);
+    class.each(|class, session| class.send(session, select(&[0x83, 2, 0, 1, b'*'])));
+    class.pair
+}
+
+/// Nearly all blocks and places of the largest store are taken; each session is in another case, with a full selection: one with ten of its files in a
+/// directory.
 pub fn largest() -> Proved {
     let mut class = Class::with_files(start((4096, 256, 4, 50), 0), 252, &[6; 4000]);
     for (session, sent) in [(1, 200), (2, 0), (3, 256)] {
@@ -212,5 +275,10 @@ pub fn largest() -> Proved {
     class.call(1, Act::Request);
     (0..17).for_each(|_| class.call(2, Act::Request));
     class.send(3, nak());
+    // DATA_END and DL_ABORTED_RESP, and the downlink is idle
+    class.send(4, nak());
+    class.call(4, Act::Request);
+    class.send(4, directory(false, 0));
+    (0..2).for_each(|_| class.call(4, Act::Request));
     class.begin_packet()
 }

@@ -116,6 +116,9 @@ fn a_state_with_a_broken_fact_is_35() {
         }
     }
     for ((name, _), count) in FACTS.iter().zip(tried) {
+        println!("{count:>6}  {name}");
+    }
+    for ((name, _), count) in FACTS.iter().zip(tried) {
         assert!(20 <= count, "{name}: broken in {count} states only");
     }
 }

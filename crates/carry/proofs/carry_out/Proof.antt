@@ -102,6 +102,12 @@ enum-known-what-10 c = search needs
 downlink-only-requires-2 : tie.Need-downlink-only-requires-2
 downlink-only-requires-2 c κs = search needs
 
+enum-known-what-11 : tie.Need-enum-known-what-11
+enum-known-what-11 c = search needs
+
+list-requires : tie.Need-list-requires
+list-requires c κs = search needs
+
 same-length : tie.Need-same-length
 same-length c = c .before .selected .given
 
@@ -230,6 +236,10 @@ returns-14 : tie.Need-returns-14
 unfolding carryOut
 returns-14 c = rw (c .before .before .what10 .given .1, c .downlink-only2 .ensures)
 
+returns-15 : tie.Need-returns-15
+unfolding carryOut
+returns-15 c = rw (c .before .before .what11 .given .1, c .list .ensures)
+
 pub carry-out-spec : {M : Type 1} → statement M
 carry-out-spec =
     tie.close
@@ -262,6 +272,8 @@ carry-out-spec =
     downlink-only-requires
     enum-known-what-10
     downlink-only-requires-2
+    enum-known-what-11
+    list-requires
     same-length
     returns
     returns-2
@@ -299,4 +311,5 @@ carry-out-spec =
     same-length-24
     returns-12
     returns-13
-    returns-14)
+    returns-14
+    returns-15)

@@ -4,6 +4,12 @@ use Rattle.links.specs.Sound.{downlinkSound}
 use borrow.Author.Needs.{needs}
 use Rattle.links.proofs.downlink_sound.Statement.{statement}
 use Rattle.links.proofs.downlink_sound.Tie as tie
+use Rattle.links.proofs.downlink_sound.Reads as reads
+use Rattle.links.proofs.downlink_sound.Lts as lts
+use Rattle.links.proofs.complete_at.Reads as complete-at-reads
+use Rattle.links.proofs.directory_sound.Reads as directory-sound-reads
+use Rattle.table.proofs.get.Reads as get-reads
+use Rattle.table.proofs.upload_time_of.Reads as upload-time-of-reads
 
 enum-told : tie.Need-enum-told
 enum-told c = search needs
@@ -45,6 +51,12 @@ enum-known-down-3 c = search needs
 complete-at-requires-2 : tie.Need-complete-at-requires-2
 complete-at-requires-2 c κs = search needs
 
+enum-known-down-4 : tie.Need-enum-known-down-4
+enum-known-down-4 c = search needs
+
+directory-sound-requires : tie.Need-directory-sound-requires
+directory-sound-requires c κs = search needs
+
 returns-2 : tie.Need-returns-2
 unfolding downlinkSound
 returns-2 c = rw (c .enum-told .given .1)
@@ -60,6 +72,10 @@ returns-4 c = rw (c .before .before .down2 .given .1) (c .complete-at .ensures)
 returns-5 : tie.Need-returns-5
 unfolding downlinkSound
 returns-5 c = rw (c .before .before .down3 .given .1) (c .complete-at2 .ensures)
+
+returns-6 : tie.Need-returns-6
+unfolding downlinkSound
+returns-6 c = rw (c .before .before .down4 .given .1) (c .directory-sound .ensures)
 
 pub downlink-sound-spec : {M : Type 1} → statement M
 downlink-sound-spec =
@@ -78,7 +94,10 @@ downlink-sound-spec =
     complete-at-requires
     enum-known-down-3
     complete-at-requires-2
+    enum-known-down-4
+    directory-sound-requires
     returns-2
     returns-3
     returns-4
-    returns-5)
+    returns-5
+    returns-6)

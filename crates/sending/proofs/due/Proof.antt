@@ -1,4 +1,4 @@
-use native.Mathlib.Omega.{arith}
+-- `sending::due` meets its contract. Assumes nothing.
 use borrow.Author.Tests.{lt-ltb, le-ltb}
 use Rattle.sending.specs.Sending.{dueIn}
 use borrow.Author.Needs.{needs}

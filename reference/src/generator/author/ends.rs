@@ -5,6 +5,7 @@ use crate::generator::plans;
 use crate::generator::themes::Prelude;
 use crate::packet::Type;
 use crate::script::{Line, LINE_MOST};
+use crate::store::blocks_needed;
 
 impl Author {
     pub(in crate::generator) fn begin(&mut self) {
@@ -39,9 +40,16 @@ impl Author {
         }
     }
 
-    /// Uploads a sound file on session 1 in one line.
+    /// Uploads a sound file on session 1 in one line, where there is room.
     fn store_file(&mut self) {
-        let file = plans::sound(&mut self.random, self.theme.wishes.body).bytes();
+        let file = if self.chance(self.theme.wide) {
+            plans::wide(&mut self.random).bytes()
+        } else {
+            plans::sound(&mut self.random, self.theme.wishes.body).bytes()
+        };
+        if blocks_needed(file.len() as u32) > self.driver.server.store.free_blocks() {
+            return;
+        }
         let mut bytes = packet(Type::UploadCmd, &two_numbers(0, file.len() as u32));
         for piece in file.chunks(256) {
             bytes.extend(packet(Type::Data, piece));

@@ -245,13 +245,17 @@ impl Author {
         let mut files = server.store.places.iter().flatten();
         let complete = files.find(|file| file.is_complete());
         if let (Some(file), Downlink::Idle) = (complete, session.downlink) {
-            let mut information = two_numbers(file.number, 0);
-            information.push(0);
-            let download = [
-                packet(Type::DownloadCmd, &information),
-                packet(Type::DlNakCmd, &[]),
-            ];
-            bytes.extend(download[..self.random.below(3)].concat());
+            let number = file.number;
+            let command = if self.random.chance(1, 3) {
+                let kind = *self.random.pick(&[Type::DirShortCmd, Type::DirLongCmd]);
+                packet(kind, &number.to_le_bytes())
+            } else {
+                let mut information = two_numbers(number, 0);
+                information.push(0);
+                packet(Type::DownloadCmd, &information)
+            };
+            let asked = [command, packet(Type::DlNakCmd, &[])];
+            bytes.extend(asked[..self.random.below(3)].concat());
         }
         if self.random.chance(2, 3) {
             bytes.extend(stray(&mut self.random));

@@ -1,7 +1,7 @@
 //! The packets of a client that uploads.
 
 use super::{packet, two_numbers, Author};
-use crate::generator::plans;
+use crate::generator::plans::{self, Plan};
 use crate::packet::Type;
 use crate::server::{Server, Uplink};
 
@@ -38,7 +38,11 @@ impl Author {
         if !live.is_empty() && self.random.chance(1, 3) {
             return self.continuation(&live);
         }
-        let plan = plans::plan(&mut self.random, self.theme.wishes);
+        let plan = if self.chance(self.theme.wide) {
+            Plan::whole(plans::wide(&mut self.random).bytes())
+        } else {
+            plans::plan(&mut self.random, self.theme.wishes)
+        };
         let announced = plan.announced;
         self.meant[index] = Some(plan);
         packet(Type::UploadCmd, &two_numbers(0, announced))

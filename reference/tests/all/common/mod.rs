@@ -52,6 +52,11 @@ pub fn download(number: u32, offset: u32, lock_destination: u8) -> Vec<u8> {
     packet(Type::DownloadCmd, &information)
 }
 
+/// DIR_SHORT_CMD or DIR_LONG_CMD.
+pub fn directory(kind: Type, number: u32) -> Vec<u8> {
+    packet(kind, &number.to_le_bytes())
+}
+
 pub fn select(equation: &[u8]) -> Vec<u8> {
     packet(Type::SelectCmd, equation)
 }

@@ -1,10 +1,7 @@
 //! The table of expected packets: which packet closes the link in which state.
 
 use super::{f80, go, in_states, Down, Up, ACKNOWLEDGED, NOTHING};
-use crate::common::{
-    data, data_end, download, hex, nak, packet, proceed, select_above, upload, Desk,
-};
-use reference::packet::Type;
+use crate::common::{data, data_end, download, hex, nak, proceed, select_above, upload, Desk};
 use reference::server::{Answer, Uplink};
 
 /// Whether the paper expects a packet of that type and length.
@@ -23,7 +20,13 @@ fn expected(up: Up, down: Down, kind: u8, length: usize) -> bool {
 #[test]
 fn every_type_in_every_state_closes_or_not() {
     for up in [Up::Idle, Up::Receiving, Up::Ignoring] {
-        for down in [Down::Idle, Down::Sending, Down::Ended, Down::Aborting] {
+        for down in [
+            Down::Idle,
+            Down::Sending,
+            Down::Ended,
+            Down::Aborting,
+            Down::Listing,
+        ] {
             let desk = in_states(up, down);
             for kind in 0..32 {
                 for length in [0, 1, 2, 4, 7, 8, 9, 10, 80, 255, 256] {
@@ -130,17 +133,4 @@ fn a_closing_forgets_the_session_alone() {
     assert_eq!(desk.server.sessions[1], other);
     desk.open(1);
     assert_eq!(desk.hear(1, &download(0, 0, 0)), ["DL_ERROR_RESP 05"]);
-}
-
-#[test]
-fn directories_are_refused_on_an_idle_downlink() {
-    for kind in [Type::DirShortCmd, Type::DirLongCmd] {
-        for length in [0, 1, 4, 9, 256] {
-            let mut desk = Desk::opened();
-            let before = desk.server.clone();
-            let told = desk.rx(1, &packet(kind, &vec![1; length]));
-            assert_eq!(told, ["DL_ERROR_RESP 01"]);
-            assert_eq!(desk.server, before);
-        }
-    }
 }

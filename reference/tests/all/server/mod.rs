@@ -3,13 +3,15 @@
 mod bytes;
 mod calls;
 mod completion;
+mod directories;
 mod downloads;
 mod expected;
 mod selections;
 mod uploads;
 
-use crate::common::{data, download, nak, to_hex, upload, Desk};
+use crate::common::{data, directory, download, nak, to_hex, upload, Desk};
 use reference::draft::Draft;
+use reference::packet::Type;
 
 pub fn f80() -> Vec<u8> {
     Draft::new().bytes()
@@ -49,6 +51,7 @@ pub enum Down {
     Sending,
     Ended,
     Aborting,
+    Listing,
 }
 
 /// A server whose session 1 is in these states, with file 1 complete.
@@ -65,11 +68,13 @@ pub fn in_states(up: Up, down: Down) -> Desk {
             assert_eq!(desk.hear(1, &data(&[1])), ["UL_NAK_RESP 10"]);
         }
     }
-    if down != Down::Idle {
+    if down == Down::Listing {
+        assert_eq!(desk.hear(1, &directory(Type::DirLongCmd, 1)), NOTHING);
+    } else if down != Down::Idle {
         assert_eq!(desk.hear(1, &download(1, 0, 0)), NOTHING);
     }
     match down {
-        Down::Idle | Down::Sending => {}
+        Down::Idle | Down::Sending | Down::Listing => {}
         Down::Ended => assert_eq!(desk.pump(1).len(), 2),
         Down::Aborting => assert_eq!(desk.hear(1, &nak()), [END]),
     }

@@ -1,5 +1,5 @@
 //! Random calls. The author looks at the second program's state, so that most calls mean something to the server: uploads in pieces that
-//! complete, continuations, selections, downloads with their words; and among them damage of every kind.
+//! complete, continuations, selections, downloads with their words, directories; and among them damage of every kind.
 mod downlink;
 mod uplink;
 
@@ -127,7 +127,8 @@ impl Author {
     fn act(&mut self, server: &Server, session: &Session, index: usize) -> Act {
         let due = match session.downlink {
             Downlink::Sending { .. } => 60,
-            Downlink::Aborting { .. } => 12,
+            Downlink::Listing { .. } => 30,
+            Downlink::Aborting { .. } => 6,
             Downlink::Idle | Downlink::Ended { .. } => 2,
         };
         if self.chance(due) {

@@ -1,5 +1,5 @@
 //! The facts on the sessions, and on the words that stand for them.
-use super::{each, Change, Link, State, Word};
+use super::{each, Change, Link, Record, State, Word};
 use crate::image::{HEAD, PART, SESSION};
 
 // ---- uploads
@@ -130,6 +130,136 @@ pub(super) fn download_wrapped(s: &State) -> Vec<Change> {
     s.downlinks(1).iter().map(wrapped).collect()
 }
 
+// ---- directories
+
+/// The open sessions with a directory of this case of one file, or of the selection, in either form.
+fn directories(s: &State, case: u64) -> Vec<Link> {
+    let mut links = s.downlinks(case);
+    links.extend(s.downlinks(case + 1));
+    links
+}
+
+/// How many files a directory has.
+fn files_listed(s: &State, link: &Link) -> u64 {
+    match s.word(link.at + 5) {
+        4 | 5 => 1,
+        _ => s.word(link.at + 11) - s.word(link.at + 6),
+    }
+}
+
+/// The file that a directory has come to, if it is not at its end.
+fn listed_file(s: &State, link: &Link) -> Option<Record> {
+    let (which, done) = (s.word(link.at + 6), s.word(link.at + 7));
+    if done == files_listed(s, link) {
+        return None;
+    }
+    if s.word(link.at + 5) < 6 {
+        return Some(s.record(which));
+    }
+    let number = s.lent.selected[link.index * s.most + (which + done) as usize];
+    s.with(|file| file.number == number).pop()
+}
+
+pub(super) fn listed_of_none(s: &State) -> Vec<Change> {
+    let mut changes = not_complete(s, 4);
+    changes.extend(not_complete(s, 5));
+    changes
+}
+
+/// One file more than it has lies behind, and no byte of the next one.
+pub(super) fn listed_beyond(s: &State) -> Vec<Change> {
+    let mut changes = Vec::new();
+    for link in [directories(s, 4), directories(s, 6)].concat() {
+        for done in [files_listed(s, &link) + 1, 1 << 32, u64::MAX] {
+            changes.push(vec![
+                Word::state(link.at + 7, done),
+                Word::state(link.at + 8, 0),
+            ]);
+        }
+    }
+    changes
+}
+
+/// The first file is so far behind the session's place that a difference of 64 bits would count files.
+pub(super) fn listed_wrapped(s: &State) -> Vec<Change> {
+    let wrapped = |link: &Link| {
+        vec![
+            Word::state(link.at + 6, u64::MAX),
+            Word::state(link.at + 7, 1),
+            Word::state(link.at + 8, 0),
+        ]
+    };
+    directories(s, 6).iter().map(wrapped).collect()
+}
+
+pub(super) fn listed_bytes(s: &State) -> Vec<Change> {
+    let mut changes = Vec::new();
+    for link in [directories(s, 4), directories(s, 6)].concat() {
+        let size = listed_file(s, &link).map_or(0, |file| file.size.into());
+        for sent in [size + 1, size + (1 << 32), u64::MAX] {
+            changes.extend(each([Word::state(link.at + 8, sent)]));
+        }
+        // its end, with bytes
+        changes.push(vec![
+            Word::state(link.at + 7, files_listed(s, &link)),
+            Word::state(link.at + 8, 1),
+        ]);
+    }
+    changes
+}
+
+/// The words of a directory in the place of a session's downlink.
+fn directory(link: &Link, words: [u64; 4]) -> Change {
+    (link.at + 5..)
+        .zip(words)
+        .map(|(at, word)| Word::state(at, word))
+        .collect()
+}
+
+/// The first file is the session's next one, or behind it.
+pub(super) fn directory_of_none(s: &State) -> Vec<Change> {
+    let mut changes = Vec::new();
+    for link in s.links() {
+        let next = s.word(link.at + 11);
+        for (case, first) in [(6, next), (7, next), (7, next + 3), (6, u64::MAX)] {
+            changes.push(directory(&link, [case, first, 0, 0]));
+        }
+    }
+    changes
+}
+
+/// All selected files, from each of the first ones on.
+pub(super) fn directory_of_many(s: &State) -> Vec<Change> {
+    let mut changes = Vec::new();
+    for link in s.links() {
+        let count = s.word(link.at + 10);
+        for first in 0..count.saturating_sub(10) {
+            for (case, done) in [(6, 0), (7, 0), (6, count - first), (7, 10)] {
+                let mut change = directory(&link, [case, first, done, 0]);
+                change.push(Word::state(link.at + 11, count));
+                changes.push(change);
+            }
+        }
+    }
+    changes
+}
+
+/// As many bytes of an entry as it has, or more, up to those of the file.
+pub(super) fn directory_beyond_entry(s: &State) -> Vec<Change> {
+    let mut changes = Vec::new();
+    for link in s.links() {
+        for file in s.complete() {
+            let (place, size) = (file.place as u64, u64::from(file.size));
+            for sent in [80, 81, size - 1, size] {
+                let sent = sent.clamp(80, size);
+                changes.push(directory(&link, [4, place, 0, sent]));
+            }
+            changes.push(directory(&link, [5, place, 0, size]));
+        }
+    }
+    changes
+}
+
 // ---- selections
 
 pub(super) fn count_beyond(s: &State) -> Vec<Change> {
@@ -222,10 +352,15 @@ pub(super) fn no_such_case(s: &State) -> Vec<Change> {
             Word::state(at + 1, s.word(at + 1) + (1 << 32)),
             Word::state(at + 3, s.word(at + 3) + (1 << 32)),
             Word::state(at + 4, s.word(at + 4) + (1 << 32)),
-            Word::state(at + 5, 4),
-            Word::state(at + 7, s.word(at + 7) + (1 << 32)),
-            Word::state(at + 8, s.word(at + 8) + (1 << 32)),
+            Word::state(at + 5, 8),
         ]));
+        // the numbers of a directory have 64 bits
+        if s.word(at + 5) < 4 {
+            changes.extend(each([
+                Word::state(at + 7, s.word(at + 7) + (1 << 32)),
+                Word::state(at + 8, s.word(at + 8) + (1 << 32)),
+            ]));
+        }
     }
     changes
 }
@@ -238,8 +373,8 @@ pub(super) fn unused_word(s: &State) -> Vec<Change> {
         }
         let unused = match s.word(at + 5) {
             0 => at + 6..at + 9,
-            1 => at + 9..at + 9,
-            _ => at + 7..at + 9,
+            2 | 3 => at + 7..at + 9,
+            _ => at + 9..at + 9,
         };
         changes.extend(each(unused.map(|word| Word::state(word, 1))));
     }

@@ -17,7 +17,7 @@ pub fn apply(proved: &mut Proved, change: &[Word]) {
 /// A fact by its name, and the changes that break it.
 pub type Fact = (&'static str, fn(&State) -> Vec<Change>);
 
-pub const FACTS: [Fact; 29] = [
+pub const FACTS: [Fact; 33] = [
     // crates/blocks/specs/Check.antt
     ("an owner is a place", store::owner_beyond),
     ("the map's bit of each block", store::map_bit),
@@ -73,6 +73,22 @@ pub const FACTS: [Fact; 29] = [
         links::download_beyond,
     ),
     ("a download's offset does not wrap", links::download_wrapped),
+    (
+        "a directory of one file names a complete one",
+        links::listed_of_none,
+    ),
+    (
+        "a directory is at one of its files, or at its end",
+        links::listed_beyond,
+    ),
+    (
+        "the files of a directory are not counted below none",
+        links::listed_wrapped,
+    ),
+    (
+        "a directory's bytes are within the file",
+        links::listed_bytes,
+    ),
     ("at most MAXSEL files are selected", links::count_beyond),
     ("the next selected file is among them", links::next_beyond),
     (
@@ -93,13 +109,22 @@ pub const FACTS: [Fact; 29] = [
 ];
 
 /// What calls keep besides, and refusal 35 does not ask (crates/links/specs/Kept.antt), by the oracle's names.
-pub const KEPT: [Fact; 3] = [
+pub const KEPT: [Fact; 6] = [
     (
         "an upload's bytes are the file's",
         links::upload_fewer_bytes,
     ),
     ("a session beyond the last is closed", links::session_beyond),
     ("two sessions do not upload one file", links::upload_twice),
+    ("a directory has a file", links::directory_of_none),
+    (
+        "a directory has at most ten files",
+        links::directory_of_many,
+    ),
+    (
+        "a directory is within an entry",
+        links::directory_beyond_entry,
+    ),
 ];
 
 /// A record of the file table.

@@ -3,6 +3,8 @@ use Rattle.decide.specs.Downlink.{onNak}
 use borrow.Author.Needs.{needs}
 use Rattle.decide.proofs.downlink.on_nak.Statement.{statement}
 use Rattle.decide.proofs.downlink.on_nak.Tie as tie
+use Rattle.decide.proofs.downlink.on_nak.Reads as reads
+use Rattle.decide.proofs.downlink.on_nak.Lts as lts
 
 enum-told : tie.Need-enum-told
 enum-told c = search needs
@@ -15,6 +17,9 @@ enum-told-2 c = search needs
 
 enum-told-3 : tie.Need-enum-told-3
 enum-told-3 c = search needs
+
+enum-told-4 : tie.Need-enum-told-4
+enum-told-4 c = search needs
 
 returns : tie.Need-returns
 unfolding onNak
@@ -32,6 +37,10 @@ returns-4 : tie.Need-returns-4
 unfolding onNak
 returns-4 c = rw (c .enum-told3 .given .1)
 
+returns-5 : tie.Need-returns-5
+unfolding onNak
+returns-5 c = rw (c .enum-told4 .given .1)
+
 pub on-nak-spec : {M : Type 1} → statement M
 on-nak-spec =
     tie.close
@@ -40,7 +49,9 @@ on-nak-spec =
     enum-known-down
     enum-told-2
     enum-told-3
+    enum-told-4
     returns
     returns-2
     returns-3
-    returns-4)
+    returns-4
+    returns-5)

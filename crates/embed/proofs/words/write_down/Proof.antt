@@ -1,3 +1,8 @@
+-- `embed::words::write_down` meets its contract. Assumes nothing.
+use mathlib.Core.Path.{sym, subst}
+use Rattle.embed.specs.Fit.{DownFits}
+use Rattle.embed.specs.Words.{downWords}
+use Rattle.embed.proofs.Fitting.{idle-down, sending, ended, aborting, listing}
 use borrow.Author.Needs.{needs}
 use Rattle.embed.proofs.words.write_down.Statement.{statement}
 use Rattle.embed.proofs.words.write_down.Tie as tie
@@ -6,10 +11,7 @@ use Rattle.embed.proofs.words.write_down.Lts as lts
 use Rattle.embed.proofs.words.word.Reads as word-reads
 use Rattle.embed.proofs.words.word32.Reads as word32-reads
 use Rattle.embed.proofs.words.write4.Reads as write4-reads
-use Rattle.embed.specs.Words.{downWords}
-use Rattle.embed.proofs.Fitting.{idle-down, sending, ended, aborting}
-use Rattle.embed.specs.Fit.{DownFits}
-use mathlib.Core.Path.{sym, subst}
+use Rattle.embed.proofs.words.write_listing.Reads as write-listing-reads
 
 enum-told : tie.Need-enum-told
 enum-told c = search needs
@@ -50,6 +52,12 @@ word-requires-3 c κs = search needs
 write4-requires-4 : tie.Need-write4-requires-4
 write4-requires-4 c κs = search needs
 
+enum-known-down-4 : tie.Need-enum-known-down-4
+enum-known-down-4 c = search needs
+
+write-listing-requires : tie.Need-write-listing-requires
+write-listing-requires c κs = search needs
+
 same-length : tie.Need-same-length
 same-length c = search needs
 
@@ -78,6 +86,13 @@ returns-4 : tie.Need-returns-4
 unfolding downWords
 returns-4 c = (rw (c .before .before .before .before .before .before .down3 .given .1) (rw (c .before .before .before .word3 .ensures) at (c .before .before .write44 .ensures)), subst DownFits (sym (c .before .before .before .before .before .before .down3 .given .1)) (aborting _))
 
+same-length-5 : tie.Need-same-length-5
+same-length-5 c = search needs
+
+returns-5 : tie.Need-returns-5
+unfolding downWords
+returns-5 c = (rw (c .before .before .before .before .before .down4 .given .1) (c .before .before .write-listing .ensures), subst DownFits (sym (c .before .before .before .before .before .down4 .given .1)) (listing _ _ _ _))
+
 pub write-down-spec : {M : Type 1} → statement M
 write-down-spec =
     tie.close
@@ -95,6 +110,8 @@ write-down-spec =
     enum-known-down-3
     word-requires-3
     write4-requires-4
+    enum-known-down-4
+    write-listing-requires
     same-length
     returns
     same-length-2
@@ -102,4 +119,6 @@ write-down-spec =
     same-length-3
     returns-3
     same-length-4
-    returns-4)
+    returns-4
+    same-length-5
+    returns-5)

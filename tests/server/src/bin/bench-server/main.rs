@@ -7,7 +7,7 @@ use clock::opaque;
 use measure::{Act, Row, Servers};
 use reference::draft::Draft;
 use reference::server::Sizes;
-use server::packets::{ack, data, data_end, download, select, upload, whole_upload};
+use server::packets::{ack, data, data_end, directory, download, select, upload, whole_upload};
 use servers::Calls;
 
 /// Blocks and files: the program's, more blocks, and more files too.
@@ -183,6 +183,73 @@ fn transferring(sizes: Sizes) -> Vec<Row> {
         .into()
 }
 
+// ---- directories
+
+/// Every place has a complete file with a header of 80 bytes; session 2 has selected the oldest MAXSEL.
+fn listing_ten(sizes: Sizes) -> Row {
+    let mut servers = Servers::new(sizes);
+    servers.each(|server| {
+        fill(server, sizes.blocks, sizes.files);
+        feed(server, 2, &select(&[0x90, 0x12, 0, 4, 0, 0, 0, 0]));
+    });
+    let check = servers.check();
+    let act = Act {
+        name: "short directory of ten files",
+        // the command, 256, 256, 256 and 32 bytes of DATA, DATA_END, and a request that nothing is due for
+        calls: 7,
+        bytes: Some(800),
+        before: None,
+        act: &|server| {
+            server.reselect();
+            feed(server, 2, &directory(false, 0));
+            while server.request(2) {
+                opaque(server.output());
+            }
+        },
+    };
+    servers.row(&act, Some(&check))
+}
+
+/// A file that is one header of titles, as long as the store and body_offset have room for.
+fn header(blocks: usize) -> Vec<u8> {
+    let most = (256 * blocks).min(65_535);
+    let mut draft = Draft::new();
+    for _ in 0..(most - 80) / 258 {
+        draft = draft.with_item(0x22, &[b'x'; 255]);
+    }
+    draft.bytes()
+}
+
+/// A long directory of one file; each of its requests walks over the header once.
+fn listing_one(sizes: Sizes) -> Row {
+    let mut servers = Servers::new(sizes);
+    let file = header(sizes.blocks);
+    servers.each(|server| {
+        server.open(1);
+        for packet in whole_upload(&file) {
+            feed(server, 1, &packet);
+        }
+    });
+    let check = servers.check();
+    let act = Act {
+        name: "long directory, the longest header",
+        calls: (file.len() + 255) / 256 + 3,
+        bytes: Some(file.len()),
+        before: None,
+        act: &|server| {
+            feed(server, 1, &directory(true, 1));
+            while server.request(1) {
+                opaque(server.output());
+            }
+        },
+    };
+    servers.row(&act, Some(&check))
+}
+
+fn listing(sizes: Sizes) -> Vec<Row> {
+    vec![listing_ten(sizes), listing_one(sizes)]
+}
+
 // ---- what is printed
 
 fn measure((blocks, files): (usize, usize)) -> Vec<Row> {
@@ -192,10 +259,15 @@ fn measure((blocks, files): (usize, usize)) -> Vec<Row> {
         sessions: 4,
         maxsel: 50,
     };
-    [receiving(sizes), selecting(sizes), transferring(sizes)]
-        .into_iter()
-        .flatten()
-        .collect()
+    [
+        receiving(sizes),
+        selecting(sizes),
+        transferring(sizes),
+        listing(sizes),
+    ]
+    .into_iter()
+    .flatten()
+    .collect()
 }
 
 fn microseconds(time: f64) -> String {

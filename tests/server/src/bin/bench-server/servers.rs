@@ -16,6 +16,8 @@ pub trait Calls {
     fn output(&self) -> &[u8];
     /// Sets the bytes received of the file at a place back to none, with session 1, which uploads it.
     fn rewind(&mut self, place: usize);
+    /// Sets the place in session 2's selection back to its first file.
+    fn reselect(&mut self);
 }
 
 impl Calls for Proved {
@@ -53,6 +55,10 @@ impl Calls for Proved {
     fn rewind(&mut self, place: usize) {
         self.table[4 * place + 2] = 0;
         self.state[6 + 4] = 0;
+    }
+
+    fn reselect(&mut self) {
+        self.state[6 + 12 + 11] = 0;
     }
 }
 
@@ -125,6 +131,12 @@ impl Calls for Second {
                 offset: 0,
                 received: 0,
             };
+        }
+    }
+
+    fn reselect(&mut self) {
+        if let Some(session) = &mut self.server.sessions[1] {
+            session.selection.position = 0;
         }
     }
 }

@@ -1,0 +1,9 @@
+pub mod Uplink
+pub mod Sent
+pub mod Downloads
+pub mod Quiet
+pub mod Begins
+pub mod Directories
+pub mod Listed
+pub mod Broken
+pub mod AtWork

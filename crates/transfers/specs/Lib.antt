@@ -1,0 +1,2 @@
+pub mod Downloads
+pub mod Directories
