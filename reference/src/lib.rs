@@ -3,6 +3,7 @@
 //! the proved server is compared with, so it prefers the plain way to the
 //! quick one everywhere.
 
+pub mod class;
 pub mod coverage;
 pub mod draft;
 pub mod equation;
@@ -20,3 +21,4 @@ pub mod shorten;
 pub mod sound;
 pub mod store;
 pub mod variants;
+pub mod why;

@@ -53,7 +53,7 @@ impl std::fmt::Display for Line {
 }
 
 /// A number of one or more decimal digits that fits 32 bits.
-fn decimal(field: &[u8]) -> Option<u32> {
+pub(crate) fn decimal(field: &[u8]) -> Option<u32> {
     if field.is_empty() {
         return None;
     }

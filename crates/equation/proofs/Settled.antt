@@ -77,8 +77,9 @@ settled-marks xs (r ∷ rs) n =
     let z : suc (length rs) + n ≡ suc (length rs + n) = omega arith in
     rw z (by-relation xs r rs 0 (replicate (length rs + n) 0) ∙ ap (λ (l : List ℕ). markBy xs r 0 ∷ l) (settled-marks xs rs n))
 
+-- the marks of relations say which of them hold, from the relation of number k on
 module _ (xs : List Field) where
-  agree : (ms : List ℕ) (rs : List Relation) (k m : ℕ)
+  pub agree : (ms : List ℕ) (rs : List Relation) (k m : ℕ)
       → length rs ≤ m
       → drop k ms ≡ settledBy xs rs (replicate m 0)
       → Agree (λ j r. markedTrue ms j) (λ j r. holds r xs) k rs

@@ -252,7 +252,7 @@ fn blank_equation() -> [u8; 2047]
 }
 
 // Whether a line begins with a word.
-fn begins(line: &[u8], word: &[u8]) -> bool
+pub fn begins(line: &[u8], word: &[u8]) -> bool
     ensures { λ r. ⌜ r ≡ beginsWith (now (word .entry)) (now (line .entry)) ⌝ }
 {
     let mut i = 0;
@@ -276,8 +276,8 @@ fn blank_line() -> [u8; 4096]
     [0u8; 4096]
 }
 
-// The line for an equation as on paper.
-fn reply_to_text(equation: &[u8], text: &mut [u8]) -> usize
+// The line for an equation as on paper: how many bytes it has, or 0 where the text is too short for it.
+pub fn reply_to_text(equation: &[u8], text: &mut [u8]) -> usize
     ensures { λ r. ⌜ printed r (now (text .exit)) ≡ printedIn (saidOf (outcomeOf (now (equation .entry)))) (now (text .entry)) ⌝ }
 {
     let mut buffer = blank_line();

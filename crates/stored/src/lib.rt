@@ -26,6 +26,7 @@ ghost use Rattle.equation.specs.Marks.{settled, settledBy};
 ghost use Rattle.equation.specs.Parsed.{relationsBy};
 ghost use Rattle.stored.specs.Answers.{fileAt, checkAt, headerAt, truthBy, setNumber, setDisk};
 ghost use Rattle.stored.specs.Settable.{Settable};
+ghost use Rattle.stored.specs.Settled.{settleNumber, settledAt};
 ghost use Rattle.stored.specs.Cursor.{Lies, Stands};
 
 // Whether the sizes are in the table, the disk has the blocks, and the file place is one.
@@ -477,4 +478,25 @@ pub fn truth(
         return outcome(steps, &truths);
     }
     Truth::Refused(33)
+}
+
+// Settles the marks of the equation's relations by the header of the file at a place, which is read once: 0. Where the sizes are outside the
+// table the marks stay.
+pub fn settle_at(
+    eq: &[u8],
+    steps: &[u16],
+    disk: &[u8],
+    owner: &[u16],
+    place: u16,
+    received: usize,
+    truths: &mut [u8],
+) -> u8
+    ensures { λ r. ⌜ r ≡ settleNumber (now (disk .entry)) (now (owner .entry)) place ⌝ }
+    ensures { λ r. ⌜ now (truths .exit) ≡ settledAt (now (eq .entry)) (now (steps .entry)) (now (disk .entry)) (now (owner .entry)) place received (now (truths .entry)) ⌝ }
+{
+    if sizes_fit(disk.len(), owner.len(), place) {
+        settle_file(eq, steps, disk, owner, place, received, truths);
+        return 0;
+    }
+    33
 }

@@ -8,6 +8,7 @@ use std::path::{Path, PathBuf};
 use std::process::ExitCode;
 use std::time::{Duration, Instant};
 
+use reference::class;
 use reference::generator::{self, seed_of};
 use reference::program::{Outcome, Program};
 use reference::random::Random;
@@ -16,7 +17,7 @@ use reference::shorten::shorten;
 use reference::variants::{self, Cutting};
 
 const USAGE: &str = "usage: compare PROGRAM [--scripts N] [--seed S] [--seconds T] [--keep DIR] \
-[--lost | --cut]";
+[--lost | --cut | --class]";
 
 /// A program that does not end makes every try slow, so shortening is given
 /// up after this.
@@ -30,6 +31,18 @@ enum Mode {
     Lost,
     /// The same bytes in other pieces.
     Cut,
+    /// Random scripts of class days.
+    Class,
+}
+
+impl Mode {
+    /// What must be printed for a script.
+    fn expected(self, script: &[u8]) -> Vec<u8> {
+        match self {
+            Mode::Class => class::run(script),
+            Mode::Random | Mode::Lost | Mode::Cut => script::run(script),
+        }
+    }
 }
 
 struct Options {
@@ -61,6 +74,7 @@ impl Options {
                 "--keep" => options.keep = PathBuf::from(rest.next()?),
                 "--lost" => options.mode = Mode::Lost,
                 "--cut" => options.mode = Mode::Cut,
+                "--class" => options.mode = Mode::Class,
                 other if other.starts_with("--") => return None,
                 other => {
                     options.program = PathBuf::from(other);
@@ -76,9 +90,9 @@ impl Options {
         match (self.scripts, self.seconds, self.mode) {
             (Some(count), _, _) => count,
             (None, Some(_), _) => u64::MAX,
-            (None, None, Mode::Random) => 2000,
             (None, None, Mode::Lost) => 20,
             (None, None, Mode::Cut) => 300,
+            (None, None, _) => 2000,
         }
     }
 }
@@ -110,7 +124,8 @@ impl Comparison {
     /// What the program makes of the script where that is not as expected.
     fn disagreement(&self, script: &[u8], pieces: Option<u64>) -> io::Result<Option<Outcome>> {
         let outcome = self.program.run(script, pieces)?;
-        Ok((!is_printed(&outcome, &script::run(script))).then_some(outcome))
+        let expected = self.options.mode.expected(script);
+        Ok((!is_printed(&outcome, &expected)).then_some(outcome))
     }
 
     fn time_is_up(&self) -> bool {
@@ -129,7 +144,8 @@ impl Comparison {
             }
             let seed = seed_of(self.options.seed, index);
             let difference = match self.options.mode {
-                Mode::Random => self.try_random(index, seed)?,
+                Mode::Random => self.try_script(index, generator::story(seed).text())?,
+                Mode::Class => self.try_script(index, generator::class_story(seed).text())?,
                 Mode::Lost => self.try_lost(index, seed)?,
                 Mode::Cut => self.try_cut(index, seed)?,
             };
@@ -141,12 +157,8 @@ impl Comparison {
         Ok((done, None))
     }
 
-    fn try_random(&mut self, index: u64, seed: u64) -> io::Result<Option<Difference>> {
-        self.try_script(index, generator::story(seed).text())
-    }
-
     fn try_script(&mut self, index: u64, script: Vec<u8>) -> io::Result<Option<Difference>> {
-        let expected = script::run(&script);
+        let expected = self.options.mode.expected(&script);
         Ok((!self.agrees(&script, &expected)?).then_some(Difference {
             index,
             script,
@@ -217,7 +229,10 @@ impl Comparison {
         }
         let folder = &self.options.keep;
         match self.disagreement(&script, pieces)? {
-            Some(outcome) => keep(folder, &script, &script::run(&script), &outcome),
+            Some(outcome) => {
+                let expected = self.options.mode.expected(&script);
+                keep(folder, &script, &expected, &outcome)
+            }
             None => {
                 println!("the difference did not come again; the whole script is kept");
                 let outcome = self.program.run(&difference.script, None)?;

@@ -174,12 +174,18 @@ fn text_relation(random: &mut Random, id: u16, data: &[u8]) -> Vec<u8> {
 
 /// Several relations, joined.
 fn tree(random: &mut Random, files: &[Vec<u8>]) -> Vec<u8> {
+    let relations = random.between(1, 9);
+    tree_of(random, files, relations, MOST)
+}
+
+/// So many relations, joined, or as many as there is room for in so many bytes.
+pub fn tree_of(random: &mut Random, files: &[Vec<u8>], relations: usize, most: usize) -> Vec<u8> {
     let mut bytes = Vec::new();
     let mut results = 0;
-    for _ in 0..random.between(1, 9) {
+    for _ in 0..relations {
         let next = leaf(random, files);
         // Room must stay for the connectives and the mark.
-        if bytes.len() + next.len() + results + 1 > MOST {
+        if bytes.len() + next.len() + results + 1 > most {
             break;
         }
         bytes.extend(next);

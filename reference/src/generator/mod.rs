@@ -2,6 +2,7 @@
 //! server while writing, so that most commands mean something to it.
 
 mod author;
+mod class;
 mod equations;
 pub mod paper;
 mod pieces;
@@ -14,6 +15,7 @@ use crate::random::Random;
 use author::Author;
 use themes::{Theme, MIXED, THEMES};
 
+pub use class::class_story;
 pub use equations::{equation, relation};
 pub use pieces::{destination, offset, stray};
 pub use plans::{plan, sound, wide, Plan, Wishes};

@@ -128,7 +128,7 @@ fn character(random: &mut Random, byte: u8) -> Vec<u8> {
 }
 
 /// A text at a border, on either side of it.
-fn border(random: &mut Random) -> Vec<u8> {
+pub fn border(random: &mut Random) -> Vec<u8> {
     match random.below(7) {
         0 => nested(random),
         1 => {

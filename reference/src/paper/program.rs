@@ -30,10 +30,11 @@ pub fn answer(line: &[u8]) -> Option<Vec<u8>> {
         let bytes = from_hex(line.strip_prefix(b"bytes\t")?)?;
         to_text(&bytes).map(|text| [b"text\t", &text[..]].concat())
     };
-    Some(told.unwrap_or_else(refused))
+    Some(told.unwrap_or_else(|refusal| refused(refusal).into_bytes()))
 }
 
-fn refused(refusal: Refusal) -> Vec<u8> {
+/// The fields that tell a refusal.
+pub fn refused(refusal: Refusal) -> String {
     match refusal {
         Refusal::Wrong(place, reason) => format!("wrong\t{place}\t{}", reason.word()),
         Refusal::Number(number) => format!("refused\t{number}"),
@@ -41,7 +42,6 @@ fn refused(refusal: Refusal) -> Vec<u8> {
         Refusal::Deeper => "refused\tdeeper".to_string(),
         Refusal::Bytes => "refused\tbytes".to_string(),
     }
-    .into_bytes()
 }
 
 /// What the program prints for a whole input.

@@ -2,6 +2,7 @@
 
 mod common;
 
+mod class;
 mod compare;
 mod equation;
 mod examples;
@@ -13,3 +14,4 @@ mod paper;
 mod script;
 mod server;
 mod sound;
+mod why;

@@ -1,0 +1,4 @@
+pub mod Sheets
+pub mod Pass
+pub mod Narrow
+pub mod Run

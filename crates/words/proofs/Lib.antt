@@ -1,0 +1,5 @@
+pub mod PieceLaws
+pub mod WhyLaws
+pub mod Room
+pub mod ReplyLaws
+pub mod Lines
