@@ -5,6 +5,7 @@
 
 pub mod class;
 pub mod coverage;
+pub mod desk;
 pub mod draft;
 pub mod equation;
 pub mod generator;

@@ -20,6 +20,11 @@ pub trait Reader {
     /// A line can't be read; if it is too long, its beginning is told.
     fn unreadable(&mut self, _line: &[u8]) {}
 
+    /// Prints that the line of that number can't be read.
+    fn tell_unreadable(&mut self, number: usize, output: &mut impl Write) -> io::Result<()> {
+        writeln!(output, "error\t{number}")
+    }
+
     /// Prints what stands behind all others.
     fn last(&mut self, _output: &mut impl Write) -> io::Result<()> {
         Ok(())
@@ -89,7 +94,7 @@ impl<R: Reader> Feed<R> {
 
     fn stop_at_line(&mut self, output: &mut impl Write) -> io::Result<()> {
         self.reader.unreadable(&self.line);
-        writeln!(output, "error\t{}", self.number)?;
+        self.reader.tell_unreadable(self.number, output)?;
         self.end(output)
     }
 

@@ -1,5 +1,5 @@
 //! The numbers of the refusals, named as in appendix D of the protocol paper
-//! where that has a name. Numbers 1 to 16 go out in a packet, 32 to 35 are
+//! where that has a name. Numbers 1 to 16 go out in a packet, those from 32 are
 //! local: they are told to the caller and change nothing.
 
 pub const ILL_FORMED_COMMAND: u8 = 1;
@@ -25,3 +25,5 @@ pub const SHORT_OUTPUT: u8 = 32;
 pub const OUT_OF_TABLE: u8 = 33;
 /// The session's number is out of range, or it is not open, or already open.
 pub const BAD_SESSION: u8 = 34;
+/// The marking desk's: a line above its buffer, or one that is no script's.
+pub const NOT_MARKED: u8 = 37;

@@ -9,6 +9,7 @@ use std::process::ExitCode;
 use std::time::{Duration, Instant};
 
 use reference::class;
+use reference::desk;
 use reference::generator::{self, seed_of};
 use reference::program::{Outcome, Program};
 use reference::random::Random;
@@ -17,7 +18,7 @@ use reference::shorten::shorten;
 use reference::variants::{self, Cutting};
 
 const USAGE: &str = "usage: compare PROGRAM [--scripts N] [--seed S] [--seconds T] [--keep DIR] \
-[--lost | --cut | --class]";
+[--lost | --cut | --class | --desk | --sheet]";
 
 /// A program that does not end makes every try slow, so shortening is given
 /// up after this.
@@ -33,6 +34,10 @@ enum Mode {
     Cut,
     /// Random scripts of class days.
     Class,
+    /// Random answer sheets, to be marked.
+    Desk,
+    /// Random scripts, to be answered.
+    Sheet,
 }
 
 impl Mode {
@@ -40,6 +45,8 @@ impl Mode {
     fn expected(self, script: &[u8]) -> Vec<u8> {
         match self {
             Mode::Class => class::run(script),
+            Mode::Desk => desk::run_desk(script),
+            Mode::Sheet => desk::run_sheet(script),
             Mode::Random | Mode::Lost | Mode::Cut => script::run(script),
         }
     }
@@ -75,6 +82,8 @@ impl Options {
                 "--lost" => options.mode = Mode::Lost,
                 "--cut" => options.mode = Mode::Cut,
                 "--class" => options.mode = Mode::Class,
+                "--desk" => options.mode = Mode::Desk,
+                "--sheet" => options.mode = Mode::Sheet,
                 other if other.starts_with("--") => return None,
                 other => {
                     options.program = PathBuf::from(other);
@@ -145,6 +154,8 @@ impl Comparison {
             let seed = seed_of(self.options.seed, index);
             let difference = match self.options.mode {
                 Mode::Random => self.try_script(index, generator::story(seed).text())?,
+                Mode::Sheet => self.try_script(index, generator::sheet_script(seed).text())?,
+                Mode::Desk => self.try_script(index, generator::answer_sheet(seed).text())?,
                 Mode::Class => self.try_script(index, generator::class_story(seed).text())?,
                 Mode::Lost => self.try_lost(index, seed)?,
                 Mode::Cut => self.try_cut(index, seed)?,

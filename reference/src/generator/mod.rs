@@ -7,6 +7,7 @@ mod equations;
 pub mod paper;
 mod pieces;
 mod plans;
+mod sheets;
 mod themes;
 
 use std::collections::BTreeMap;
@@ -19,6 +20,7 @@ pub use class::class_story;
 pub use equations::{equation, relation};
 pub use pieces::{destination, offset, stray};
 pub use plans::{plan, sound, wide, Plan, Wishes};
+pub use sheets::{answer_sheet, sheet_script};
 
 /// A script and what its author meant.
 #[derive(Clone, Debug)]

@@ -4,6 +4,7 @@ mod common;
 
 mod class;
 mod compare;
+mod desk;
 mod equation;
 mod examples;
 mod generator;

@@ -1,0 +1,5 @@
+pub mod Fields
+pub mod Desk
+pub mod Put
+pub mod Verdict
+pub mod Step

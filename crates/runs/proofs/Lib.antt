@@ -1,0 +1,4 @@
+pub mod Holding
+pub mod Ending
+pub mod Reading
+pub mod Whole

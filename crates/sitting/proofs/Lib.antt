@@ -1,0 +1,3 @@
+pub mod Parts
+pub mod Turning
+pub mod Starting

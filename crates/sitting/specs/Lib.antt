@@ -1,0 +1,4 @@
+pub mod Turn
+pub mod Narrow
+pub mod Run
+pub mod Whole
