@@ -18,7 +18,8 @@ use Rattle.rows.proofs.Forms.{last-most, stop-most}
 use Rattle.sitting.specs.declared.turn.Sitting.{Sitting}
 use Rattle.sitting.specs.declared.turn.Stage.the-variants as stage
 use Rattle.sitting.specs.Turn.{Memory, State, state, overOf, unread, Put, putIn, lastPut, stopPut, errorPut, waitingText, flushedOf, writtenStage}
-use Rattle.sitting.specs.Run.{MayFollow, Prints}
+use Rattle.sitting.specs.Run.{MayFollow}
+use Rattle.runs.specs.Prints.{Prints}
 use Rattle.runs.proofs.Holding.{inRow, between, remaining, Holds, put-waits, put-end, put-size, few-lines, few-right, as-rows}
 
 -- what was written and what waits is all of the output

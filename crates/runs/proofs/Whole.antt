@@ -27,8 +27,9 @@ use Rattle.sitting.specs.declared.turn.Next.the-variants as next
 use Rattle.sitting.specs.Turn.{Memory, memory, State, state, newOf, overOf, unread, onFound, writesFirst, byVerdict, decideOf, steppedOf, putIn, finishOf}
 use Rattle.sitting.specs.Turn.{lastPut, errorPut, beginOf, beginIn, waitingText, writtenStage, flushedOf, keptOf, filledTo}
 use Rattle.sitting.specs.Turn.{Turn, step, finish, line, last, error, written, broken, filled}
-use Rattle.sitting.specs.Run.{Run, HasRoom, EveryRun}
-use Rattle.sitting.specs.Whole.{startOf, ProgramPrints}
+use Rattle.sitting.specs.Run.{Run, HasRoom}
+use Rattle.sitting.specs.Whole.{startOf}
+use Rattle.runs.specs.Prints.{EveryRun, ProgramPrints}
 use Rattle.runs.proofs.Holding.{inRow, Holds, holds-first, holds-step, holds-finish, holds-written}
 use Rattle.runs.proofs.Ending.{Ends, Standing, going, last as lastly, over, ends-here, stands-long, breaks-going, breaks-last, flushes-last}
 use Rattle.runs.proofs.Ending.{stands-prints}

@@ -1,14 +1,12 @@
--- The run of a program from its own start: a server just made in the program's memory. It meets what EveryRun (Run.antt) asks of a start, so what
--- EveryRun says holds of it. Assumes nothing.
+-- The run of a program from its own start: a server just made in the program's memory. It meets what EveryRun (crates/runs, specs/Prints.antt) asks of a
+-- start, so what EveryRun says holds of it. Assumes nothing.
 use mathlib.Core.Path.{_≡_}
 use mathlib.Core.Bool.{true}
-use Prim.Native.Nat.{_<_, _^_}
-use lib.ListN.{length}
 use Rattle.server.specs.State.{Lent}
 use Rattle.history.specs.Calls.{Start, legal, made}
 use Rattle.marking.specs.declared.Kind.{Kind}
 use Rattle.sitting.specs.Turn.{Memory, memory, State, newOf}
-use Rattle.sitting.specs.Run.{Played, HasRoom, Prints}
+use Rattle.sitting.specs.Run.{Played, HasRoom}
 
 -- "The desk starts from `passday`'s empty store": "a server of 128 blocks, 32 files, 4 sessions and MAXSEL 50"
 abbrev pub startOf : Lent → Start
@@ -30,10 +28,3 @@ pub record Sat (k : Kind) : Type 0 where
   pub ready : Ready memory
   pub after : State
   pub played : PlayedAll k memory after
-
--- THE PROGRAMS: what their own run (`sit`, src/lib.rt) writes is the output for the input that it read. `desk` is `sit` of the desk, `sheet` of the
--- right sheet.
-abbrev pub ProgramPrints : Type 0
-ProgramPrints =
-    (k : Kind) (ran : Sat k) → length (ran .played .read) < 2 ^ 63
-    → Prints k (startOf (ran .memory .lent)) (ran .played .read) (ran .played .wrote) (ran .after)
