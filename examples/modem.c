@@ -3,40 +3,17 @@
  *
  *     modem CLOCK < BYTES          CLOCK: seconds, as the server puts it into LOGIN_RESP and into upload times
  *
+ * Exit status: 0 the link was played to its end; 1 the input can't be read or the output can't be written; 2 wrong use.
  * scripts/build-embed builds it.
  */
 #include <stdio.h>
-#include <stdlib.h>
 
 #include "figmorella.h"
 
 enum { BLOCKS = 8, FILES = 4, SESSIONS = 1, MOST = 5, SESSION = 1, PIECE = 5 };
 
-/* memory for the sizes above; its contents do not matter before the server is made */
-static int take_memory(struct figmorella *f)
-{
-    if (figmorella_memory(BLOCKS, FILES, SESSIONS, MOST, f->need, FIGMORELLA_NEEDS) != 0)
-        return 0;
-    f->state = calloc(f->need[0], sizeof *f->state);
-    f->disk = calloc(f->need[1], sizeof *f->disk);
-    f->map = calloc(f->need[2], sizeof *f->map);
-    f->owner = calloc(f->need[3], sizeof *f->owner);
-    f->table = calloc(f->need[4], sizeof *f->table);
-    f->selected = calloc(f->need[5], sizeof *f->selected);
-    f->held = calloc(f->need[6], sizeof *f->held);
-    return f->state && f->disk && f->map && f->owner && f->table && f->selected && f->held;
-}
-
-static void drop_memory(struct figmorella *f)
-{
-    free(f->state);
-    free(f->disk);
-    free(f->map);
-    free(f->owner);
-    free(f->table);
-    free(f->selected);
-    free(f->held);
-}
+/* all memory of the server; its contents do not matter before the server is made */
+static uint64_t memory[FIGMORELLA_BYTES(BLOCKS, FILES, SESSIONS, MOST) / 8];
 
 /* Does what an answer asks of a modem. 1 while the link is there. */
 static int obey(const struct figmorella *f, uint8_t answer)
@@ -96,23 +73,52 @@ static void pass(struct figmorella *f, uint32_t clock)
     obey(f, figmorella_server_lose(f, SESSION));
 }
 
+/* A clock has 32 bits and is written in digits alone. 1 where the word is one. */
+static int read_clock(const char *word, uint32_t *clock)
+{
+    uint64_t seconds = 0;
+
+    if (*word == '\0')
+        return 0;
+    for (; *word != '\0'; word++) {
+        if (*word < '0' || *word > '9')
+            return 0;
+        seconds = 10 * seconds + (uint64_t)(*word - '0');
+        if (seconds > UINT32_MAX)
+            return 0;
+    }
+    *clock = (uint32_t)seconds;
+    return 1;
+}
+
 int main(int argc, char **argv)
 {
-    struct figmorella f = { 0 };
+    static struct figmorella f;
     uint32_t clock;
-    int made;
 
     if (argc != 2) {
-        fprintf(stderr, "usage: modem CLOCK < BYTES\n");
+        fprintf(stderr, "use: modem CLOCK < BYTES\n");
         return 2;
     }
-    clock = (uint32_t)strtoul(argv[1], NULL, 10);
-    made = take_memory(&f) && figmorella_server_make(&f, BLOCKS, FILES, SESSIONS, MOST) == 0;
-    if (made) {
-        pass(&f, clock);
-        if (figmorella_server_free(&f) == 0)
-            printf("blocks %zu free of %zu\n", f.counts[0], f.counts[1]);
+    if (!read_clock(argv[1], &clock)) {
+        fprintf(stderr, "modem: CLOCK is a number of seconds, 0 to 4294967295, and not '%s'\n", argv[1]);
+        return 2;
     }
-    drop_memory(&f);
-    return made ? 0 : 1;
+    if (figmorella_server_place(&f, memory, sizeof memory, BLOCKS, FILES, SESSIONS, MOST) != 0
+        || figmorella_server_make(&f, BLOCKS, FILES, SESSIONS, MOST) != 0) {
+        fprintf(stderr, "modem: the sizes are outside the table\n");
+        return 1;
+    }
+    pass(&f, clock);
+    if (figmorella_server_free(&f) == 0)
+        printf("blocks %zu free of %zu\n", f.counts[0], f.counts[1]);
+    if (ferror(stdin)) {
+        fprintf(stderr, "modem: standard input can't be read\n");
+        return 1;
+    }
+    if (fflush(stdout) != 0 || ferror(stdout)) {
+        fprintf(stderr, "modem: standard output can't be written\n");
+        return 1;
+    }
+    return 0;
 }

@@ -1,4 +1,4 @@
-//! The functions of libembed.a as they are: a slice passes as a pointer and the number of its elements. What each pointer must be is said in
+//! The functions of libfigmorella.a as they are: a slice passes as a pointer and the number of its elements. What each pointer must be is said in
 //! include/figmorella.h, what each call promises in crates/embed/specs/Calls.antt.
 
 extern "C" {
