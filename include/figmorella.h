@@ -111,9 +111,9 @@ static inline size_t figmorella_bytes(size_t blocks, size_t files, size_t sessio
       + (4 * (size_t)(most) + 258) * (size_t)(sessions) + 7) / 8 * 8)
 
 /* Lays a server of these sizes into one block of memory that the caller lends, and fills in f. The memory itself is neither read nor written: next
- * comes figmorella_server_make, or what was saved is read back into it. Where the parts lie in it depends on the sizes alone, so that the block
- * can be saved as one. Answers 0; or 33, with f as it was, for sizes outside the table, fewer than figmorella_bytes bytes, NULL, and memory that is
- * not aligned for uint64_t (that of malloc is). */
+ * comes figmorella_server_make, or what was saved is read back into it. It is the server's as long as calls are made, and nobody else writes it.
+ * Where the parts lie in it depends on the sizes alone, so that the block can be saved as one. Answers 0; or 33, with f as it was, for sizes outside
+ * the table, fewer than figmorella_bytes bytes, NULL, and memory that is not aligned for uint64_t (that of malloc is). */
 static inline uint8_t figmorella_server_place(struct figmorella *f, void *memory, size_t bytes,
                                               size_t blocks, size_t files, size_t sessions, size_t most);
 
