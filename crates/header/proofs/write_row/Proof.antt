@@ -6,27 +6,21 @@ use Rattle.header.proofs.write_row.Reads as reads
 use Rattle.header.proofs.write_row.Lts as lts
 use Rattle.numbers.proofs.store.Reads as store-reads
 
--- src/lib.rt:39:34
 sub-store : tie.Need-sub-store
 sub-store c = search needs
 
--- src/lib.rt:39:34
 part-store-start : tie.Need-part-store-start
 part-store-start c = search needs
 
--- src/lib.rt:39:34
 part-store-end : tie.Need-part-store-end
 part-store-end c = search needs
 
--- src/lib.rt:39:5
 store-requires : tie.Need-store-requires
 store-requires c κs = search needs
 
--- src/lib.rt:33:1
 same-length : tie.Need-same-length
 same-length c = search needs
 
--- src/lib.rt:33:1
 returns : tie.Need-returns
 returns c = simp unary-clauses at (c .before .before .store .ensures .1)
 

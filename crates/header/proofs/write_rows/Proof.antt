@@ -24,30 +24,24 @@ Inv-loop file₀ number time upload k₀ file k =
 abbrev μ-loop : tie.MeasureT-loop
 μ-loop file₀ number time upload k₀ file k = 4 - k
 
--- src/lib.rt:48:5
 loop-holds : tie.Need-loop-holds Inv-loop μ-loop
 loop-holds c = (omega arith, refl, bytes-all (c .before .args .file .now) (λ k. omega (arith, c .slice-known .given k)), c .before .pre, unfold storedRows in refl)
 
--- src/lib.rt:49:25
 row-at-requires : tie.Need-row-at-requires Inv-loop μ-loop
 row-at-requires c κs = search needs
 
--- src/lib.rt:49:9
 write-row-requires : tie.Need-write-row-requires Inv-loop μ-loop
 write-row-requires c κs =
     let l = c .before .before .before .loop in
     let a = c .before .before .before .before .before .args in
     row-size (a .number) (a .time) (a .upload) (a .file .now) (l .inv .3) (l .inv .2) (l .k) (c .row-at .result) (c .row-at .ensures) (omega arith)
 
--- src/lib.rt:50:9
 add-k : tie.Need-add-k Inv-loop μ-loop
 add-k c = omega arith
 
--- src/lib.rt:48:5
 loop-less : tie.Need-loop-less Inv-loop μ-loop
 loop-less c = omega arith
 
--- src/lib.rt:48:5
 loop-again : tie.Need-loop-again Inv-loop μ-loop
 loop-again c =
     let l = c .before .before .before .before .before .before .loop in
@@ -62,11 +56,9 @@ loop-again c =
           (l .inv .4) (w .ensures) (omega arith),
     )
 
--- src/lib.rt:43:1
 same-length : tie.Need-same-length Inv-loop μ-loop
 same-length c = c .before .loop .inv .1
 
--- src/lib.rt:43:1
 returns : tie.Need-returns Inv-loop μ-loop
 returns c =
     let l = c .before .loop in

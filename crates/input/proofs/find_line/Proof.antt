@@ -8,39 +8,30 @@ use Rattle.input.proofs.line_length.Reads as line-length-reads
 use Rattle.input.proofs.parts.least.Reads as least-reads
 use Rattle.input.proofs.InputLaws.{find-part}
 
--- src/input.rt:60:9
 least-requires : tie.Need-least-requires
 least-requires c κs = search needs
 
--- src/input.rt:61:9
 least-requires-2 : tie.Need-least-requires-2
 least-requires-2 c κs = search needs
 
--- src/input.rt:62:28
 sub-line-length : tie.Need-sub-line-length
 sub-line-length c = search needs
 
--- src/input.rt:62:28
 part-line-length-start : tie.Need-part-line-length-start
 part-line-length-start c = search needs
 
--- src/input.rt:62:28
 part-line-length-end : tie.Need-part-line-length-end
 part-line-length-end c = search needs
 
--- src/input.rt:62:16
 line-length-requires : tie.Need-line-length-requires
 line-length-requires c κs = search needs
 
--- src/input.rt:62:43
 sub-first-line : tie.Need-sub-first-line
 sub-first-line c = search needs
 
--- src/input.rt:62:5
 first-line-requires : tie.Need-first-line-requires
 first-line-requires c κs = search needs
 
--- src/input.rt:57:1
 returns : tie.Need-returns
 returns c = rw (c .first-line .ensures, c .before .line-length .ensures) (find-part (c .before .before .before .before .before .before .args .input .now) (c .before .before .before .before .before .before .args .from) (c .before .before .before .before .before .before .args .end) (c .before .before .before .before .least .result) (c .before .before .before .least2 .result) (c .before .before .before .before .before .before .args .ended) (c .before .before .before .before .least .ensures .2) (c .before .before .before .least2 .ensures .2))
 

@@ -16,39 +16,30 @@ Inv-loop input₀ from n i₀ input i = (i ≤ n) × (from + n ≤ length input�
 abbrev μ-loop : tie.MeasureT-loop
 μ-loop input₀ from n i₀ input i = n - i
 
--- src/input.rt:80:5
 loop-holds : tie.Need-loop-holds Inv-loop μ-loop
 loop-holds c = (omega arith, c .pre, refl, move-none _ _)
 
--- src/input.rt:81:26
 add-input : tie.Need-add-input Inv-loop μ-loop
 add-input c = omega arith
 
--- src/input.rt:81:20
 slice-read-input : tie.Need-slice-read-input Inv-loop μ-loop
 slice-read-input c = omega arith
 
--- src/input.rt:81:9
 slice-write-input : tie.Need-slice-write-input Inv-loop μ-loop
 slice-write-input c = omega arith
 
--- src/input.rt:82:9
 add-i : tie.Need-add-i Inv-loop μ-loop
 add-i c = omega arith
 
--- src/input.rt:80:5
 loop-less : tie.Need-loop-less Inv-loop μ-loop
 loop-less c = omega arith
 
--- src/input.rt:80:5
 loop-again : tie.Need-loop-again Inv-loop μ-loop
 loop-again c = let s = c .before .before in (omega arith, s .loop .inv .1, simp length-set (s .loop .inv .2), rw add-one (move-step (s .before .args .from) (s .loop .i) (s .before .args .input .now) (s .loop .input) (s .loop .inv .3) (omega arith)))
 
--- src/input.rt:75:1
 same-length : tie.Need-same-length Inv-loop μ-loop
 same-length c = c .before .loop .inv .2
 
--- src/input.rt:75:1
 returns : tie.Need-returns Inv-loop μ-loop
 returns c = c .before .loop .inv .3 ∙ ap (λ (k : ℕ). movedOf (c .before .before .args .from) k (c .before .before .args .input .now)) (omega arith)
 

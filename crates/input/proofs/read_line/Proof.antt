@@ -8,35 +8,27 @@ use Rattle.input.proofs.parts.least.Reads as least-reads
 use mathlib.Core.Path.{_∙_}
 use Rattle.input.proofs.InputLaws.{read-part}
 
--- src/input.rt:69:9
 least-requires : tie.Need-least-requires
 least-requires c κs = search needs
 
--- src/input.rt:70:9
 least-requires-2 : tie.Need-least-requires-2
 least-requires-2 c κs = search needs
 
--- src/input.rt:71:17
 sub-read : tie.Need-sub-read
 sub-read c = search needs
 
--- src/input.rt:71:17
 part-read-start : tie.Need-part-read-start
 part-read-start c = search needs
 
--- src/input.rt:71:17
 part-read-end : tie.Need-part-read-end
 part-read-end c = search needs
 
--- src/input.rt:71:5
 read-requires : tie.Need-read-requires
 read-requires c κs = search needs
 
--- src/input.rt:66:1
 same-length : tie.Need-same-length
 same-length c = search needs
 
--- src/input.rt:66:1
 returns : tie.Need-returns
 returns c = c .before .before .read .ensures ∙ read-part (c .before .before .before .before .before .before .before .before .before .args .input .now) (c .before .before .before .before .before .before .before .before .before .args .from) (c .before .before .before .before .before .before .before .before .before .args .end) (c .before .before .before .before .before .before .least .result) (c .before .before .before .before .before .least2 .result) _ (c .before .before .before .before .before .before .least .ensures .2) (c .before .before .before .before .before .least2 .ensures .2)
 

@@ -9,23 +9,18 @@ use Rattle.input.proofs.parts.rest.Reads as rest-reads
 use Rattle.input.proofs.PartLaws.{rest-room}
 use Rattle.input.proofs.InputLaws.{shift-part}
 
--- src/input.rt:90:9
 rest-requires : tie.Need-rest-requires
 rest-requires c κs = search needs
 
--- src/input.rt:91:22
 least-requires : tie.Need-least-requires
 least-requires c κs = search needs
 
--- src/input.rt:91:5
 move-down-requires : tie.Need-move-down-requires
 move-down-requires c κs = rest-room (c .before .before .before .before .args .input .now) (c .before .before .before .before .args .from) (c .before .before .before .before .args .end) (c .before .before .rest .result) (c .least .result) (c .before .before .rest .ensures) (c .least .ensures .2)
 
--- src/input.rt:87:1
 same-length : tie.Need-same-length
 same-length c = search needs
 
--- src/input.rt:87:1
 returns : tie.Need-returns
 returns c = rw (c .before .before .move-down .ensures) (shift-part (c .before .before .before .before .before .before .before .args .input .now) (c .before .before .before .before .before .before .before .args .from) (c .before .before .before .before .before .before .before .args .end) (c .before .before .before .before .before .rest .result) (c .before .before .before .least .result) (c .before .before .before .before .before .rest .ensures) (c .before .before .before .least .ensures .2))
 

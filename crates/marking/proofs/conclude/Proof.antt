@@ -9,43 +9,33 @@ use mathlib.Core.Path.{sym}
 use lib.Seq.{length-take-le}
 use Rattle.marking.proofs.VerdictLaws.{concluded}
 
--- src/lib.rt:55:9
 least-requires : tie.Need-least-requires
 least-requires c κs = tt
 
--- src/lib.rt:56:9
 least-requires-2 : tie.Need-least-requires-2
 least-requires-2 c κs = tt
 
--- src/lib.rt:57:9
 least-requires-3 : tie.Need-least-requires-3
 least-requires-3 c κs = tt
 
--- src/lib.rt:58:42
 slice-aggregate-judge : tie.Need-slice-aggregate-judge
 slice-aggregate-judge c = sym (length-take-le (c .before .before .before .least .result) (c .before .before .before .before .before .before .before .before .args .out .now) (c .before .before .before .least .ensures .1))
 
--- src/lib.rt:58:56
 sub-judge : tie.Need-sub-judge
 sub-judge c = search needs
 
--- src/lib.rt:58:56
 part-judge-start : tie.Need-part-judge-start
 part-judge-start c = search needs
 
--- src/lib.rt:58:56
 part-judge-end : tie.Need-part-judge-end
 part-judge-end c = search needs
 
--- src/lib.rt:58:9
 judge-requires : tie.Need-judge-requires
 judge-requires c κs = tt
 
--- src/lib.rt:42:1
 same-length : tie.Need-same-length
 same-length c = search needs
 
--- src/lib.rt:42:1
 returns : tie.Need-returns
 returns c = concluded (c .before .before .before .before .before .before .before .before .before .before .before .before .before .args .stepped .day) (c .before .before .before .before .before .before .before .before .before .before .before .before .before .args .verdict) (c .before .before .before .before .before .before .before .before .before .before .before .before .before .args .answer) (c .before .before .before .before .before .before .before .before .before .before .before .before .before .args .input .now) (c .before .before .before .before .before .before .before .before .before .before .before .before .before .args .out .now) (c .before .before .before .before .before .before .before .before .before .before .before .before .before .args .text .now) _ (c .before .before .before .before .before .before .before .before .before .before .before .before .before .args .at) (c .before .before .before .before .before .before .before .before .before .before .before .before .before .args .stepped .written) _ _ _ _ (c .before .before .before .before .before .before .before .before .least .ensures .2) (c .before .before .before .before .before .before .before .least2 .ensures .2) (c .before .before .before .before .before .before .least3 .ensures .2) (c .before .before .judge .ensures)
 

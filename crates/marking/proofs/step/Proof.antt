@@ -7,51 +7,39 @@ use Rattle.marking.proofs.conclude.Reads as conclude-reads
 use Rattle.script.proofs.step.Reads as step-reads
 use Rattle.marking.proofs.VerdictLaws.{step-marks}
 
--- src/lib.rt:97:9
 slice-aggregate-step : tie.Need-slice-aggregate-step
 slice-aggregate-step c = search needs
 
--- src/lib.rt:88:9
 step-requires : tie.Need-step-requires
 step-requires c κs = tt
 
--- src/lib.rt:100:32
 slice-aggregate-conclude : tie.Need-slice-aggregate-conclude
 slice-aggregate-conclude c = search needs
 
--- src/lib.rt:100:5
 conclude-requires : tie.Need-conclude-requires
 conclude-requires c κs = tt
 
--- src/lib.rt:69:1
 same-length : tie.Need-same-length
 same-length c = search needs
 
--- src/lib.rt:69:1
 same-length-2 : tie.Need-same-length-2
 same-length-2 c = search needs
 
--- src/lib.rt:69:1
 same-length-3 : tie.Need-same-length-3
 same-length-3 c = search needs
 
--- src/lib.rt:69:1
 same-length-4 : tie.Need-same-length-4
 same-length-4 c = search needs
 
--- src/lib.rt:69:1
 same-length-5 : tie.Need-same-length-5
 same-length-5 c = search needs
 
--- src/lib.rt:69:1
 same-length-6 : tie.Need-same-length-6
 same-length-6 c = search needs
 
--- src/lib.rt:69:1
 same-length-7 : tie.Need-same-length-7
 same-length-7 c = search needs
 
--- src/lib.rt:69:1
 returns : tie.Need-returns
 returns c = step-marks _ _ _ _ _ _ _ (c .before .before .before .before .before .before .before .before .before .before .before .before .before .before .before .before .before .before .before .before .before .before .before .before .before .before .before .before .before .before .before .before .before .before .before .args .text .now) _ (c .before .before .before .before .before .before .before .before .before .before .before .before .before .before .before .before .before .before .before .before .before .before .before .before .before .before .before .before .before .before .before .before .before .before .before .args .at) _ _ (c .before .before .before .before .before .before .before .before .before .before .before .before .before .before .before .before .before .before .step .ensures) (c .before .before .conclude .ensures)
 

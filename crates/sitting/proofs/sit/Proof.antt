@@ -10,59 +10,45 @@ use Rattle.sitting.proofs.run.Reads as run-reads
 use mathlib.Core.Path.{refl, sym}
 use Rattle.sitting.proofs.Starting.{ready}
 
--- src/lib.rt:119:20
 blank-disk-requires : tie.Need-blank-disk-requires
 blank-disk-requires c κs = tt
 
--- src/lib.rt:125:21
 blank-text-requires : tie.Need-blank-text-requires
 blank-text-requires c κs = tt
 
--- src/lib.rt:126:21
 blank-bytes-requires : tie.Need-blank-bytes-requires
 blank-bytes-requires c κs = tt
 
--- src/lib.rt:127:20
 blank-text-requires-2 : tie.Need-blank-text-requires-2
 blank-text-requires-2 c κs = tt
 
--- src/lib.rt:130:9
 slice-aggregate-run : tie.Need-slice-aggregate-run
 slice-aggregate-run c = search needs
 
--- src/lib.rt:131:9
 slice-aggregate-run-2 : tie.Need-slice-aggregate-run-2
 slice-aggregate-run-2 c = search needs
 
--- src/lib.rt:132:9
 slice-aggregate-run-3 : tie.Need-slice-aggregate-run-3
 slice-aggregate-run-3 c = search needs
 
--- src/lib.rt:133:9
 slice-aggregate-run-4 : tie.Need-slice-aggregate-run-4
 slice-aggregate-run-4 c = search needs
 
--- src/lib.rt:134:9
 slice-aggregate-run-5 : tie.Need-slice-aggregate-run-5
 slice-aggregate-run-5 c = search needs
 
--- src/lib.rt:135:9
 slice-aggregate-run-6 : tie.Need-slice-aggregate-run-6
 slice-aggregate-run-6 c = search needs
 
--- src/lib.rt:136:9
 slice-aggregate-run-7 : tie.Need-slice-aggregate-run-7
 slice-aggregate-run-7 c = search needs
 
--- src/lib.rt:137:9
 slice-aggregate-run-8 : tie.Need-slice-aggregate-run-8
 slice-aggregate-run-8 c = search needs
 
--- src/lib.rt:138:9
 slice-aggregate-run-9 : tie.Need-slice-aggregate-run-9
 slice-aggregate-run-9 c = search needs
 
--- src/lib.rt:128:5
 run-requires : tie.Need-run-requires
 run-requires c κs =
     ready _
@@ -78,7 +64,6 @@ run-requires c κs =
       text = sym (slice-aggregate-run-9 c);
     })
 
--- src/lib.rt:116:1
 returns : tie.Need-returns
 returns c =
     record {

@@ -8,11 +8,9 @@ use Rattle.tested.proofs.is_sound.Lts as lts
 use Rattle.server.proofs.check.fits_all.Reads as fits-all-reads
 use Rattle.tested.proofs.facts_hold.Reads as facts-hold-reads
 
--- src/lib.rt:66:8
 fits-all-requires : tie.Need-fits-all-requires
 fits-all-requires c κs = search needs
 
--- src/lib.rt:67:9
 facts-hold-requires : tie.Need-facts-hold-requires
 facts-hold-requires c κs =
     let t = both-true _ _ (sym (c .before .fits-all .ensures) ∙ c .if1 .taken) in
@@ -20,11 +18,9 @@ facts-hold-requires c κs =
     let r = room-true _ _ _ _ _ _ _ _ _ _ (t .1) in
     (z .blocks, z .files, r .map, r .owner, r .table)
 
--- src/lib.rt:67:9
 returns : tie.Need-returns
 returns c = rw (← c .before .before .fits-all .ensures, c .before .if1 .taken) (c .facts-hold .ensures)
 
--- src/lib.rt:46:1
 returns-2 : tie.Need-returns-2
 returns-2 c = rw (← c .before .fits-all .ensures, c .if1 .left)
 

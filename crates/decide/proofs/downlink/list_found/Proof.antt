@@ -8,29 +8,23 @@ use Rattle.decide.proofs.downlink.list_found.Reads as reads
 use Rattle.decide.proofs.downlink.list_found.Lts as lts
 use Rattle.table.proofs.get.Reads as get-reads
 
--- src/downlink.rt:102:37
 enum-told : tie.Need-enum-told
 enum-told c = search needs
 
--- src/downlink.rt:103:19
 enum-known-found : tie.Need-enum-known-found
 enum-known-found c = search needs
 
--- src/downlink.rt:104:17
 get-requires : tie.Need-get-requires
 get-requires c κs = search needs
 
--- src/downlink.rt:106:17
 returns : tie.Need-returns
 unfolding listFound
 returns c = rw (c .before .before .before .before .found .given .1, ← c .before .before .get .ensures, eq-eqb _ _ (c .if1 .taken))
 
--- src/downlink.rt:98:1
 returns-2 : tie.Need-returns-2
 unfolding listFound
 returns-2 c = rw (c .enum-told .given .1)
 
--- src/downlink.rt:98:1
 returns-3 : tie.Need-returns-3
 unfolding listFound
 returns-3 c = rw (c .before .before .before .before .found .given .1, ← c .before .before .get .ensures, ne-eqb _ _ (c .if1 .left))

@@ -10,29 +10,23 @@ use Rattle.decide.proofs.downlink.list_found.Reads as list-found-reads
 use Rattle.decide.proofs.downlink.ten_from.Reads as ten-from-reads
 use Rattle.table.proofs.find.Reads as find-reads
 
--- src/downlink.rt:119:60
 ten-from-requires : tie.Need-ten-from-requires
 ten-from-requires c κs = search needs
 
--- src/downlink.rt:119:13
 returns : tie.Need-returns
 unfolding listNumbered
 returns c = rw (eq-eqb _ _ (c .before .before .if1 .taken), lt-ltb _ _ (c .before .if2 .taken), ← c .ten-from .ensures)
 
--- src/downlink.rt:121:9
 returns-2 : tie.Need-returns-2
 unfolding listNumbered
 returns-2 c = rw (eq-eqb _ _ (c .before .if1 .taken), le-ltb _ _ (c .if2 .left))
 
--- src/downlink.rt:123:9
 find-requires : tie.Need-find-requires
 find-requires c κs = search needs
 
--- src/downlink.rt:124:5
 list-found-requires : tie.Need-list-found-requires
 list-found-requires c κs = search needs
 
--- src/downlink.rt:114:1
 returns-3 : tie.Need-returns-3
 unfolding listNumbered
 returns-3 c = rw (← c .before .find .ensures, ne-eqb _ _ (c .before .before .if1 .left)) (c .list-found .ensures)

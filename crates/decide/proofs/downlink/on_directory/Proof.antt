@@ -9,20 +9,16 @@ use Rattle.decide.proofs.downlink.on_directory.Lts as lts
 use Rattle.decide.proofs.downlink.list_numbered.Reads as list-numbered-reads
 use Rattle.decide.proofs.uplink.word.Reads as word-reads
 
--- src/downlink.rt:140:9
 returns : tie.Need-returns
 unfolding onDirectory
 returns c = rw (ne-eqb _ _ (c .if1 .taken))
 
--- src/downlink.rt:142:9
 word-requires : tie.Need-word-requires
 word-requires c κs = search needs
 
--- src/downlink.rt:143:5
 list-numbered-requires : tie.Need-list-numbered-requires
 list-numbered-requires c κs = search needs
 
--- src/downlink.rt:128:1
 returns-2 : tie.Need-returns-2
 unfolding onDirectory
 returns-2 c = rw (eq-eqb _ _ (c .before .before .if1 .left), ← c .before .word .ensures) (c .list-numbered .ensures)

@@ -5,71 +5,54 @@ use Rattle.header.proofs.fields.name_row.Reads as reads
 use Rattle.header.proofs.fields.name_row.Lts as lts
 use Rattle.numbers.proofs.hex_digit.Reads as hex-digit-reads
 
--- src/fields.rt:46:23
 cast-hex-digit : tie.Need-cast-hex-digit
 cast-hex-digit c = search needs
 
--- src/fields.rt:46:13
 hex-digit-requires : tie.Need-hex-digit-requires
 hex-digit-requires c κs = search needs
 
--- src/fields.rt:47:23
 cast-hex-digit-2 : tie.Need-cast-hex-digit-2
 cast-hex-digit-2 c = search needs
 
--- src/fields.rt:47:13
 hex-digit-requires-2 : tie.Need-hex-digit-requires-2
 hex-digit-requires-2 c κs = search needs
 
--- src/fields.rt:48:23
 cast-hex-digit-3 : tie.Need-cast-hex-digit-3
 cast-hex-digit-3 c = search needs
 
--- src/fields.rt:48:13
 hex-digit-requires-3 : tie.Need-hex-digit-requires-3
 hex-digit-requires-3 c κs = search needs
 
--- src/fields.rt:49:23
 cast-hex-digit-4 : tie.Need-cast-hex-digit-4
 cast-hex-digit-4 c = search needs
 
--- src/fields.rt:49:13
 hex-digit-requires-4 : tie.Need-hex-digit-requires-4
 hex-digit-requires-4 c κs = search needs
 
--- src/fields.rt:50:23
 cast-hex-digit-5 : tie.Need-cast-hex-digit-5
 cast-hex-digit-5 c = search needs
 
--- src/fields.rt:50:13
 hex-digit-requires-5 : tie.Need-hex-digit-requires-5
 hex-digit-requires-5 c κs = search needs
 
--- src/fields.rt:51:23
 cast-hex-digit-6 : tie.Need-cast-hex-digit-6
 cast-hex-digit-6 c = search needs
 
--- src/fields.rt:51:13
 hex-digit-requires-6 : tie.Need-hex-digit-requires-6
 hex-digit-requires-6 c κs = search needs
 
--- src/fields.rt:52:23
 cast-hex-digit-7 : tie.Need-cast-hex-digit-7
 cast-hex-digit-7 c = search needs
 
--- src/fields.rt:52:13
 hex-digit-requires-7 : tie.Need-hex-digit-requires-7
 hex-digit-requires-7 c κs = search needs
 
--- src/fields.rt:53:23
 cast-hex-digit-8 : tie.Need-cast-hex-digit-8
 cast-hex-digit-8 c = search needs
 
--- src/fields.rt:53:13
 hex-digit-requires-8 : tie.Need-hex-digit-requires-8
 hex-digit-requires-8 c κs = search needs
 
--- src/fields.rt:39:1
 returns : tie.Need-returns
 returns c =
     rw (

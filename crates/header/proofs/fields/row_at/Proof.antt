@@ -11,43 +11,34 @@ use Rattle.header.proofs.fields.row_at.Lts as lts
 use Rattle.header.proofs.fields.name_row.Reads as name-row-reads
 use Rattle.header.proofs.fields.number_row.Reads as number-row-reads
 
--- src/fields.rt:64:9
 number-row-requires : tie.Need-number-row-requires
 number-row-requires c κs = search needs
 
--- src/fields.rt:64:9
 returns : tie.Need-returns
 unfolding rowAt placeIn before listed lengthIn
 returns c = rw (c .before .if1 .taken) (c .number-row .ensures)
 
--- src/fields.rt:67:9
 name-row-requires : tie.Need-name-row-requires
 name-row-requires c κs = search needs
 
--- src/fields.rt:67:9
 returns-2 : tie.Need-returns-2
 unfolding rowAt placeIn before listed lengthIn
 returns-2 c = rw (c .before .if2 .taken) (c .name-row .ensures)
 
--- src/fields.rt:70:9
 number-row-requires-2 : tie.Need-number-row-requires-2
 number-row-requires-2 c κs = search needs
 
--- src/fields.rt:70:9
 returns-3 : tie.Need-returns-3
 unfolding rowAt placeIn before listed lengthIn
 returns-3 c = rw (c .before .if3 .taken) (c .number-row2 .ensures)
 
--- src/fields.rt:73:9
 number-row-requires-3 : tie.Need-number-row-requires-3
 number-row-requires-3 c κs = search needs
 
--- src/fields.rt:73:9
 returns-4 : tie.Need-returns-4
 unfolding rowAt placeIn before listed lengthIn
 returns-4 c = rw (c .before .if4 .taken) (c .number-row3 .ensures)
 
--- src/fields.rt:60:1
 returns-5 : tie.Need-returns-5
 returns-5 c =
     let a = c .before .before .before .before .args in

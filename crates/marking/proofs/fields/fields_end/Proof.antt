@@ -18,71 +18,54 @@ Inv-loop line further left₀ at₀ left at = (at ≤ length line) × (at + fiel
 abbrev μ-loop : tie.MeasureT-loop
 μ-loop line further left₀ at₀ left at = left
 
--- src/fields.rt:101:5
 loop-holds : tie.Need-loop-holds Inv-loop μ-loop
 loop-holds c = (omega arith, omega arith)
 
--- src/fields.rt:102:33
 sub-near-tab : tie.Need-sub-near-tab Inv-loop μ-loop
 sub-near-tab c = search needs
 
--- src/fields.rt:102:33
 part-near-tab-start : tie.Need-part-near-tab-start Inv-loop μ-loop
 part-near-tab-start c = search needs
 
--- src/fields.rt:102:33
 part-near-tab-end : tie.Need-part-near-tab-end Inv-loop μ-loop
 part-near-tab-end c = search needs
 
--- src/fields.rt:102:24
 near-tab-requires : tie.Need-near-tab-requires Inv-loop μ-loop
 near-tab-requires c κs = tt
 
--- src/fields.rt:102:19
 add-end : tie.Need-add-end Inv-loop μ-loop
 add-end c = let l = c .before .before .before .loop in omega (arith, field-most (c .before .before .before .before .before .args .line .now) (l .at) (l .left) (c .near-tab .result) (l .inv .0) (c .near-tab .ensures))
 
--- src/fields.rt:104:13
 returns : tie.Need-returns Inv-loop μ-loop
 returns c = let l = c .before .before .before .before .loop in ends-here (c .before .before .before .before .before .before .args .line .now) (l .at) (l .left) (c .before .near-tab .result) (l .inv .0) (c .before .near-tab .ensures) _ refl (c .if1 .taken) ∙ l .inv .1
 
--- src/fields.rt:106:9
 sub-left : tie.Need-sub-left Inv-loop μ-loop
 sub-left c = omega arith
 
--- src/fields.rt:107:14
 add-at : tie.Need-add-at Inv-loop μ-loop
 add-at c = omega arith
 
--- src/fields.rt:101:5
 loop-less : tie.Need-loop-less Inv-loop μ-loop
 loop-less c = omega arith
 
--- src/fields.rt:101:5
 loop-again : tie.Need-loop-again Inv-loop μ-loop
 loop-again c = let l = c .before .before .before .before .loop in (omega arith, field-on (c .before .before .before .before .before .before .args .line .now) (l .at) (l .left) (c .before .near-tab .result) (l .inv .0) (c .before .near-tab .ensures) _ refl (omega arith) (omega arith) ∙ l .inv .1)
 
--- src/fields.rt:109:18
 sub-far-tab : tie.Need-sub-far-tab Inv-loop μ-loop
 sub-far-tab c = search needs
 
--- src/fields.rt:109:18
 part-far-tab-start : tie.Need-part-far-tab-start Inv-loop μ-loop
 part-far-tab-start c = search needs
 
--- src/fields.rt:109:18
 part-far-tab-end : tie.Need-part-far-tab-end Inv-loop μ-loop
 part-far-tab-end c = search needs
 
--- src/fields.rt:109:10
 far-tab-requires : tie.Need-far-tab-requires Inv-loop μ-loop
 far-tab-requires c κs = tt
 
--- src/fields.rt:109:5
 add-result : tie.Need-add-result Inv-loop μ-loop
 add-result c = let l = c .before .before .before .loop in omega (arith, field-most (c .before .before .before .before .before .args .line .now) (l .at) (l .left) (c .far-tab .result) (l .inv .0) (c .far-tab .ensures))
 
--- src/fields.rt:96:1
 returns-2 : tie.Need-returns-2 Inv-loop μ-loop
 returns-2 c = let l = c .before .before .before .loop in field-last (c .before .before .before .before .before .args .line .now) (l .at) (l .left) (c .far-tab .result) (l .inv .0) (c .far-tab .ensures) _ refl (omega arith) ∙ l .inv .1
 

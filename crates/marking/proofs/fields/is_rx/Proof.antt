@@ -11,23 +11,18 @@ use lib.Seq.{length-take-le}
 use Rattle.packet.specs.Names.{bytesOf}
 use Rattle.marking.proofs.FieldLaws.{end-most, first-field}
 
--- src/fields.rt:51:9
 near-tab-requires : tie.Need-near-tab-requires
 near-tab-requires c κs = tt
 
--- src/fields.rt:52:13
 slice-aggregate-is-same : tie.Need-slice-aggregate-is-same
 slice-aggregate-is-same c = sym (length-take-le (c .before .near-tab .result) (c .before .before .before .args .line .now) (omega (arith, c .before .near-tab .ensures, end-most 0 (c .before .before .before .args .line .now))))
 
--- src/fields.rt:52:27
 slice-aggregate-is-same-2 : tie.Need-slice-aggregate-is-same-2
 slice-aggregate-is-same-2 c = search needs
 
--- src/fields.rt:52:5
 is-same-requires : tie.Need-is-same-requires
 is-same-requires c κs = tt
 
--- src/fields.rt:48:1
 returns : tie.Need-returns
 unfolding bytesOf
 returns c = first-field (c .before .before .before .before .before .args .line .now) _ _ (c .before .before .before .near-tab .ensures) (c .is-same .ensures)

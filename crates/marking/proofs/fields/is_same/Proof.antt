@@ -20,31 +20,24 @@ Inv-loop x y equal₀ i₀ equal i = (i ≤ length x) × (length x ≡ length y)
 abbrev μ-loop : tie.MeasureT-loop
 μ-loop x y equal₀ i₀ equal i = length x - i
 
--- src/fields.rt:12:9
 returns : tie.Need-returns Inv-loop μ-loop
 returns c = sym (same-lengths (c .before .args .x .now) (c .before .args .y .now) (c .if1 .taken))
 
--- src/fields.rt:16:5
 loop-holds : tie.Need-loop-holds Inv-loop μ-loop
 loop-holds c = (omega arith, c .if1 .left, refl)
 
--- src/fields.rt:17:12
 shared-slice-read-if2 : tie.Need-shared-slice-read-if2 Inv-loop μ-loop
 shared-slice-read-if2 c = omega arith
 
--- src/fields.rt:17:20
 shared-slice-read-if2-2 : tie.Need-shared-slice-read-if2-2 Inv-loop μ-loop
 shared-slice-read-if2-2 c = omega arith
 
--- src/fields.rt:18:13
 add-i : tie.Need-add-i Inv-loop μ-loop
 add-i c = omega arith
 
--- src/fields.rt:16:5
 loop-less : tie.Need-loop-less Inv-loop μ-loop
 loop-less c = omega arith
 
--- src/fields.rt:16:5
 loop-again : tie.Need-loop-again Inv-loop μ-loop
 loop-again c = let l = c .before .before .before .before .loop in (
   omega arith,
@@ -52,15 +45,12 @@ loop-again c = let l = c .before .before .before .before .loop in (
   ap (λ (b : Bool). cond (l .equal) b false) (same-next (c .before .before .before .before .before .before .args .x .now) (c .before .before .before .before .before .before .args .y .now) (l .i) (omega arith) (omega arith) (c .if2 .taken)) ∙ l .inv .2,
 )
 
--- src/fields.rt:21:13
 add-i-2 : tie.Need-add-i-2 Inv-loop μ-loop
 add-i-2 c = omega arith
 
--- src/fields.rt:16:5
 loop-less-2 : tie.Need-loop-less-2 Inv-loop μ-loop
 loop-less-2 c = omega arith
 
--- src/fields.rt:16:5
 loop-again-2 : tie.Need-loop-again-2 Inv-loop μ-loop
 loop-again-2 c = let l = c .before .before .before .before .loop in (
   omega arith,
@@ -68,7 +58,6 @@ loop-again-2 c = let l = c .before .before .before .before .loop in (
   sym (ap (λ (b : Bool). cond (l .equal) b false) (same-stop (c .before .before .before .before .before .before .args .x .now) (c .before .before .before .before .before .before .args .y .now) (l .i) (omega arith) (omega arith) (c .if2 .left)) ∙ either (l .equal) false) ∙ l .inv .2,
 )
 
--- src/fields.rt:8:1
 returns-2 : tie.Need-returns-2 Inv-loop μ-loop
 returns-2 c = let l = c .before .loop in told (l .equal) ∙ sym (ap (λ (b : Bool). cond (l .equal) b false) (same-end (c .before .before .before .args .x .now) (c .before .before .before .args .y .now) (l .i) (omega arith) (omega arith))) ∙ l .inv .2
 

@@ -7,35 +7,27 @@ use Rattle.marking.proofs.fields.fields_end.Reads as fields-end-reads
 use Rattle.marking.proofs.fields.is_rx.Reads as is-rx-reads
 use Rattle.marking.proofs.FieldLaws.{script-rx, script-other, script-all}
 
--- src/fields.rt:61:16
 enum-told : tie.Need-enum-told
 enum-told c = search needs
 
--- src/fields.rt:61:16
 is-rx-requires : tie.Need-is-rx-requires
 is-rx-requires c κs = tt
 
--- src/fields.rt:62:17
 fields-end-requires : tie.Need-fields-end-requires
 fields-end-requires c κs = tt
 
--- src/fields.rt:62:17
 returns : tie.Need-returns
 returns c = script-rx _ (c .before .before .before .before .before .before .args .line .now) _ _ (c .before .before .before .enum-told .given .1) (c .before .before .is-rx .ensures) (c .before .if1 .taken) (c .fields-end .ensures)
 
--- src/fields.rt:64:13
 fields-end-requires-2 : tie.Need-fields-end-requires-2
 fields-end-requires-2 c κs = tt
 
--- src/fields.rt:66:24
 enum-told-2 : tie.Need-enum-told-2
 enum-told-2 c = search needs
 
--- src/fields.rt:56:1
 returns-2 : tie.Need-returns-2
 returns-2 c = script-other _ (c .before .before .before .before .before .before .args .line .now) _ _ (c .before .before .before .enum-told .given .1) (c .before .before .is-rx .ensures) (c .before .if1 .left) (c .fields-end2 .ensures)
 
--- src/fields.rt:56:1
 returns-3 : tie.Need-returns-3
 returns-3 c = script-all _ (c .before .before .before .args .line .now) (c .enum-told2 .given .1)
 

@@ -10,60 +10,48 @@ use mathlib.Core.List.{List, _++_}
 use lib.ListN.{length, length-append}
 use Rattle.marking.proofs.PutLaws.{put-none, put-fits}
 
--- src/put.rt:30:9
 least-requires : tie.Need-least-requires
 least-requires c κs = tt
 
--- src/put.rt:31:16
 sub-room : tie.Need-sub-room
 sub-room c = search needs
 
--- src/put.rt:33:9
 returns : tie.Need-returns
 returns c =
     let a = c .before .before .before .before .before .before .args in
     put-none (a .at) _ (a .first .now ++ (a .second .now ++ a .third .now)) (a .text .now) (c .before .least .ensures .2)
     (omega (arith, length-append (a .first .now) (a .second .now ++ a .third .now), length-append (a .second .now) (a .third .now)))
 
--- src/put.rt:35:17
 sub-after : tie.Need-sub-after
 sub-after c = search needs
 
--- src/put.rt:37:9
 returns-2 : tie.Need-returns-2
 returns-2 c =
     let a = c .before .before .before .before .before .before .before .args in
     put-none (a .at) _ (a .first .now ++ (a .second .now ++ a .third .now)) (a .text .now) (c .before .before .least .ensures .2)
     (omega (arith, length-append (a .first .now) (a .second .now ++ a .third .now), length-append (a .second .now) (a .third .now)))
 
--- src/put.rt:39:8
 sub-if3 : tie.Need-sub-if3
 sub-if3 c = search needs
 
--- src/put.rt:40:9
 returns-3 : tie.Need-returns-3
 returns-3 c =
     let a = c .before .before .before .before .before .before .before .before .args in
     put-none (a .at) _ (a .first .now ++ (a .second .now ++ a .third .now)) (a .text .now) (c .before .before .before .least .ensures .2)
     (omega (arith, length-append (a .first .now) (a .second .now ++ a .third .now), length-append (a .second .now) (a .third .now)))
 
--- src/put.rt:42:5
 put-pieces-requires : tie.Need-put-pieces-requires
 put-pieces-requires c κs = search needs
 
--- src/put.rt:43:5
 add-result : tie.Need-add-result
 add-result c = search needs
 
--- src/put.rt:43:5
 add-result-2 : tie.Need-add-result-2
 add-result-2 c = search needs
 
--- src/put.rt:27:1
 same-length : tie.Need-same-length
 same-length c = search needs
 
--- src/put.rt:27:1
 returns-4 : tie.Need-returns-4
 returns-4 c =
     let a = c .before .before .before .before .before .before .before .before .before .before .before .before .args in

@@ -8,52 +8,40 @@ use Rattle.marking.proofs.put.put_number.Reads as put-number-reads
 use Rattle.packet.specs.Names.{bytesOf}
 use Rattle.marking.proofs.PutLaws.{marks-put, none-put, line-put}
 
--- src/put.rt:62:34
 enum-told : tie.Need-enum-told
 enum-told c = search needs
 
--- src/put.rt:62:34
 slice-aggregate-put-number : tie.Need-slice-aggregate-put-number
 slice-aggregate-put-number c = search needs
 
--- src/put.rt:62:23
 put-number-requires : tie.Need-put-number-requires
 put-number-requires c κs = tt
 
--- src/put.rt:63:28
 enum-told-2 : tie.Need-enum-told-2
 enum-told-2 c = search needs
 
--- src/put.rt:63:28
 slice-aggregate-put : tie.Need-slice-aggregate-put
 slice-aggregate-put c = search needs
 
--- src/put.rt:63:33
 slice-aggregate-put-2 : tie.Need-slice-aggregate-put-2
 slice-aggregate-put-2 c = search needs
 
--- src/put.rt:63:38
 slice-aggregate-put-3 : tie.Need-slice-aggregate-put-3
 slice-aggregate-put-3 c = search needs
 
--- src/put.rt:63:24
 put-requires : tie.Need-put-requires
 put-requires c κs = tt
 
--- src/put.rt:58:1
 same-length : tie.Need-same-length
 same-length c = search needs
 
--- src/put.rt:58:1
 returns : tie.Need-returns
 unfolding bytesOf
 returns c = line-put (c .before .before .before .before .before .before .before .before .args .at) _ _ _ (c .before .before .before .before .before .before .before .before .args .text .now) _ (marks-put (c .before .before .before .before .before .before .before .before .args .kind) (c .before .before .before .before .before .before .before .before .args .right) (c .before .before .before .before .before .enum-told .given .1)) (c .before .before .put-number .ensures)
 
--- src/put.rt:58:1
 same-length-2 : tie.Need-same-length-2
 same-length-2 c = search needs
 
--- src/put.rt:58:1
 returns-2 : tie.Need-returns-2
 unfolding bytesOf
 returns-2 c = line-put (c .before .before .before .before .before .before .before .before .before .before .args .at) _ _ _ (c .before .before .before .before .before .before .before .before .before .before .args .text .now) _ (none-put (c .before .before .before .before .before .before .before .before .before .before .args .kind) (c .before .before .before .before .before .before .before .before .before .before .args .right) (c .before .before .before .before .before .before .before .enum-told2 .given .1)) (c .before .before .put .ensures)

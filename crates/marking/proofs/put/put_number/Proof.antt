@@ -9,47 +9,36 @@ use Rattle.marking.proofs.put.put.Reads as put-reads
 use native.Mathlib.Omega.{arith}
 use Rattle.marking.proofs.PutLaws.{number-put}
 
--- src/put.rt:51:42
 slice-aggregate-error-line : tie.Need-slice-aggregate-error-line
 slice-aggregate-error-line c = search needs
 
--- src/put.rt:51:9
 error-line-requires : tie.Need-error-line-requires
 error-line-requires c κs = tt
 
--- src/put.rt:52:9
 least-requires : tie.Need-least-requires
 least-requires c κs = tt
 
--- src/put.rt:53:9
 least-requires-2 : tie.Need-least-requires-2
 least-requires-2 c κs = tt
 
--- src/put.rt:54:15
 sub-put : tie.Need-sub-put
 sub-put c = search needs
 
--- src/put.rt:54:15
 part-put-start : tie.Need-part-put-start
 part-put-start c = search needs
 
--- src/put.rt:54:15
 part-put-end : tie.Need-part-put-end
 part-put-end c = search needs
 
--- src/put.rt:54:34
 slice-aggregate-put : tie.Need-slice-aggregate-put
 slice-aggregate-put c = search needs
 
--- src/put.rt:54:5
 put-requires : tie.Need-put-requires
 put-requires c κs = tt
 
--- src/put.rt:47:1
 same-length : tie.Need-same-length
 same-length c = search needs
 
--- src/put.rt:47:1
 returns : tie.Need-returns
 returns c = number-put (c .before .before .before .before .before .before .before .before .before .before .before .before .before .before .args .word .now) (c .before .before .before .before .before .before .before .before .before .before .before .before .before .before .args .text .now) _ _ (c .before .before .before .before .before .before .before .before .before .before .before .before .before .before .args .at) (c .before .before .before .before .before .before .before .before .before .before .before .before .before .before .args .number) _ _ _ _ (omega arith) (c .before .before .before .before .before .before .before .before .before .before .error-line .ensures) (c .before .before .before .before .before .before .before .before .least .ensures .2) (c .before .before .before .before .before .before .before .least2 .ensures .2) (c .before .before .put .ensures)
 

@@ -9,31 +9,24 @@ use mathlib.Core.Path.{refl}
 use Prim.Native.Nat.{_+_}
 use lib.ListN.{length}
 
--- src/put.rt:20:18
 add-middle : tie.Need-add-middle
 add-middle c = search needs
 
--- src/put.rt:21:5
 store-requires : tie.Need-store-requires
 store-requires c κs = tt
 
--- src/put.rt:22:5
 store-requires-2 : tie.Need-store-requires-2
 store-requires-2 c κs = tt
 
--- src/put.rt:23:17
 add-store : tie.Need-add-store
 add-store c = search needs
 
--- src/put.rt:23:5
 store-requires-3 : tie.Need-store-requires-3
 store-requires-3 c κs = tt
 
--- src/put.rt:16:1
 same-length : tie.Need-same-length
 same-length c = search needs
 
--- src/put.rt:16:1
 returns : tie.Need-returns
 returns c =
     let a = c .before .before .before .before .before .before .before .before .before .before .before .before .before .before .before .before .args in

@@ -7,44 +7,34 @@ use Rattle.marking.proofs.put.put_number.Reads as put-number-reads
 use Rattle.packet.specs.Names.{bytesOf}
 use Rattle.marking.proofs.PutLaws.{refused-put, error-put, line-put}
 
--- src/put.rt:72:34
 enum-told : tie.Need-enum-told
 enum-told c = search needs
 
--- src/put.rt:72:34
 slice-aggregate-put-number : tie.Need-slice-aggregate-put-number
 slice-aggregate-put-number c = search needs
 
--- src/put.rt:72:23
 put-number-requires : tie.Need-put-number-requires
 put-number-requires c κs = tt
 
--- src/put.rt:73:35
 enum-told-2 : tie.Need-enum-told-2
 enum-told-2 c = search needs
 
--- src/put.rt:73:35
 slice-aggregate-put-number-2 : tie.Need-slice-aggregate-put-number-2
 slice-aggregate-put-number-2 c = search needs
 
--- src/put.rt:73:24
 put-number-requires-2 : tie.Need-put-number-requires-2
 put-number-requires-2 c κs = tt
 
--- src/put.rt:68:1
 same-length : tie.Need-same-length
 same-length c = search needs
 
--- src/put.rt:68:1
 returns : tie.Need-returns
 unfolding bytesOf
 returns c = line-put (c .before .before .before .before .before .before .before .before .args .at) _ _ _ (c .before .before .before .before .before .before .before .before .args .text .now) _ (refused-put (c .before .before .before .before .before .before .before .before .args .kind) (c .before .before .before .before .before .before .before .before .args .number) (c .before .before .before .before .before .enum-told .given .1)) (c .before .before .put-number .ensures)
 
--- src/put.rt:68:1
 same-length-2 : tie.Need-same-length-2
 same-length-2 c = search needs
 
--- src/put.rt:68:1
 returns-2 : tie.Need-returns-2
 unfolding bytesOf
 returns-2 c = line-put (c .before .before .before .before .before .before .before .before .args .at) _ _ _ (c .before .before .before .before .before .before .before .before .args .text .now) _ (error-put (c .before .before .before .before .before .before .before .before .args .kind) (c .before .before .before .before .before .before .before .before .args .number) (c .before .before .before .before .before .enum-told2 .given .1)) (c .before .before .put-number2 .ensures)

@@ -7,39 +7,30 @@ use Rattle.input.proofs.parts.least.Reads as least-reads
 use Rattle.marking.proofs.fields.is_same.Reads as is-same-reads
 use Rattle.marking.proofs.VerdictLaws.{agrees-short, agrees-part}
 
--- src/verdict.rt:38:9
 least-requires : tie.Need-least-requires
 least-requires c κs = tt
 
--- src/verdict.rt:39:8
 sub-if1 : tie.Need-sub-if1
 sub-if1 c = search needs
 
--- src/verdict.rt:40:9
 returns : tie.Need-returns
 returns c = agrees-short (c .before .before .before .before .args .at) _ (c .before .before .before .before .args .answer .now) (c .before .before .before .before .args .part .now) (c .before .least .ensures .2) (c .if1 .taken)
 
--- src/verdict.rt:42:34
 add-is-same : tie.Need-add-is-same
 add-is-same c = search needs
 
--- src/verdict.rt:42:19
 sub-is-same : tie.Need-sub-is-same
 sub-is-same c = search needs
 
--- src/verdict.rt:42:19
 part-is-same-start : tie.Need-part-is-same-start
 part-is-same-start c = search needs
 
--- src/verdict.rt:42:19
 part-is-same-end : tie.Need-part-is-same-end
 part-is-same-end c = search needs
 
--- src/verdict.rt:42:5
 is-same-requires : tie.Need-is-same-requires
 is-same-requires c κs = tt
 
--- src/verdict.rt:35:1
 returns-2 : tie.Need-returns-2
 returns-2 c = agrees-part (c .before .before .before .before .before .before .args .at) _ (c .before .before .before .before .before .before .args .answer .now) (c .before .before .before .before .before .before .args .part .now) (c .before .before .before .least .ensures .2) _ (c .is-same .ensures)
 

@@ -6,35 +6,27 @@ use Rattle.marking.proofs.verdict.begin.Lts as lts
 use Rattle.marking.proofs.put.put.Reads as put-reads
 use Rattle.marking.proofs.VerdictLaws.{begun-desk, begun-sheet}
 
--- src/verdict.rt:104:22
 enum-told : tie.Need-enum-told
 enum-told c = search needs
 
--- src/verdict.rt:108:22
 enum-told-2 : tie.Need-enum-told-2
 enum-told-2 c = search needs
 
--- src/verdict.rt:109:26
 slice-aggregate-put : tie.Need-slice-aggregate-put
 slice-aggregate-put c = search needs
 
--- src/verdict.rt:109:31
 slice-aggregate-put-2 : tie.Need-slice-aggregate-put-2
 slice-aggregate-put-2 c = search needs
 
--- src/verdict.rt:109:22
 put-requires : tie.Need-put-requires
 put-requires c κs = tt
 
--- src/verdict.rt:99:1
 returns : tie.Need-returns
 returns c = begun-desk (c .before .before .before .before .args .kind) (c .before .before .before .before .args .line .now) (c .before .before .before .before .args .text .now) (c .before .before .before .before .args .at) (c .enum-told .given .1)
 
--- src/verdict.rt:99:1
 same-length : tie.Need-same-length
 same-length c = search needs
 
--- src/verdict.rt:99:1
 returns-2 : tie.Need-returns-2
 returns-2 c = begun-sheet (c .before .before .before .before .before .before .before .before .before .before .args .kind) (c .before .before .before .before .before .before .before .before .before .before .args .line .now) (c .before .before .before .before .before .before .before .before .before .before .args .text .now) _ (c .before .before .before .before .before .before .before .before .before .before .args .at) _ (c .before .before .before .before .before .before .enum-told2 .given .1) (c .before .before .put .ensures)
 

@@ -7,55 +7,42 @@ use Rattle.marking.proofs.put.put.Reads as put-reads
 use Rattle.marking.proofs.verdict.tell.Reads as tell-reads
 use Rattle.marking.proofs.VerdictLaws.{finish-rest, finish-open, finish-told}
 
--- src/verdict.rt:136:26
 enum-told : tie.Need-enum-told
 enum-told c = search needs
 
--- src/verdict.rt:140:23
 enum-known-verdict : tie.Need-enum-known-verdict
 enum-known-verdict c = search needs
 
--- src/verdict.rt:140:35
 tell-requires : tie.Need-tell-requires
 tell-requires c κs = tt
 
--- src/verdict.rt:143:26
 enum-told-2 : tie.Need-enum-told-2
 enum-told-2 c = search needs
 
--- src/verdict.rt:143:26
 slice-aggregate-put : tie.Need-slice-aggregate-put
 slice-aggregate-put c = search needs
 
--- src/verdict.rt:143:31
 slice-aggregate-put-2 : tie.Need-slice-aggregate-put-2
 slice-aggregate-put-2 c = search needs
 
--- src/verdict.rt:143:36
 slice-aggregate-put-3 : tie.Need-slice-aggregate-put-3
 slice-aggregate-put-3 c = search needs
 
--- src/verdict.rt:143:22
 put-requires : tie.Need-put-requires
 put-requires c κs = tt
 
--- src/verdict.rt:132:1
 returns : tie.Need-returns
 returns c = finish-rest (c .before .before .before .before .args .verdict) (c .before .before .before .before .args .answer .now) (c .before .before .before .before .args .text .now) (c .before .before .before .before .args .at) (c .enum-told .given .1)
 
--- src/verdict.rt:132:1
 same-length : tie.Need-same-length
 same-length c = search needs
 
--- src/verdict.rt:132:1
 returns-2 : tie.Need-returns-2
 returns-2 c = finish-open (c .before .before .before .before .before .before .before .before .before .args .verdict) (c .before .before .before .before .before .before .before .before .before .args .answer .now) (c .before .before .before .before .before .before .before .before .before .args .text .now) _ (c .before .before .before .before .before .before .before .before .before .args .at) _ _ (c .before .before .before .before .before .verdict .given .1) (c .before .before .tell .ensures)
 
--- src/verdict.rt:132:1
 same-length-2 : tie.Need-same-length-2
 same-length-2 c = search needs
 
--- src/verdict.rt:132:1
 returns-3 : tie.Need-returns-3
 returns-3 c = finish-told (c .before .before .before .before .before .before .before .before .before .before .before .args .verdict) (c .before .before .before .before .before .before .before .before .before .before .before .args .answer .now) (c .before .before .before .before .before .before .before .before .before .before .before .args .text .now) _ (c .before .before .before .before .before .before .before .before .before .before .before .args .at) _ (c .before .before .before .before .before .before .before .enum-told2 .given .1) (c .before .before .put .ensures)
 

@@ -12,39 +12,30 @@ use lib.Seq.{length-take-le}
 use Rattle.packet.specs.Names.{bytesOf}
 use Rattle.marking.proofs.VerdictLaws.{open-on, open-told}
 
--- src/verdict.rt:49:8
 agrees-at-requires : tie.Need-agrees-at-requires
 agrees-at-requires c κs = tt
 
--- src/verdict.rt:51:36
 wrapping-add-usize-requires : tie.Need-wrapping-add-usize-requires
 wrapping-add-usize-requires c κs = tt
 
--- src/verdict.rt:50:9
 returns : tie.Need-returns
 returns c = open-on (c .before .before .before .before .before .before .args .matched) (c .before .before .before .before .before .before .args .at) (c .before .before .before .before .before .before .args .answer .now) (c .before .before .before .before .before .before .args .part .now) (c .before .before .before .before .before .before .args .text .now) _ (c .before .before .agrees-at .ensures) _ (c .before .if1 .taken) (c .wrapping-add-usize .ensures)
 
--- src/verdict.rt:55:9
 least-requires : tie.Need-least-requires
 least-requires c κs = tt
 
--- src/verdict.rt:58:22
 slice-aggregate-put : tie.Need-slice-aggregate-put
 slice-aggregate-put c = search needs
 
--- src/verdict.rt:58:32
 slice-aggregate-put-2 : tie.Need-slice-aggregate-put-2
 slice-aggregate-put-2 c = sym (length-take-le (c .before .before .least .result) (c .before .before .before .before .before .before .before .before .args .answer .now) (c .before .before .least .ensures .1))
 
--- src/verdict.rt:58:18
 put-requires : tie.Need-put-requires
 put-requires c κs = tt
 
--- src/verdict.rt:46:1
 same-length : tie.Need-same-length
 same-length c = search needs
 
--- src/verdict.rt:46:1
 returns-2 : tie.Need-returns-2
 unfolding bytesOf
 returns-2 c = open-told (c .before .before .before .before .before .before .before .before .before .before .before .before .args .matched) (c .before .before .before .before .before .before .before .before .before .before .before .before .args .at) (c .before .before .before .before .before .before .before .before .before .before .before .before .args .answer .now) (c .before .before .before .before .before .before .before .before .before .before .before .before .args .part .now) (c .before .before .before .before .before .before .before .before .before .before .before .before .args .text .now) _ (c .before .before .before .before .before .before .before .before .agrees-at .ensures) _ _ _ (c .before .before .before .before .before .before .before .if1 .left) (c .before .before .before .before .before .before .least .ensures .2) (c .before .before .put .ensures)

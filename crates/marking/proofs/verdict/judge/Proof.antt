@@ -9,43 +9,33 @@ use Rattle.marking.proofs.verdict.judge_part.Reads as judge-part-reads
 use Rattle.marking.proofs.verdict.tail_end.Reads as tail-end-reads
 use Rattle.marking.proofs.VerdictLaws.{line-judged}
 
--- src/verdict.rt:93:21
 tail-end-requires : tie.Need-tail-end-requires
 tail-end-requires c κs = tt
 
--- src/verdict.rt:93:9
 least-requires : tie.Need-least-requires
 least-requires c κs = tt
 
--- src/verdict.rt:94:23
 near-tab-requires : tie.Need-near-tab-requires
 near-tab-requires c κs = tt
 
--- src/verdict.rt:94:9
 least-requires-2 : tie.Need-least-requires-2
 least-requires-2 c κs = tt
 
--- src/verdict.rt:95:25
 sub-judge-part : tie.Need-sub-judge-part
 sub-judge-part c = search needs
 
--- src/verdict.rt:95:25
 part-judge-part-start : tie.Need-part-judge-part-start
 part-judge-part-start c = search needs
 
--- src/verdict.rt:95:25
 part-judge-part-end : tie.Need-part-judge-part-end
 part-judge-part-end c = search needs
 
--- src/verdict.rt:95:5
 judge-part-requires : tie.Need-judge-part-requires
 judge-part-requires c κs = tt
 
--- src/verdict.rt:90:1
 same-length : tie.Need-same-length
 same-length c = search needs
 
--- src/verdict.rt:90:1
 returns : tie.Need-returns
 returns c = line-judged (c .before .before .before .before .before .before .before .before .before .before .before .before .args .verdict) (c .before .before .before .before .before .before .before .before .before .before .before .before .args .answer .now) (c .before .before .before .before .before .before .before .before .before .before .before .before .args .line .now) (c .before .before .before .before .before .before .before .before .before .before .before .before .args .text .now) _ (c .before .before .before .before .before .before .before .before .before .before .before .before .args .at) _ _ _ _ _ (c .before .before .before .before .before .before .before .before .tail-end .ensures) (c .before .before .before .before .before .before .before .least .ensures .2) (c .before .before .before .before .before .before .near-tab .ensures) (c .before .before .before .before .before .least2 .ensures .2) (c .before .before .judge-part .ensures)
 

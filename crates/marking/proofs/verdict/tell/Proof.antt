@@ -10,52 +10,40 @@ use lib.Seq.{length-take-le}
 use Rattle.packet.specs.Names.{bytesOf}
 use Rattle.marking.proofs.VerdictLaws.{told-right, told-wrong}
 
--- src/verdict.rt:121:26
 slice-aggregate-put : tie.Need-slice-aggregate-put
 slice-aggregate-put c = search needs
 
--- src/verdict.rt:121:44
 slice-aggregate-put-2 : tie.Need-slice-aggregate-put-2
 slice-aggregate-put-2 c = search needs
 
--- src/verdict.rt:121:22
 put-requires : tie.Need-put-requires
 put-requires c κs = tt
 
--- src/verdict.rt:119:9
 same-length : tie.Need-same-length
 same-length c = search needs
 
--- src/verdict.rt:119:9
 returns : tie.Need-returns
 unfolding bytesOf
 returns c = told-right (c .before .before .before .before .before .before .before .before .before .args .matched) (c .before .before .before .before .before .before .before .before .before .args .at) _ (c .before .before .before .before .before .before .before .before .before .args .answer .now) (c .before .before .before .before .before .before .before .before .before .args .text .now) _ (c .before .before .before .before .before .before .if1 .taken) (c .before .before .put .ensures)
 
--- src/verdict.rt:124:9
 least-requires : tie.Need-least-requires
 least-requires c κs = tt
 
--- src/verdict.rt:127:22
 slice-aggregate-put-3 : tie.Need-slice-aggregate-put-3
 slice-aggregate-put-3 c = search needs
 
--- src/verdict.rt:127:32
 slice-aggregate-put-4 : tie.Need-slice-aggregate-put-4
 slice-aggregate-put-4 c = sym (length-take-le (c .before .before .least .result) (c .before .before .before .before .before .before .args .answer .now) (c .before .before .least .ensures .1))
 
--- src/verdict.rt:127:50
 slice-aggregate-put-5 : tie.Need-slice-aggregate-put-5
 slice-aggregate-put-5 c = search needs
 
--- src/verdict.rt:127:18
 put-requires-2 : tie.Need-put-requires-2
 put-requires-2 c κs = tt
 
--- src/verdict.rt:115:1
 same-length-2 : tie.Need-same-length-2
 same-length-2 c = search needs
 
--- src/verdict.rt:115:1
 returns-2 : tie.Need-returns-2
 unfolding bytesOf
 returns-2 c = told-wrong (c .before .before .before .before .before .before .before .before .before .before .before .args .matched) (c .before .before .before .before .before .before .before .before .before .before .before .args .at) _ (c .before .before .before .before .before .before .before .before .before .before .before .args .answer .now) (c .before .before .before .before .before .before .before .before .before .before .before .args .text .now) _ _ (c .before .before .before .before .before .before .before .before .if1 .left) (c .before .before .before .before .before .before .before .least .ensures .2) (c .before .before .put2 .ensures)

@@ -13,23 +13,18 @@ use Rattle.names.proofs.RowLaws as laws
 use Rattle.names.proofs.table.shares_a_letter.Statement.{statement}
 use Rattle.names.proofs.table.shares_a_letter.Tie as tie
 
--- src/table.rt:242:9
 returns : tie.Need-returns
 returns c = let a = c .before .before .args in laws.nothing-shared _ (a .text .now) (omega arith)
 
--- src/table.rt:244:13
 shared-slice-read-lowered : tie.Need-shared-slice-read-lowered
 shared-slice-read-lowered c = search needs
 
--- src/table.rt:244:5
 lowered-requires : tie.Need-lowered-requires
 lowered-requires c κs = search needs
 
--- src/table.rt:244:25
 array-read-result : tie.Need-array-read-result
 array-read-result c = search needs
 
--- src/table.rt:237:1
 returns-2 : tie.Need-returns-2
 unfolding items small bytesOf laws.firstOf lower
 returns-2 c =

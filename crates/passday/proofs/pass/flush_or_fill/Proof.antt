@@ -4,11 +4,9 @@ use Rattle.passday.proofs.pass.flush_or_fill.Reads as reads
 use Rattle.passday.proofs.pass.flush_or_fill.Lts as lts
 use borrow.Author.Tests.{lt-ltb, le-ltb}
 
--- src/pass.rt:103:9
 returns : tie.Need-returns
 returns c = rw (lt-ltb 0 (c .before .before .args .pass .filled) (c .if1 .taken))
 
--- src/pass.rt:99:1
 returns-2 : tie.Need-returns-2
 returns-2 c = rw (le-ltb 0 (c .before .before .args .pass .filled) (c .if1 .left))
 

@@ -5,47 +5,37 @@ use Rattle.passday.proofs.pass.is_readable.Reads as reads
 use Rattle.passday.proofs.pass.is_readable.Lts as lts
 use Rattle.passday.specs.Narrow.{readableOf}
 
--- src/pass.rt:180:32
 enum-told : tie.Need-enum-told
 enum-told c = search needs
 
--- src/pass.rt:181:29
 enum-told-2 : tie.Need-enum-told-2
 enum-told-2 c = search needs
 
--- src/pass.rt:182:29
 enum-told-3 : tie.Need-enum-told-3
 enum-told-3 c = search needs
 
--- src/pass.rt:183:29
 enum-told-4 : tie.Need-enum-told-4
 enum-told-4 c = search needs
 
--- src/pass.rt:184:30
 enum-told-5 : tie.Need-enum-told-5
 enum-told-5 c = search needs
 
--- src/pass.rt:176:1
 returns : tie.Need-returns
 unfolding readableOf
 returns c = rw (c .enum-told .given .1)
 
--- src/pass.rt:176:1
 returns-2 : tie.Need-returns-2
 unfolding readableOf
 returns-2 c = rw (c .enum-told2 .given .1)
 
--- src/pass.rt:176:1
 returns-3 : tie.Need-returns-3
 unfolding readableOf
 returns-3 c = rw (c .enum-told3 .given .1)
 
--- src/pass.rt:176:1
 returns-4 : tie.Need-returns-4
 unfolding readableOf
 returns-4 c = rw (c .enum-told4 .given .1)
 
--- src/pass.rt:176:1
 returns-5 : tie.Need-returns-5
 unfolding readableOf
 returns-5 c = rw (c .enum-told5 .given .1)

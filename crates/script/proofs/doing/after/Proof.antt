@@ -7,55 +7,43 @@ use Rattle.script.proofs.doing.heard_on.Reads as heard-on-reads
 use Rattle.script.proofs.doing.pumped_on.Reads as pumped-on-reads
 use Rattle.script.specs.Doing.{afterOf}
 
--- src/doing.rt:83:24
 enum-told : tie.Need-enum-told
 enum-told c = search needs
 
--- src/doing.rt:84:30
 enum-told-2 : tie.Need-enum-told-2
 enum-told-2 c = search needs
 
--- src/doing.rt:85:31
 enum-told-3 : tie.Need-enum-told-3
 enum-told-3 c = search needs
 
--- src/doing.rt:86:24
 enum-known-doing : tie.Need-enum-known-doing
 enum-known-doing c = search needs
 
--- src/doing.rt:86:43
 heard-on-requires : tie.Need-heard-on-requires
 heard-on-requires c κs = search needs
 
--- src/doing.rt:87:24
 enum-known-doing-2 : tie.Need-enum-known-doing-2
 enum-known-doing-2 c = search needs
 
--- src/doing.rt:87:36
 pumped-on-requires : tie.Need-pumped-on-requires
 pumped-on-requires c κs = search needs
 
--- src/doing.rt:79:1
 returns : tie.Need-returns
 unfolding afterOf
 returns c = rw (c .enum-told .given .1)
 
--- src/doing.rt:79:1
 returns-2 : tie.Need-returns-2
 unfolding afterOf
 returns-2 c = rw (c .enum-told2 .given .1)
 
--- src/doing.rt:79:1
 returns-3 : tie.Need-returns-3
 unfolding afterOf
 returns-3 c = rw (c .enum-told3 .given .1)
 
--- src/doing.rt:79:1
 returns-4 : tie.Need-returns-4
 unfolding afterOf
 returns-4 c = rw (c .before .before .doing .given .1, c .heard-on .ensures)
 
--- src/doing.rt:79:1
 returns-5 : tie.Need-returns-5
 unfolding afterOf
 returns-5 c = rw (c .before .before .doing2 .given .1, c .pumped-on .ensures)

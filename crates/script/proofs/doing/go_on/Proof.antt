@@ -9,20 +9,16 @@ use borrow.Author.Tests.{lt-ltb, le-ltb}
 use Rattle.script.specs.Doing.{goesOn}
 use Rattle.input.proofs.PartLaws.{rest-size}
 
--- src/doing.rt:48:16
 rest-requires : tie.Need-rest-requires
 rest-requires c κs = search needs
 
--- src/doing.rt:49:40
 add-t8 : tie.Need-add-t8
 add-t8 c = omega (arith, rest-size _ _ _ _ _ (c .before .rest .ensures) (c .if1 .taken))
 
--- src/doing.rt:49:9
 returns : tie.Need-returns
 unfolding goesOn
 returns c = rw (← c .before .rest .ensures, lt-ltb _ _ (c .if1 .taken))
 
--- src/doing.rt:45:1
 returns-2 : tie.Need-returns-2
 unfolding goesOn
 returns-2 c = rw (← c .before .rest .ensures, le-ltb _ _ (c .if1 .left))

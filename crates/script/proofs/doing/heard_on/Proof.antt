@@ -6,46 +6,36 @@ use Rattle.script.proofs.doing.heard_on.Lts as lts
 use Rattle.script.proofs.doing.go_on.Reads as go-on-reads
 use Rattle.script.specs.Doing.{heardOn}
 
--- src/doing.rt:59:23
 enum-known-answer : tie.Need-enum-known-answer
 enum-known-answer c = search needs
 
--- src/doing.rt:59:33
 go-on-requires : tie.Need-go-on-requires
 go-on-requires c κs = search needs
 
--- src/doing.rt:60:22
 enum-known-answer-2 : tie.Need-enum-known-answer-2
 enum-known-answer-2 c = search needs
 
--- src/doing.rt:60:35
 go-on-requires-2 : tie.Need-go-on-requires-2
 go-on-requires-2 c κs = search needs
 
--- src/doing.rt:61:30
 enum-told : tie.Need-enum-told
 enum-told c = search needs
 
--- src/doing.rt:62:31
 enum-told-2 : tie.Need-enum-told-2
 enum-told-2 c = search needs
 
--- src/doing.rt:55:1
 returns : tie.Need-returns
 unfolding heardOn
 returns c = rw (c .before .before .answer .given .1, c .go-on .ensures)
 
--- src/doing.rt:55:1
 returns-2 : tie.Need-returns-2
 unfolding heardOn
 returns-2 c = rw (c .before .before .answer2 .given .1, c .go-on2 .ensures)
 
--- src/doing.rt:55:1
 returns-3 : tie.Need-returns-3
 unfolding heardOn
 returns-3 c = rw (c .enum-told .given .1)
 
--- src/doing.rt:55:1
 returns-4 : tie.Need-returns-4
 unfolding heardOn
 returns-4 c = rw (c .enum-told2 .given .1)

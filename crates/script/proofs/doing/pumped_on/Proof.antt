@@ -5,38 +5,30 @@ use Rattle.script.proofs.doing.pumped_on.Reads as reads
 use Rattle.script.proofs.doing.pumped_on.Lts as lts
 use Rattle.script.specs.Doing.{pumpedOn}
 
--- src/doing.rt:71:29
 enum-told : tie.Need-enum-told
 enum-told c = search needs
 
--- src/doing.rt:72:31
 enum-told-2 : tie.Need-enum-told-2
 enum-told-2 c = search needs
 
--- src/doing.rt:73:30
 enum-told-3 : tie.Need-enum-told-3
 enum-told-3 c = search needs
 
--- src/doing.rt:74:31
 enum-told-4 : tie.Need-enum-told-4
 enum-told-4 c = search needs
 
--- src/doing.rt:67:1
 returns : tie.Need-returns
 unfolding pumpedOn
 returns c = rw (c .enum-told .given .1)
 
--- src/doing.rt:67:1
 returns-2 : tie.Need-returns-2
 unfolding pumpedOn
 returns-2 c = rw (c .enum-told2 .given .1)
 
--- src/doing.rt:67:1
 returns-3 : tie.Need-returns-3
 unfolding pumpedOn
 returns-3 c = rw (c .enum-told3 .given .1)
 
--- src/doing.rt:67:1
 returns-4 : tie.Need-returns-4
 unfolding pumpedOn
 returns-4 c = rw (c .enum-told4 .given .1)

@@ -5,47 +5,37 @@ use Rattle.script.proofs.doing.rests.Reads as reads
 use Rattle.script.proofs.doing.rests.Lts as lts
 use Rattle.script.specs.Doing.{restsOf}
 
--- src/doing.rt:21:24
 enum-told : tie.Need-enum-told
 enum-told c = search needs
 
--- src/doing.rt:22:30
 enum-told-2 : tie.Need-enum-told-2
 enum-told-2 c = search needs
 
--- src/doing.rt:23:31
 enum-told-3 : tie.Need-enum-told-3
 enum-told-3 c = search needs
 
--- src/doing.rt:24:36
 enum-told-4 : tie.Need-enum-told-4
 enum-told-4 c = search needs
 
--- src/doing.rt:25:30
 enum-told-5 : tie.Need-enum-told-5
 enum-told-5 c = search needs
 
--- src/doing.rt:17:1
 returns : tie.Need-returns
 unfolding restsOf
 returns c = rw (c .enum-told .given .1)
 
--- src/doing.rt:17:1
 returns-2 : tie.Need-returns-2
 unfolding restsOf
 returns-2 c = rw (c .enum-told2 .given .1)
 
--- src/doing.rt:17:1
 returns-3 : tie.Need-returns-3
 unfolding restsOf
 returns-3 c = rw (c .enum-told3 .given .1)
 
--- src/doing.rt:17:1
 returns-4 : tie.Need-returns-4
 unfolding restsOf
 returns-4 c = rw (c .enum-told4 .given .1)
 
--- src/doing.rt:17:1
 returns-5 : tie.Need-returns-5
 unfolding restsOf
 returns-5 c = rw (c .enum-told5 .given .1)

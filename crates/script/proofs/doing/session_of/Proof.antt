@@ -5,47 +5,37 @@ use Rattle.script.proofs.doing.session_of.Reads as reads
 use Rattle.script.proofs.doing.session_of.Lts as lts
 use Rattle.script.specs.Doing.{sessionOf}
 
--- src/doing.rt:20:24
 enum-told : tie.Need-enum-told
 enum-told c = search needs
 
--- src/doing.rt:21:24
 enum-known-doing : tie.Need-enum-known-doing
 enum-known-doing c = search needs
 
--- src/doing.rt:22:25
 enum-known-doing-2 : tie.Need-enum-known-doing-2
 enum-known-doing-2 c = search needs
 
--- src/doing.rt:23:24
 enum-known-doing-3 : tie.Need-enum-known-doing-3
 enum-known-doing-3 c = search needs
 
--- src/doing.rt:24:24
 enum-known-doing-4 : tie.Need-enum-known-doing-4
 enum-known-doing-4 c = search needs
 
--- src/doing.rt:16:1
 returns : tie.Need-returns
 unfolding sessionOf
 returns c = rw (c .enum-told .given .1)
 
--- src/doing.rt:16:1
 returns-2 : tie.Need-returns-2
 unfolding sessionOf
 returns-2 c = rw (c .before .doing .given .1)
 
--- src/doing.rt:16:1
 returns-3 : tie.Need-returns-3
 unfolding sessionOf
 returns-3 c = rw (c .before .doing2 .given .1)
 
--- src/doing.rt:16:1
 returns-4 : tie.Need-returns-4
 unfolding sessionOf
 returns-4 c = rw (c .before .doing3 .given .1)
 
--- src/doing.rt:16:1
 returns-5 : tie.Need-returns-5
 unfolding sessionOf
 returns-5 c = rw (c .before .doing4 .given .1)

@@ -9,62 +9,48 @@ use Rattle.script.proofs.printing.show_packet.Reads as show-packet-read
 use Rattle.script.specs.Printing.{lineFor, showOf}
 use Rattle.script.proofs.Written.{no-line}
 
--- src/printing.rt:23:29
 enum-told : tie.Need-enum-told
 enum-told c = search needs
 
--- src/printing.rt:24:25
 enum-known-answer : tie.Need-enum-known-answer
 enum-known-answer c = search needs
 
--- src/printing.rt:24:34
 show-packet-requires : tie.Need-show-packet-requires
 show-packet-requires c κs = search needs
 
--- src/printing.rt:25:65
 enum-told-2 : tie.Need-enum-told-2
 enum-told-2 c = search needs
 
--- src/printing.rt:25:30
 closed-line-requires : tie.Need-closed-line-requires
 closed-line-requires c κs = search needs
 
--- src/printing.rt:26:25
 enum-known-answer-2 : tie.Need-enum-known-answer-2
 enum-known-answer-2 c = search needs
 
--- src/printing.rt:26:36
 refused-line-requires : tie.Need-refused-line-requires
 refused-line-requires c κs = search needs
 
--- src/printing.rt:19:1
 returns : tie.Need-returns
 unfolding showOf lineFor
 returns c = rw (c .enum-told .given .1) (no-line _)
 
--- src/printing.rt:19:1
 same-length : tie.Need-same-length
 same-length c = search needs
 
--- src/printing.rt:19:1
 returns-2 : tie.Need-returns-2
 unfolding showOf lineFor
 returns-2 c = rw (c .before .before .before .before .before .answer .given .1) (c .before .before .show-packet .ensures)
 
--- src/printing.rt:19:1
 same-length-2 : tie.Need-same-length-2
 same-length-2 c = search needs
 
--- src/printing.rt:19:1
 returns-3 : tie.Need-returns-3
 unfolding showOf lineFor
 returns-3 c = rw (c .before .before .before .before .enum-told2 .given .1) (c .before .before .closed-line .ensures)
 
--- src/printing.rt:19:1
 same-length-3 : tie.Need-same-length-3
 same-length-3 c = search needs
 
--- src/printing.rt:19:1
 returns-4 : tie.Need-returns-4
 unfolding showOf lineFor
 returns-4 c = rw (c .before .before .before .before .before .answer2 .given .1) (c .before .before .refused-line .ensures)

@@ -8,31 +8,24 @@ use lib.Seq.{take-all, length-take-le}
 use mathlib.Core.Path.{sym}
 use native.Mathlib.Nat.{le-of-lt}
 
--- src/printing.rt:13:51
 slice-aggregate-packet-line : tie.Need-slice-aggregate-packet-line
 slice-aggregate-packet-line c = sym (length-take-le _ _ (le-of-lt (c .before .if1 .taken)))
 
--- src/printing.rt:13:9
 packet-line-requires : tie.Need-packet-line-requires
 packet-line-requires c κs = search needs
 
--- src/printing.rt:13:9
 same-length : tie.Need-same-length
 same-length c = search needs
 
--- src/printing.rt:13:9
 returns : tie.Need-returns
 returns c = search needs
 
--- src/printing.rt:15:5
 packet-line-requires-2 : tie.Need-packet-line-requires-2
 packet-line-requires-2 c κs = search needs
 
--- src/printing.rt:9:1
 same-length-2 : tie.Need-same-length-2
 same-length-2 c = search needs
 
--- src/printing.rt:9:1
 returns-2 : tie.Need-returns-2
 returns-2 c = rw (take-all _ _ (c .before .before .before .before .if1 .left)) (c .before .before .packet-line2 .ensures)
 

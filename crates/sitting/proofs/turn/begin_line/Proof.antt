@@ -12,51 +12,39 @@ use Rattle.std.proofs.num.wrapping_add_usize.Reads as wrapping-add-usize-reads
 use mathlib.Core.Path.{sym, _∙_}
 use Rattle.sitting.proofs.Parts.{line-begins, line-refused}
 
--- src/turn.rt:382:9
 wrapping-add-usize-requires : tie.Need-wrapping-add-usize-requires
 wrapping-add-usize-requires c κs = tt
 
--- src/turn.rt:383:9
 script-to-requires : tie.Need-script-to-requires
 script-to-requires c κs = tt
 
--- src/turn.rt:384:9
 read-line-requires : tie.Need-read-line-requires
 read-line-requires c κs = tt
 
--- src/turn.rt:385:8
 is-readable-requires : tie.Need-is-readable-requires
 is-readable-requires c κs = tt
 
--- src/turn.rt:386:9
 begun-requires : tie.Need-begun-requires
 begun-requires c κs = tt
 
--- src/turn.rt:386:9
 same-length : tie.Need-same-length
 same-length c = search needs
 
--- src/turn.rt:386:9
 same-length-2 : tie.Need-same-length-2
 same-length-2 c = search needs
 
--- src/turn.rt:386:9
 returns : tie.Need-returns
 returns c = line-begins (c .before .before .before .before .before .before .before .before .before .before .before .before .before .before .before .before .args .sitting) _ (c .before .before .before .before .before .before .before .before .before .before .before .before .before .before .before .before .args .n) (c .before .before .before .before .before .before .before .before .before .before .before .before .before .before .before .before .args .input .now) (c .before .before .before .before .before .before .before .before .before .before .before .before .before .before .before .before .args .bytes .now) _ (c .before .before .before .before .before .before .before .before .before .before .before .before .before .before .before .before .args .text .now) _ _ _ _ (c .before .before .before .before .before .before .before .before .before .before .before .wrapping-add-usize .ensures) (c .before .before .before .before .before .before .before .before .before .before .script-to .ensures) (c .before .before .before .before .before .before .before .before .read-line .ensures) (sym (c .before .before .before .before .before .is-readable .ensures) ∙ c .before .before .before .before .if1 .taken) (c .before .before .begun .ensures)
 
--- src/turn.rt:388:5
 put-error-requires : tie.Need-put-error-requires
 put-error-requires c κs = tt
 
--- src/turn.rt:377:1
 same-length-3 : tie.Need-same-length-3
 same-length-3 c = search needs
 
--- src/turn.rt:377:1
 same-length-4 : tie.Need-same-length-4
 same-length-4 c = search needs
 
--- src/turn.rt:377:1
 returns-2 : tie.Need-returns-2
 returns-2 c = line-refused (c .before .before .before .before .before .before .before .before .before .before .before .before .before .before .before .before .args .sitting) _ (c .before .before .before .before .before .before .before .before .before .before .before .before .before .before .before .before .args .n) (c .before .before .before .before .before .before .before .before .before .before .before .before .before .before .before .before .args .input .now) (c .before .before .before .before .before .before .before .before .before .before .before .before .before .before .before .before .args .bytes .now) _ (c .before .before .before .before .before .before .before .before .before .before .before .before .before .before .before .before .args .text .now) _ _ _ _ (c .before .before .before .before .before .before .before .before .before .before .before .wrapping-add-usize .ensures) (c .before .before .before .before .before .before .before .before .before .before .script-to .ensures) (c .before .before .before .before .before .before .before .before .read-line .ensures) (sym (c .before .before .before .before .before .is-readable .ensures) ∙ c .before .before .before .before .if1 .left) (c .before .before .put-error .ensures)
 

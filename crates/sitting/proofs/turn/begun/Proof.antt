@@ -8,39 +8,30 @@ use Rattle.marking.proofs.verdict.begin.Reads as begin-reads
 use Rattle.sitting.proofs.turn.passed.Reads as passed-reads
 use Rattle.sitting.proofs.Parts.{begun-joins}
 
--- src/turn.rt:372:9
 least-requires : tie.Need-least-requires
 least-requires c κs = tt
 
--- src/turn.rt:373:9
 least-requires-2 : tie.Need-least-requires-2
 least-requires-2 c κs = tt
 
--- src/turn.rt:374:48
 sub-begin : tie.Need-sub-begin
 sub-begin c = search needs
 
--- src/turn.rt:374:48
 part-begin-start : tie.Need-part-begin-start
 part-begin-start c = search needs
 
--- src/turn.rt:374:48
 part-begin-end : tie.Need-part-begin-end
 part-begin-end c = search needs
 
--- src/turn.rt:374:9
 begin-requires : tie.Need-begin-requires
 begin-requires c κs = tt
 
--- src/turn.rt:375:5
 passed-requires : tie.Need-passed-requires
 passed-requires c κs = tt
 
--- src/turn.rt:366:1
 same-length : tie.Need-same-length
 same-length c = search needs
 
--- src/turn.rt:366:1
 returns : tie.Need-returns
 returns c = begun-joins (c .before .before .before .before .before .before .before .before .before .before .before .args .sitting) _ (c .before .before .before .before .before .before .before .before .before .before .before .args .answer) (c .before .before .before .before .before .before .before .before .before .before .before .args .to) (c .before .before .before .before .before .before .before .before .before .before .before .args .command) (c .before .before .before .before .before .before .before .before .before .before .before .args .input .now) (c .before .before .before .before .before .before .before .before .before .before .before .args .text .now) _ _ _ _ (c .before .before .before .before .before .before .before .least .ensures .2) (c .before .before .before .before .before .before .least2 .ensures .2) (c .before .before .before .begin .ensures) (c .passed .ensures)
 

@@ -8,50 +8,39 @@ use Rattle.sitting.proofs.turn.next_line.Reads as next-line-reads
 use Rattle.sitting.proofs.turn.writes_first.Reads as writes-first-reads
 use Rattle.sitting.specs.Turn.{byVerdict, decideOf}
 
--- src/turn.rt:198:8
 writes-first-requires : tie.Need-writes-first-requires
 writes-first-requires c κs = tt
 
--- src/turn.rt:199:9
 returns : tie.Need-returns
 unfolding byVerdict decideOf
 returns c = rw (← c .before .writes-first .ensures, c .if1 .taken)
 
--- src/turn.rt:202:26
 enum-told : tie.Need-enum-told
 enum-told c = search needs
 
--- src/turn.rt:202:26
 next-line-requires : tie.Need-next-line-requires
 next-line-requires c κs = tt
 
--- src/turn.rt:203:29
 enum-told-2 : tie.Need-enum-told-2
 enum-told-2 c = search needs
 
--- src/turn.rt:203:29
 in-line-requires : tie.Need-in-line-requires
 in-line-requires c κs = tt
 
--- src/turn.rt:204:26
 enum-told-3 : tie.Need-enum-told-3
 enum-told-3 c = search needs
 
--- src/turn.rt:204:26
 in-line-requires-2 : tie.Need-in-line-requires-2
 in-line-requires-2 c κs = tt
 
--- src/turn.rt:191:1
 returns-2 : tie.Need-returns-2
 unfolding byVerdict decideOf
 returns-2 c = rw (← c .before .before .before .before .writes-first .ensures, c .before .before .before .if1 .left, c .before .enum-told .given .1) (c .next-line .ensures)
 
--- src/turn.rt:191:1
 returns-3 : tie.Need-returns-3
 unfolding byVerdict decideOf
 returns-3 c = rw (← c .before .before .before .before .writes-first .ensures, c .before .before .before .if1 .left, c .before .enum-told2 .given .1) (c .in-line .ensures)
 
--- src/turn.rt:191:1
 returns-4 : tie.Need-returns-4
 unfolding byVerdict decideOf
 returns-4 c = rw (← c .before .before .before .before .writes-first .ensures, c .before .before .before .if1 .left, c .before .enum-told3 .given .1) (c .in-line2 .ensures)

@@ -8,39 +8,30 @@ use Rattle.marking.proofs.verdict.finish.Reads as finish-reads
 use Rattle.sitting.proofs.turn.finished.Reads as finished-reads
 use Rattle.sitting.proofs.Parts.{finish-joins}
 
--- src/turn.rt:281:9
 least-requires : tie.Need-least-requires
 least-requires c κs = tt
 
--- src/turn.rt:282:9
 least-requires-2 : tie.Need-least-requires-2
 least-requires-2 c κs = tt
 
--- src/turn.rt:283:50
 sub-finish : tie.Need-sub-finish
 sub-finish c = search needs
 
--- src/turn.rt:283:50
 part-finish-start : tie.Need-part-finish-start
 part-finish-start c = search needs
 
--- src/turn.rt:283:50
 part-finish-end : tie.Need-part-finish-end
 part-finish-end c = search needs
 
--- src/turn.rt:283:9
 finish-requires : tie.Need-finish-requires
 finish-requires c κs = tt
 
--- src/turn.rt:284:5
 finished-requires : tie.Need-finished-requires
 finished-requires c κs = tt
 
--- src/turn.rt:274:1
 same-length : tie.Need-same-length
 same-length c = search needs
 
--- src/turn.rt:274:1
 returns : tie.Need-returns
 returns c = finish-joins (c .before .before .before .before .before .before .before .before .before .before .before .before .args .sitting) _ (c .before .before .before .before .before .before .before .before .before .before .before .before .args .input .now) (c .before .before .before .before .before .before .before .before .before .before .before .before .args .text .now) _ _ _ _ (c .before .before .before .before .before .before .before .least .ensures .2) (c .before .before .before .before .before .before .least2 .ensures .2) (c .before .before .before .finish .ensures) (c .finished .ensures)
 

@@ -7,19 +7,15 @@ use Rattle.input.proofs.parts.least.Reads as least-reads
 use Rattle.sitting.proofs.turn.right_after.Reads as right-after-reads
 use Rattle.sitting.proofs.turn.with_more.Reads as with-more-reads
 
--- src/turn.rt:266:16
 right-after-requires : tie.Need-right-after-requires
 right-after-requires c κs = tt
 
--- src/turn.rt:270:35
 least-requires : tie.Need-least-requires
 least-requires c κs = tt
 
--- src/turn.rt:270:5
 with-more-requires : tie.Need-with-more-requires
 with-more-requires c κs = tt
 
--- src/turn.rt:256:1
 returns : tie.Need-returns
 returns c = rw (c .with-more .ensures, c .before .least .ensures .2, c .before .before .right-after .ensures)
 

@@ -5,15 +5,12 @@ use Rattle.sitting.proofs.turn.in_line.Reads as reads
 use Rattle.sitting.proofs.turn.in_line.Lts as lts
 use Rattle.script.proofs.doing.rests.Reads as rests-reads
 
--- src/turn.rt:184:8
 rests-requires : tie.Need-rests-requires
 rests-requires c κs = tt
 
--- src/turn.rt:185:9
 returns : tie.Need-returns
 returns c = rw (← c .before .rests .ensures, c .if1 .taken)
 
--- src/turn.rt:180:1
 returns-2 : tie.Need-returns-2
 returns-2 c = rw (← c .before .rests .ensures, c .if1 .left)
 

@@ -7,31 +7,24 @@ use Rattle.input.proofs.parts.least.Reads as least-reads
 use Rattle.script.proofs.begin.Reads as begin-reads
 use Rattle.std.proofs.num.wrapping_add_usize.Reads as wrapping-add-usize-reads
 
--- src/turn.rt:351:9
 begin-requires : tie.Need-begin-requires
 begin-requires c κs = tt
 
--- src/turn.rt:355:21
 wrapping-add-usize-requires : tie.Need-wrapping-add-usize-requires
 wrapping-add-usize-requires c κs = tt
 
--- src/turn.rt:355:15
 least-requires : tie.Need-least-requires
 least-requires c κs = tt
 
--- src/turn.rt:358:16
 wrapping-add-usize-requires-2 : tie.Need-wrapping-add-usize-requires-2
 wrapping-add-usize-requires-2 c κs = tt
 
--- src/turn.rt:359:36
 least-requires-2 : tie.Need-least-requires-2
 least-requires-2 c κs = tt
 
--- src/turn.rt:359:17
 wrapping-add-usize-requires-3 : tie.Need-wrapping-add-usize-requires-3
 wrapping-add-usize-requires-3 c κs = tt
 
--- src/turn.rt:333:1
 returns : tie.Need-returns
 returns c = rw (c .wrapping-add-usize3 .ensures, c .before .least2 .ensures .2, c .before .before .wrapping-add-usize2 .ensures, c .before .before .before .least .ensures .2, c .before .before .before .before .wrapping-add-usize .ensures, c .before .before .before .before .before .begin .ensures)
 

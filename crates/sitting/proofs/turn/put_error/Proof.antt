@@ -10,31 +10,24 @@ use Rattle.sitting.proofs.turn.with_more.Reads as with-more-reads
 use Rattle.std.proofs.num.wrapping_add_usize.Reads as wrapping-add-usize-reads
 use Rattle.sitting.proofs.Parts.{error-joins}
 
--- src/turn.rt:306:9
 least-requires : tie.Need-least-requires
 least-requires c κs = tt
 
--- src/turn.rt:307:42
 wrapping-add-usize-requires : tie.Need-wrapping-add-usize-requires
 wrapping-add-usize-requires c κs = tt
 
--- src/turn.rt:307:9
 put-stop-requires : tie.Need-put-stop-requires
 put-stop-requires c κs = tt
 
--- src/turn.rt:308:14
 with-more-requires : tie.Need-with-more-requires
 with-more-requires c κs = tt
 
--- src/turn.rt:308:5
 put-last-requires : tie.Need-put-last-requires
 put-last-requires c κs = tt
 
--- src/turn.rt:299:1
 same-length : tie.Need-same-length
 same-length c = search needs
 
--- src/turn.rt:299:1
 returns : tie.Need-returns
 returns c = error-joins (c .before .before .before .before .before .before .before .before .before .before .before .before .before .before .args .sitting) _ (c .before .before .before .before .before .before .before .before .before .before .before .before .before .before .args .text .now) _ _ _ (c .before .before .before .before .before .before .before .before .before .before .least .ensures .2) _ _ _ (c .before .before .before .before .before .before .before .before .before .wrapping-add-usize .ensures) (c .before .before .before .before .before .before .before .put-stop .ensures) (c .before .before .before .before .with-more .ensures) (c .before .before .put-last .ensures)
 

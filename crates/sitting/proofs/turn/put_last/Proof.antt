@@ -8,23 +8,18 @@ use Rattle.marking.proofs.put.put_last.Reads as put-last-reads
 use Rattle.sitting.proofs.turn.with_more.Reads as with-more-reads
 use Rattle.sitting.proofs.Parts.{last-joins}
 
--- src/turn.rt:293:9
 least-requires : tie.Need-least-requires
 least-requires c κs = tt
 
--- src/turn.rt:294:9
 put-last-requires : tie.Need-put-last-requires
 put-last-requires c κs = tt
 
--- src/turn.rt:295:5
 with-more-requires : tie.Need-with-more-requires
 with-more-requires c κs = tt
 
--- src/turn.rt:287:1
 same-length : tie.Need-same-length
 same-length c = search needs
 
--- src/turn.rt:287:1
 returns : tie.Need-returns
 returns c = last-joins (c .before .before .before .before .before .before .before .before .before .args .sitting) _ (c .before .before .before .before .before .before .before .before .before .args .text .now) _ _ _ (c .before .before .before .before .before .least .ensures .2) (c .before .before .before .put-last .ensures) (c .with-more .ensures)
 

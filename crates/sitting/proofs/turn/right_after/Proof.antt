@@ -5,15 +5,12 @@ use Rattle.sitting.proofs.turn.right_after.Reads as reads
 use Rattle.sitting.proofs.turn.right_after.Lts as lts
 use Rattle.std.proofs.num.wrapping_add_usize.Reads as wrapping-add-usize-reads
 
--- src/turn.rt:250:9
 wrapping-add-usize-requires : tie.Need-wrapping-add-usize-requires
 wrapping-add-usize-requires c κs = tt
 
--- src/turn.rt:250:9
 returns : tie.Need-returns
 returns c = rw (c .before .if1 .taken) (c .wrapping-add-usize .ensures)
 
--- src/turn.rt:246:1
 returns-2 : tie.Need-returns-2
 returns-2 c = search needs
 

@@ -8,35 +8,27 @@ use Rattle.marking.proofs.fields.script_end.Reads as script-end-reads
 use Rattle.std.proofs.num.wrapping_add_usize.Reads as wrapping-add-usize-reads
 use Rattle.sitting.proofs.Parts.{script-at}
 
--- src/turn.rt:327:9
 least-requires : tie.Need-least-requires
 least-requires c κs = tt
 
--- src/turn.rt:328:9
 least-requires-2 : tie.Need-least-requires-2
 least-requires-2 c κs = tt
 
--- src/turn.rt:329:64
 sub-script-end : tie.Need-sub-script-end
 sub-script-end c = search needs
 
--- src/turn.rt:329:64
 part-script-end-start : tie.Need-part-script-end-start
 part-script-end-start c = search needs
 
--- src/turn.rt:329:64
 part-script-end-end : tie.Need-part-script-end-end
 part-script-end-end c = search needs
 
--- src/turn.rt:329:30
 script-end-requires : tie.Need-script-end-requires
 script-end-requires c κs = tt
 
--- src/turn.rt:329:5
 wrapping-add-usize-requires : tie.Need-wrapping-add-usize-requires
 wrapping-add-usize-requires c κs = tt
 
--- src/turn.rt:324:1
 returns : tie.Need-returns
 returns c = script-at _ (c .before .before .before .before .before .before .args .input .now) (c .before .before .before .before .before .before .args .from) (c .before .before .before .before .before .before .args .to) _ _ _ _ (c .before .before .before .before .least .ensures .2) (c .before .before .before .least2 .ensures .2) (c .before .script-end .ensures) (c .wrapping-add-usize .ensures)
 

@@ -6,15 +6,12 @@ use Rattle.sitting.proofs.turn.stepped.Lts as lts
 use Rattle.input.proofs.parts.least.Reads as least-reads
 use Rattle.sitting.proofs.turn.with_more.Reads as with-more-reads
 
--- src/turn.rt:242:35
 least-requires : tie.Need-least-requires
 least-requires c κs = tt
 
--- src/turn.rt:242:5
 with-more-requires : tie.Need-with-more-requires
 with-more-requires c κs = tt
 
--- src/turn.rt:227:1
 returns : tie.Need-returns
 returns c = rw (c .with-more .ensures, c .before .least .ensures .2)
 

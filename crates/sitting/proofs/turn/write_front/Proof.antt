@@ -8,19 +8,15 @@ use Rattle.input.proofs.parts.least.Reads as least-reads
 use mathlib.Core.Path.{sym}
 use lib.Seq.{length-take-le}
 
--- src/pass.rt:214:9
 least-requires : tie.Need-least-requires
 least-requires c κs = tt
 
--- src/pass.rt:215:34
 slice-aggregate-write-all : tie.Need-slice-aggregate-write-all
 slice-aggregate-write-all c = sym (length-take-le _ _ (c .before .least .ensures .1))
 
--- src/pass.rt:215:5
 write-all-requires : tie.Need-write-all-requires
 write-all-requires c κs = tt
 
--- src/pass.rt:213:1
 returns : tie.Need-returns
 returns c = search needs
 
