@@ -117,7 +117,7 @@ class Edit:
             # the kit's own way is narrower than ours
             if self.in_gate_of_kit and "\n" in f"{old}{new}":
                 return "in must-fail/ a text has one line"
-            if self.in_gate_of_kit and file and not file.startswith(f"crates/{self.crate}/"):
+            if self.in_gate_of_kit and "\nfile: crates/" in "\n" + read(self.path):
                 return "in must-fail/ an edit changes its own crate alone"
             if not os.path.isfile(os.path.join(ROOT, file or "")):
                 return f"it names no file of the project: {file}"
