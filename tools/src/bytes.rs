@@ -32,6 +32,15 @@ pub fn quoted(bytes: &[u8]) -> String {
     text
 }
 
+/// Text as it was typed; what is not a plain character from blank to ~ is written as \x and two hex digits.
+pub fn plain(bytes: &[u8]) -> String {
+    let letter = |&byte: &u8| match byte {
+        b' '..=b'~' => char::from(byte).to_string(),
+        _ => format!("\\x{byte:02x}"),
+    };
+    bytes.iter().map(letter).collect()
+}
+
 /// A number from its bytes, the least significant first; at most the first four count.
 pub fn number(bytes: &[u8]) -> u32 {
     let low = bytes.iter().take(4).enumerate();

@@ -1,10 +1,11 @@
 //! What the drawn page shows, as JSON: the rows of each step, and what the step changed in the state. Also the whole state after each step as text, for
 //! the test that compares it with what the page shows.
 use crate::bytes::{quoted, to_hex};
-use crate::explain::{Row, Teller};
+use crate::explain::{Pass, Row, Teller};
 use crate::play::Play;
+use crate::sheet::{self, Mark};
 use crate::state::{Downlink, File, Session, State, Uplink};
-use crate::words::{self, Equations};
+use crate::words;
 
 /// A JSON string. All that could end the page's script, or be read as a tag, is escaped.
 pub fn string(text: &str) -> String {
@@ -140,25 +141,37 @@ fn row_json(row: &Row) -> String {
     )
 }
 
-/// All of a play: its name, what is said first, and for each step line, clock, rows and changes.
-pub fn json(play: &Play, equations: &Equations, name: &str, note: &str) -> String {
-    let mut teller = Teller::new(equations);
+/// The mark of a line: nothing behind it where it is right, else where it first differs, the pupil's fields and the server's.
+fn mark_json(mark: &Mark) -> String {
+    if mark.right {
+        return "[]".to_string();
+    }
+    let (written, answered) = sheet::both(mark);
+    let [written, answered] =
+        [written, answered].map(|words| list(words.iter().map(|word| string(word))));
+    format!("[{},{written},{answered}]", string(&sheet::differs(mark)))
+}
+
+/// All of a play: its name, what is said first, the marks, and for each step line, clock, rows, changes and mark.
+pub fn json(pass: &Pass, name: &str, note: &str) -> String {
+    let mut teller = Teller::new(pass);
+    let play = &pass.play;
+    let marks = pass.marks.as_deref();
     let empty = State::default();
-    let mut before = &empty;
-    let mut steps = vec![format!("[0,0,[],{}]", delta(before, &play.before))];
-    before = &play.before;
-    for step in &play.steps {
+    let mut steps = vec![format!("[0,0,[],{}]", delta(&empty, &play.before))];
+    let mut before = &play.before;
+    for (at, step) in play.steps.iter().enumerate() {
         let rows = list(teller.rows(step).iter().map(row_json));
-        steps.push(format!(
-            "[{},{},{rows},{}]",
-            step.line,
-            step.clock,
-            delta(before, &step.after)
-        ));
+        let mark = marks.and_then(|marks| marks.get(at));
+        let mark = mark.map_or(String::new(), |mark| format!(",{}", mark_json(mark)));
+        let (line, clock) = (step.line, step.clock);
+        let changes = delta(before, &step.after);
+        steps.push(format!("[{line},{clock},{rows},{changes}{mark}]"));
         before = &step.after;
     }
+    let marks = marks.map_or("null".to_string(), |marks| string(&sheet::right(marks)));
     format!(
-        "{{\"name\":{},\"note\":{},\"steps\":[\n{}]}}",
+        "{{\"name\":{},\"note\":{},\"marks\":{marks},\"steps\":[\n{}]}}",
         string(name),
         string(note),
         steps.join(",\n")

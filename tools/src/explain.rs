@@ -5,7 +5,17 @@ use crate::header::{self, End, Item};
 use crate::names::name_of;
 use crate::play::{Begun, Event, Play, Step, Upload};
 use crate::script::Command;
-use crate::words::{self, Equations, Told};
+use crate::sheet::{self, Marks};
+use crate::why::{self, Question};
+use crate::words::{self, Texts, Told};
+
+/// A play that is shown, with the texts of its equations, the MAXSEL that was asked for, and the marks where it is one of an answer sheet.
+pub struct Pass {
+    pub play: Play,
+    pub texts: Texts,
+    pub maxsel: Option<usize>,
+    pub marks: Option<Marks>,
+}
 
 /// What is said of an event: whether the station or the server speaks, the packet's name, its words, its bytes and lines of detail.
 #[derive(Clone, Debug, PartialEq, Eq)]
@@ -29,11 +39,13 @@ enum Sending {
 
 /// Tells the steps of a play one after the other.
 pub struct Teller<'a> {
-    pub equations: &'a Equations,
+    texts: &'a Texts,
+    /// Whether the lines are those of an answer sheet.
+    is_sheet: bool,
     sending: HashMap<u32, Sending>,
 }
 
-fn row(session: Option<u32>, way: char, name: &str, words: impl Into<String>) -> Row {
+pub fn row(session: Option<u32>, way: char, name: &str, words: impl Into<String>) -> Row {
     let (name, words) = (name.to_string(), words.into());
     Row {
         session,
@@ -63,24 +75,26 @@ fn packet_row(session: u32, way: char, told: Told, bytes: &[u8]) -> Row {
 }
 
 impl<'a> Teller<'a> {
-    pub fn new(equations: &'a Equations) -> Teller<'a> {
+    pub fn new(pass: &'a Pass) -> Teller<'a> {
         Teller {
-            equations,
+            texts: &pass.texts,
+            is_sheet: pass.marks.is_some(),
             sending: HashMap::new(),
+        }
+    }
+
+    fn question(&self, step: &Step) -> Question<'a> {
+        Question {
+            postfix: self.texts.postfix.get(&step.line),
+            equations: &self.texts.equations,
         }
     }
 
     /// The rows of a step: first what the line does, then what comes of it.
     pub fn rows(&mut self, step: &Step) -> Vec<Row> {
         let (session, first) = match &step.command {
-            None => {
-                return vec![row(
-                    None,
-                    ' ',
-                    "unreadable",
-                    "the line can't be read, and nothing after it is",
-                )]
-            }
+            None => return vec![unreadable(self.is_sheet)],
+            Some(Command::Why(..)) => return why::rows(step, &self.question(step)),
             Some(Command::Time(clock)) => return vec![row(None, ' ', "clock", clock.to_string())],
             Some(Command::Open(session)) => (
                 *session,
@@ -128,7 +142,12 @@ impl<'a> Teller<'a> {
                 if let Some(begun) = begun {
                     self.sending.insert(session, sending(begun, packet));
                 }
-                let told = words::heard(packet, upload.as_ref(), begun.as_ref(), self.equations);
+                let told = words::heard(
+                    packet,
+                    upload.as_ref(),
+                    begun.as_ref(),
+                    &self.texts.equations,
+                );
                 let mut row = packet_row(session, '>', told, packet);
                 if let (Some(13), Some(Sending::Directory { .. })) =
                     (words::kind(packet), self.sending.get(&session))
@@ -189,6 +208,24 @@ impl<'a> Teller<'a> {
             Some(Sending::Directory { left, bytes }) => entries(left, bytes, data),
             None => Vec::new(),
         }
+    }
+}
+
+/// The line at which a script ends that can't be read further.
+fn unreadable(is_sheet: bool) -> Row {
+    match is_sheet {
+        true => row(
+            None,
+            ' ',
+            "refused",
+            "37: the line is too long, or its script's fields can't be read; nothing after it is marked",
+        ),
+        false => row(
+            None,
+            ' ',
+            "unreadable",
+            "the line can't be read, and nothing after it is",
+        ),
     }
 }
 
@@ -316,17 +353,17 @@ fn closed_words(packet: Option<&[u8]>) -> &'static str {
 }
 
 /// The whole explanation.
-pub fn explain(play: &Play, equations: &Equations, maxsel: Option<usize>) -> String {
-    let mut text = match maxsel {
-        None => String::new(),
-        Some(most) => format!("{}\n", not_compared(most)),
-    };
+pub fn explain(pass: &Pass) -> String {
+    let play = &pass.play;
+    let marks = pass.marks.as_deref();
+    let mut text = first_line(pass);
     text.push_str("1 > what the station of session 1 sends; 1 < what the server answers it\n");
     let width = play.steps.len().to_string().len();
-    let mut teller = Teller::new(equations);
-    for step in &play.steps {
-        for row in teller.rows(step) {
-            write_row(&mut text, step.line, width, &row);
+    let mut teller = Teller::new(pass);
+    for (at, step) in play.steps.iter().enumerate() {
+        let mark = marks.and_then(|marks| marks.get(at)).map(sheet::mark_row);
+        for row in teller.rows(step).iter().chain(&mark) {
+            write_row(&mut text, step.line, width, row);
         }
     }
     let blocks = play.sheet.lines().last().unwrap_or_default();
@@ -335,6 +372,15 @@ pub fn explain(play: &Play, equations: &Equations, maxsel: Option<usize>) -> Str
         text.push_str(&format!("blocks {free} free, {held} held\n"));
     }
     text
+}
+
+/// What is said before all else: the marks of a sheet, or that nothing was compared.
+fn first_line(pass: &Pass) -> String {
+    match (&pass.marks, pass.maxsel) {
+        (Some(marks), _) => format!("marks {}\n", sheet::right(marks)),
+        (None, Some(most)) => format!("{}\n", not_compared(most)),
+        (None, None) => String::new(),
+    }
 }
 
 /// Said first where the answers could not be compared with those of `passday`.

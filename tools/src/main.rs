@@ -1,4 +1,5 @@
-//! tools --home CHECKOUT say LESSON | explain [--maxsel N] SCRIPT | draw [--maxsel N] SCRIPT; - is standard input. ./run calls it.
+//! tools --home CHECKOUT say LESSON | explain [--maxsel N] SCRIPT | draw [--maxsel N] SCRIPT | explain --sheet SHEET | draw --sheet SHEET; - is
+//! standard input. ./run calls it.
 //! One word more is for the tests: states [--maxsel N] SCRIPT prints the server's state after each line.
 use std::env;
 use std::fs;
@@ -7,11 +8,12 @@ use std::path::Path;
 use std::process::ExitCode;
 
 use tools::data;
-use tools::explain::explain;
+use tools::explain::{explain, Pass};
 use tools::page;
-use tools::play::{checked, Play, Refused};
+use tools::play::{checked, Refused};
 use tools::programs::Home;
 use tools::say::say;
+use tools::sheet;
 use tools::words;
 
 /// Why nothing is printed: what is told, and the exit status.
@@ -51,71 +53,117 @@ fn say_lesson(name: &str, home: &Home) -> Result<String, Ended> {
     }
 }
 
-fn played(script: &[u8], maxsel: Option<usize>, home: &Home) -> Result<Play, Ended> {
-    checked(script, maxsel, home).map_err(|refused| match refused {
+fn refused(refused: Refused) -> Ended {
+    match refused {
         Refused::Failed(error) => failed(error),
         Refused::Size(_) => Ended("run: MAXSEL is 1 to 50.".to_string(), 2),
-        Refused::Differs(line) => {
-            let told = format!("run: line {line} of what was played is not what passday prints, so nothing is told.");
+        Refused::Asks(line) => {
+            let told = format!("run: line {line} asks why, and classday, which answers it, has MAXSEL 50: leave out --maxsel.");
+            Ended(told, 2)
+        }
+        Refused::Differs(program, line) => {
+            let told = format!("run: line {line} of what was played is not what {program} prints, so nothing is told.");
             Ended(told, 3)
         }
-    })
+    }
 }
 
-/// What is printed, and the exit status: 1 for a script with a line that can't be read, whose reason is told.
-fn shown(
-    word: &str,
-    name: &str,
-    maxsel: Option<usize>,
-    home: &Home,
-) -> Result<(String, u8), Ended> {
-    let script = read(name)?;
-    let play = played(&script, maxsel, home)?;
-    let equations = words::equations(&play, home).map_err(failed)?;
-    let text = match word {
-        "explain" => explain(&play, &equations, maxsel),
-        "states" => data::states(&play),
-        _ => page::page(&play, &equations, maxsel, name),
-    };
-    let is_unreadable = play
-        .steps
-        .last()
-        .map_or(false, |step| step.command.is_none());
-    if is_unreadable {
-        eprintln!("{}", home.reason(&script));
-    }
-    Ok((text, is_unreadable.into()))
+/// What is behind a word that shows: a script and its MAXSEL, or an answer sheet.
+enum Shown {
+    Script(Option<usize>),
+    Sheet,
 }
 
-fn maxsel(words: &mut Vec<String>) -> Result<Option<usize>, Ended> {
-    if words.first().map(String::as_str) != Some("--maxsel") {
-        return Ok(None);
-    }
-    match words.get(1).and_then(|number| number.parse().ok()) {
-        Some(number @ 1..=50) => {
-            words.drain(..2);
-            Ok(Some(number))
+/// A script or a sheet, played; and why it can't be read to its end.
+fn played(name: &str, shown: &Shown, home: &Home) -> Result<(Pass, Option<String>), Ended> {
+    let bytes = read(name)?;
+    let (play, maxsel, marks) = match shown {
+        Shown::Script(maxsel) => {
+            let play = checked(&bytes, *maxsel, home).map_err(refused)?;
+            (play, *maxsel, None)
         }
-        _ => ended(2, "run: MAXSEL is 1 to 50: --maxsel 2"),
+        Shown::Sheet => {
+            let (play, marks) = sheet::marked(&bytes, home).map_err(refused)?;
+            (play, None, Some(marks))
+        }
+    };
+    let reason = play.is_unreadable().then(|| match marks {
+        None => home.reason(&bytes, true),
+        Some(_) => {
+            let reason = home.reason(&sheet::script(&bytes), false);
+            format!(
+                "{reason}; the desk refuses the line (37), and the marks are for those before it"
+            )
+        }
+    });
+    let texts = words::texts(&play, home).map_err(failed)?;
+    let pass = Pass {
+        play,
+        texts,
+        maxsel,
+        marks,
+    };
+    Ok((pass, reason))
+}
+
+/// What is printed, and the exit status: 1 for a script or a sheet with a line that can't be read, whose reason is told.
+fn show(word: &str, name: &str, shown: &Shown, home: &Home) -> Result<(String, u8), Ended> {
+    let (pass, reason) = played(name, shown, home)?;
+    let told = reason.as_deref().unwrap_or_default();
+    let text = match word {
+        "explain" => explain(&pass),
+        "states" => data::states(&pass.play),
+        _ => page::page(&pass, name, told),
+    };
+    if reason.is_some() {
+        eprintln!("{told}");
+    }
+    Ok((text, reason.is_some().into()))
+}
+
+/// Takes the options that stand before the name.
+fn options(words: &mut Vec<String>) -> Result<Shown, Ended> {
+    let (mut maxsel, mut is_sheet) = (None, false);
+    loop {
+        match words.first().map(String::as_str) {
+            Some("--sheet") => {
+                is_sheet = true;
+                words.remove(0);
+            }
+            Some("--maxsel") => {
+                match words.get(1).and_then(|number| number.parse().ok()) {
+                    Some(number @ 1..=50) => maxsel = Some(number),
+                    _ => return ended(2, "run: MAXSEL is 1 to 50: --maxsel 2"),
+                }
+                words.drain(..2);
+            }
+            _ => break,
+        }
+    }
+    match (is_sheet, maxsel) {
+        (true, Some(_)) => ended(
+            2,
+            "run: --maxsel is for a script: the desk marks a sheet by a server whose MAXSEL is 50.",
+        ),
+        (true, None) => Ok(Shown::Sheet),
+        (false, maxsel) => Ok(Shown::Script(maxsel)),
     }
 }
 
 fn run(mut words: Vec<String>) -> Result<(String, u8), Ended> {
-    let usage = "use: tools --home CHECKOUT say|explain|draw [--maxsel N] NAME";
+    let usage = "use: tools --home CHECKOUT say|explain|draw [--maxsel N | --sheet] NAME";
     if words.len() < 3 || words[0] != "--home" {
         return ended(2, usage);
     }
     let home = Home::new(&words[1]);
     let word = words[2].clone();
     words.drain(..3);
-    let maxsel = if word == "say" {
-        None
-    } else {
-        maxsel(&mut words)?
-    };
+    if let ("say", [name]) = (word.as_str(), &words[..]) {
+        return Ok((say_lesson(name, &home)?, 0));
+    }
+    let shown = options(&mut words)?;
     match (word.as_str(), &words[..]) {
-        ("say", [name]) => Ok((say_lesson(name, &home)?, 0)),
-        ("explain" | "draw" | "states", [name]) => shown(&word, name, maxsel, &home),
+        ("explain" | "draw" | "states", [name]) => show(&word, name, &shown, &home),
         _ => ended(2, usage),
     }
 }

@@ -7,6 +7,8 @@
   const KEPT = 256;
   // only so many steps around the present one are in the page
   const AROUND = 60;
+  // only so many wrong lines of a sheet have a button
+  const FEW = 24;
   const copies = [];
   let now = 0, from = 0, to = 0;
 
@@ -72,13 +74,15 @@
       box.append(head, make("code", hex.replace(/../g, "$& ").trim(), "bytes"));
       cell.append(box);
     }
-    if (details.length) {
-      const items = make("ul", undefined, "items");
-      for (const detail of details) items.append(make("li", detail));
-      // a header is long, so it stands with its bytes; why a file was refused is seen at once
-      (name === "DATA" ? cell.firstChild : cell).append(items);
-    }
+    // a header is long, so it stands with its bytes; why a file was refused is seen at once
+    if (details.length) (name === "DATA" ? cell.firstChild : cell).append(items(details));
     return cell;
+  }
+
+  function items(details) {
+    const list = make("ul", undefined, "items");
+    for (const detail of details) list.append(make("li", detail));
+    return list;
   }
 
   // the clock is written where a line sets it, and in the first row that is in the page
@@ -87,10 +91,46 @@
     return step === from || (rows.length && rows[0][2] === "clock") ? String(steps[step][1]) : "";
   }
 
-  function passRow(step, row, isFirst, open) {
+  // the desk's word on a line of an answer sheet: none, right, or wrong with where it differs, the pupil's fields and the server's
+  function isWrong(step) {
+    return Boolean(steps[step][4] && steps[step][4].length);
+  }
+
+  function markWords(step) {
+    return !steps[step][4] ? "" : isWrong(step) ? "✗ wrong" : "✓ right";
+  }
+
+  function fieldLine(name, fields) {
+    const line = make("p");
+    line.append(make("span", name, "who"));
+    if (!fields.length) line.append(" nothing");
+    for (const field of fields) line.append(" ", make("code", field, "field"));
+    return line;
+  }
+
+  // below the packets of a wrong line: what the pupil wrote, and what the server answers
+  function wrongRow(step, open) {
+    const [words, written, answered] = steps[step][4];
+    const tr = frontRow(step, false);
+    const cell = wholeCell(open, "compared");
+    cell.append(fieldLine("the pupil wrote", written), fieldLine("the server answers", answered), make("p", words));
+    tr.append(cell);
+    return tr;
+  }
+
+  // a cell across all lanes; the lifeline of the first one goes on beside it
+  function wholeCell(open, kind) {
+    const cell = make("td", undefined, (open.has(lanes[0]) ? "lane open " : "lane ") + kind);
+    cell.colSpan = Math.max(lanes.length, 1);
+    return cell;
+  }
+
+  // mark, line and clock of a row
+  function frontRow(step, isFirst) {
     const tr = make("tr", undefined, isFirst ? "step first" : "step");
     tr.dataset.step = step;
-    tr.append(make("td", "", "marks"));
+    if (isWrong(step)) tr.classList.add("wrong");
+    tr.append(make("td", isFirst ? markWords(step) : "", "marks"));
     const line = make("td", undefined, "line");
     if (isFirst) {
       const button = make("button", String(steps[step][0]));
@@ -99,11 +139,16 @@
       line.append(button);
     }
     tr.append(line, make("td", isFirst ? clockWords(step) : "", "clock"));
-    // the lifelines go on where a line sets the clock
-    if (row && row[2] === "unreadable") {
-      const cell = make("td", undefined, "lane");
-      cell.colSpan = Math.max(lanes.length, 1);
+    return tr;
+  }
+
+  function passRow(step, row, isFirst, open) {
+    const tr = frontRow(step, isFirst);
+    // a question and its answer, or a line that can't be read; the lifelines go on where a line sets the clock
+    if (row && !row[0] && row[2] !== "clock") {
+      const cell = wholeCell(open, "whole");
       cell.append(make("span", row[2], "name"), " " + row[3]);
+      if (row[5].length) cell.append(items(row[5]));
       tr.append(cell);
       return tr;
     }
@@ -145,6 +190,7 @@
       const rows = steps[step][2];
       if (!rows.length) body.append(passRow(step, null, true, open));
       rows.forEach((row, at) => body.append(passRow(step, row, at === 0, open)));
+      if (isWrong(step)) body.append(wrongRow(step, open));
       before = after;
     }
     const above = document.getElementById("above"), below = document.getElementById("below");
@@ -254,6 +300,13 @@
     else if (bottom > box.scrollTop + box.clientHeight) box.scrollTop = Math.min(top - head, bottom - box.clientHeight);
   }
 
+  // for who hears the page
+  function heardWords(step) {
+    const rows = steps[step][2].map((row) => (row[0] ? "session " + row[0] + " " : "") + [row[2], row[3], ...(row[0] ? [] : row[5])].join(" "));
+    if (steps[step][4]) rows.push(isWrong(step) ? "wrong: " + steps[step][4][0] : "right");
+    return rows.join("; ");
+  }
+
   function go(step) {
     now = Math.min(Math.max(step, 0), LAST);
     const is_shown = now === 0 ? from === 1 : now >= from && now <= to;
@@ -262,8 +315,7 @@
     const rows = mark();
     if (rows.length) inView(rows);
     else document.getElementById("pass").scrollTop = 0;
-    // for who hears the page
-    document.getElementById("told").textContent = steps[now][2].map((row) => (row[0] ? "session " + row[0] + " " : "") + row[2] + " " + row[3]).join("; ");
+    document.getElementById("told").textContent = heardWords(now);
     document.getElementById("step").value = now;
     document.body.dataset.step = now;
     for (const id of ["begin", "back"]) document.getElementById(id).disabled = now === 0;
@@ -298,9 +350,25 @@
     return result;
   }
 
+  // the marks of a sheet, and its wrong lines to go to
+  function total() {
+    const result = make("p", undefined, "total");
+    const wrong = steps.map((step, at) => at).filter(isWrong);
+    result.append(make("strong", data.marks), " lines are right.");
+    if (wrong.length) result.append(" Wrong: ");
+    for (const step of wrong.slice(0, FEW)) {
+      const button = make("button", "line " + steps[step][0]);
+      button.addEventListener("click", () => go(step));
+      result.append(button, " ");
+    }
+    if (wrong.length > FEW) result.append("and " + (wrong.length - FEW) + " more");
+    return result;
+  }
+
   function begin() {
     const header = make("header"), main = make("main"), pass = make("div"), state = make("section");
-    header.append(make("h1", "What passed between the stations and the server: " + data.name));
+    header.append(make("h1", (data.marks ? "Answer sheet, marked: " : "What passed between the stations and the server: ") + data.name));
+    if (data.marks) header.append(total());
     if (data.note) header.append(make("p", data.note, "note"));
     header.append(bar());
     pass.id = "pass";
@@ -309,7 +377,7 @@
     told.id = "told";
     told.setAttribute("role", "status");
     const heads = make("tr");
-    heads.append(make("th", "", "marks"), make("th", "Line", "line"), make("th", "Clock", "clock"));
+    heads.append(make("th", data.marks ? "Mark" : "", "marks"), make("th", "Line", "line"), make("th", "Clock", "clock"));
     for (const lane of lanes) heads.append(make("th", "Session " + lane, "lane"));
     if (!lanes.length) heads.append(make("th", "", "lane"));
     const list = make("table"), top = make("thead"), body = make("tbody"), above = make("div"), below = make("div");
@@ -321,6 +389,7 @@
     pass.append(above, list, below);
     main.append(pass, state);
     document.body.append(header, main, told);
+    if (data.marks) document.body.classList.add("sheet");
     document.addEventListener("keydown", pressed);
     addEventListener("beforeprint", () => { from = 1; to = LAST; drawRange(); mark(); });
     addEventListener("afterprint", () => { draw(now); mark(); });

@@ -1,8 +1,6 @@
 //! One page for a browser that shows a play, and needs nothing else: no network, no other file.
 use crate::data::json;
-use crate::explain::not_compared;
-use crate::play::Play;
-use crate::words::Equations;
+use crate::explain::{not_compared, Pass};
 
 const STYLE: &str = include_str!("page.css");
 const ACTS: &str = include_str!("page.js");
@@ -15,15 +13,20 @@ fn escaped(text: &str) -> String {
         .replace('"', "&quot;")
 }
 
-/// The page. Nothing that comes from a script is a part of its tags: all of it is JSON, which the page's own script writes as text.
-pub fn page(play: &Play, equations: &Equations, maxsel: Option<usize>, name: &str) -> String {
-    let name = if name == "-" { "a script" } else { name };
-    let note = maxsel.map_or(String::new(), not_compared);
-    let data = json(play, equations, name, &note);
-    let first = match note.is_empty() {
-        true => String::new(),
-        false => format!("<!-- {} -->\n", escaped(&note)),
+/// The page, with the reason why a script or a sheet can't be read to its end. Nothing that comes from these is a part of the page's tags: all of it is
+/// JSON, which the page's own script writes as text.
+pub fn page(pass: &Pass, name: &str, reason: &str) -> String {
+    let name = match (name, &pass.marks) {
+        ("-", None) => "a script",
+        ("-", Some(_)) => "an answer sheet",
+        _ => name,
     };
+    let first = match pass.maxsel {
+        None => String::new(),
+        Some(most) => format!("<!-- {} -->\n", escaped(&not_compared(most))),
+    };
+    let note = pass.maxsel.map_or(reason.to_string(), not_compared);
+    let data = json(pass, name, &note);
     format!(
         "{first}<!DOCTYPE html>\n<html lang=\"en\">\n<head>\n<meta charset=\"utf-8\">\n\
          <meta http-equiv=\"Content-Security-Policy\" content=\"default-src 'none'; style-src 'unsafe-inline'; script-src 'unsafe-inline'\">\n\

@@ -1,4 +1,5 @@
 //! Plays a script on the proved library: for each line what was sent, what the server answered, what `passday` prints for it, and the state after it.
+//! The questions of a class's script are no packets, and the library does not answer them: their answers are those that `classday` prints.
 use std::io;
 
 use bindings::server::{Answer, Server, Sizes};
@@ -6,7 +7,7 @@ use bindings::server::{Answer, Server, Sizes};
 use crate::bytes::to_hex;
 use crate::names::packet_name;
 use crate::programs::Home;
-use crate::script::{lines, Command};
+use crate::script::{is_question, lines, Command};
 use crate::state::{self, Downlink, State};
 
 /// The sizes of `passday`.
@@ -74,6 +75,46 @@ pub struct Play {
     pub before: State,
     /// All that is printed.
     pub sheet: String,
+    /// The number of the first line that begins with a word of `classday` alone, if one was played.
+    pub asks: Option<usize>,
+}
+
+impl Play {
+    /// The last line can't be read.
+    pub fn is_unreadable(&self) -> bool {
+        let last = self.steps.last();
+        last.map_or(false, |step| step.command.is_none())
+    }
+
+    /// Takes the answers to the questions from what `classday` prints, each from the place at which it must stand.
+    fn answer(&mut self, printed: &[u8]) -> Result<(), Refused> {
+        let printed = String::from_utf8_lossy(printed);
+        let lines: Vec<&str> = printed.lines().collect();
+        let blocks = self.sheet.lines().last().unwrap_or_default().to_string();
+        let mut place = 1;
+        for step in &mut self.steps {
+            if let Some(Command::Why(file, _)) = step.command {
+                let begin = format!("why\t{file}\t");
+                match lines.get(place).filter(|line| line.starts_with(&begin)) {
+                    Some(line) => step.printed.push(line.to_string()),
+                    None => return Err(Refused::Differs("classday", place + 1)),
+                }
+            }
+            place += step.printed.len();
+        }
+        self.sheet = sheet(&self.steps, &blocks);
+        Ok(())
+    }
+}
+
+const FIRST: &str = "session\tpacket\tinformation";
+
+/// All lines that are printed, with the first and the last one.
+fn sheet(steps: &[Step], blocks: &str) -> String {
+    let printed = steps.iter().flat_map(|step| &step.printed);
+    let lines = std::iter::once(FIRST).chain(printed.map(String::as_str));
+    let whole = lines.chain(std::iter::once(blocks));
+    whole.flat_map(|line| [line, "\n"]).collect()
 }
 
 struct Player {
@@ -231,6 +272,7 @@ impl Player {
             }
             Command::Drop(session) => self.lose(*session),
             Command::Rx(session, bytes) => self.rx(*session, bytes),
+            Command::Why(..) => {}
         }
     }
 }
@@ -246,17 +288,16 @@ pub fn play(script: &[u8], sizes: Sizes) -> Result<Play, u8> {
         printed: Vec::new(),
     };
     let mut steps: Vec<Step> = Vec::new();
-    let mut sheet = String::from("session\tpacket\tinformation\n");
+    let mut asks = None;
     for (line, number) in lines(script).into_iter().zip(1..) {
+        if is_question(line) {
+            asks = asks.or(Some(number));
+        }
         let step = player.step(
             number,
             line,
             steps.last().map_or(&before, |step| &step.after),
         );
-        for line in &step.printed {
-            sheet.push_str(line);
-            sheet.push('\n');
-        }
         let is_last = step.command.is_none();
         steps.push(step);
         if is_last {
@@ -264,11 +305,11 @@ pub fn play(script: &[u8], sizes: Sizes) -> Result<Play, u8> {
         }
     }
     let (free, all) = player.server.free()?;
-    sheet.push_str(&format!("blocks\t{free}\t{}\n", all - free));
     Ok(Play {
+        sheet: sheet(&steps, &format!("blocks\t{free}\t{}", all - free)),
         steps,
         before,
-        sheet,
+        asks,
     })
 }
 
@@ -276,8 +317,10 @@ pub fn play(script: &[u8], sizes: Sizes) -> Result<Play, u8> {
 pub enum Refused {
     /// A program or a file failed.
     Failed(io::Error),
-    /// The sheet that was played is not what `passday` prints.
-    Differs(usize),
+    /// Another line than this program prints.
+    Differs(&'static str, usize),
+    /// A line asks why, which is answered for the MAXSEL of `classday` alone.
+    Asks(usize),
     Size(u8),
 }
 
@@ -287,22 +330,42 @@ impl From<io::Error> for Refused {
     }
 }
 
-/// Plays a script, with another MAXSEL than `passday`'s if one is named; else the sheet must be what `passday` prints, byte for byte.
+/// Plays a script, with another MAXSEL than `passday`'s if one is named; else the sheet must be what `passday` prints, byte for byte, or for a
+/// class's script what `classday` prints.
 pub fn checked(script: &[u8], maxsel: Option<usize>, home: &Home) -> Result<Play, Refused> {
     let sizes = Sizes {
         most: maxsel.unwrap_or(SIZES.most),
         ..SIZES
     };
-    let played = play(script, sizes).map_err(Refused::Size)?;
-    if maxsel.is_none() {
-        let printed = home.passday(script)?;
-        if printed != played.sheet.as_bytes() {
-            let lines = printed
-                .split(|&byte| byte == b'\n')
-                .zip(played.sheet.split('\n'));
-            let alike = lines.take_while(|(a, b)| *a == b.as_bytes()).count();
-            return Err(Refused::Differs(alike + 1));
+    let mut played = play(script, sizes).map_err(Refused::Size)?;
+    match (maxsel, played.asks) {
+        (Some(_), Some(line)) => return Err(Refused::Asks(line)),
+        (Some(_), None) => {}
+        (None, Some(_)) => {
+            let printed = home.run("classday", script)?;
+            played.answer(&printed)?;
+            compare(&played, "classday", &printed)?;
         }
+        (None, None) => compare(&played, "passday", &home.run("passday", script)?)?,
     }
     Ok(played)
+}
+
+/// Plays a script of `passday`'s words alone; the sheet must be what `passday` prints.
+pub fn checked_by_passday(script: &[u8], home: &Home) -> Result<Play, Refused> {
+    let played = play(script, SIZES).map_err(Refused::Size)?;
+    compare(&played, "passday", &home.run("passday", script)?)?;
+    Ok(played)
+}
+
+/// What was played is what a program prints.
+fn compare(played: &Play, program: &'static str, printed: &[u8]) -> Result<(), Refused> {
+    if printed == played.sheet.as_bytes() {
+        return Ok(());
+    }
+    let lines = printed
+        .split(|&byte| byte == b'\n')
+        .zip(played.sheet.split('\n'));
+    let alike = lines.take_while(|(a, b)| *a == b.as_bytes()).count();
+    Err(Refused::Differs(program, alike + 1))
 }

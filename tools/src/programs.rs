@@ -20,8 +20,9 @@ impl Home {
     }
 
     /// All that a command of the checkout prints for an input, and whether it ended well.
-    fn ask(&self, command: &str, input: &[u8]) -> io::Result<(Vec<u8>, bool)> {
+    fn ask(&self, command: &str, words: &[&str], input: &[u8]) -> io::Result<(Vec<u8>, bool)> {
         let mut child = Command::new(self.folder.join(command))
+            .args(words)
             .stdin(Stdio::piped())
             .stdout(Stdio::piped())
             .spawn()?;
@@ -34,24 +35,25 @@ impl Home {
         Ok((output.stdout, output.status.success()))
     }
 
-    fn run(&self, program: &str, input: &[u8]) -> io::Result<Vec<u8>> {
-        match self.ask(&format!("target/bin/{program}"), input)? {
-            (printed, true) => Ok(printed),
-            (_, false) => Err(other(format!("{program} was ended"))),
+    /// All that a proved program prints for an input.
+    pub fn run(&self, program: &str, input: &[u8]) -> io::Result<Vec<u8>> {
+        match self.ask(&format!("target/bin/{program}"), &[], input) {
+            Ok((printed, true)) => Ok(printed),
+            Ok((_, false)) => Err(other(format!("{program} was ended"))),
+            Err(error) => Err(other(format!(
+                "{program} can't be started: {}",
+                error.kind()
+            ))),
         }
     }
 
-    /// Why a script can't be read, as ./run says it.
-    pub fn reason(&self, script: &[u8]) -> String {
-        let told = self.ask("scripts/explain-line", script);
+    /// Why a script can't be read, as ./run says it; for a class's script the words of `classday` can be read too.
+    pub fn reason(&self, script: &[u8], class: bool) -> String {
+        let words: &[&str] = if class { &["--class"] } else { &[] };
+        let told = self.ask("scripts/explain-line", words, script);
         told.map_or(String::new(), |(told, _)| {
             String::from_utf8_lossy(&told).trim_end().to_string()
         })
-    }
-
-    /// What `passday` prints for a script.
-    pub fn passday(&self, script: &[u8]) -> io::Result<Vec<u8>> {
-        self.run("passday", script)
     }
 
     /// The answers of `equations`, one for each line, in one run of it.

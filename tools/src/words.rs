@@ -7,9 +7,17 @@ use crate::bytes::{number, to_hex};
 use crate::names::packet_name;
 use crate::play::{Begun, Event, Play, Upload};
 use crate::programs::Home;
+use crate::why::{self, Postfix};
 
-/// The equations of a script's SELECTs as text, by their bytes.
+/// Equations as text, by their bytes.
 pub type Equations = HashMap<Vec<u8>, String>;
+
+/// The texts of a script's equations: those of its SELECTs, and those that its questions name, with their relations.
+#[derive(Default)]
+pub struct Texts {
+    pub equations: Equations,
+    pub postfix: Postfix,
+}
 
 /// A packet's name, and what it says.
 #[derive(Clone, Debug, PartialEq, Eq)]
@@ -55,9 +63,10 @@ pub fn count(number: usize, thing: &str) -> String {
 
 // ---- equations
 
-/// The text of each equation, in one run of the proved program `equations`, and one more for those that end in an end mark.
-pub fn equations(play: &Play, home: &Home) -> io::Result<Equations> {
-    let mut asked: BTreeSet<Vec<u8>> = BTreeSet::new();
+/// The texts of all equations of a script.
+pub fn texts(play: &Play, home: &Home) -> io::Result<Texts> {
+    let postfix = why::postfix(play, home)?;
+    let mut asked = why::needed(&postfix);
     for event in play.steps.iter().flat_map(|step| &step.events) {
         if let Event::Heard { packet, .. } = event {
             if kind(packet) == Some(16) && announced(packet) <= 256 {
@@ -65,6 +74,12 @@ pub fn equations(play: &Play, home: &Home) -> io::Result<Equations> {
             }
         }
     }
+    let equations = equations(asked, home)?;
+    Ok(Texts { equations, postfix })
+}
+
+/// The text of each equation, in one run of the proved program `equations`, and one more for those that end in an end mark.
+fn equations(asked: BTreeSet<Vec<u8>>, home: &Home) -> io::Result<Equations> {
     let asked: Vec<Vec<u8>> = asked.into_iter().collect();
     let mut texts = Equations::new();
     let mut marked = Vec::new();
@@ -100,6 +115,7 @@ fn equation_words(answer: &str) -> String {
         Some(("text", text)) => text.to_string(),
         Some(("refused", "8")) => "badly formed: no equation".to_string(),
         Some(("refused", "deeper")) => "brackets nested deeper than text can have".to_string(),
+        Some(("refused", "bytes")) => "more bytes than an equation as text can have".to_string(),
         _ => "an equation that has no text".to_string(),
     }
 }

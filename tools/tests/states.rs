@@ -24,7 +24,7 @@ struct Seen {
 
 fn session_of(step: &Step) -> Option<usize> {
     match step.command.as_ref()? {
-        Command::Time(_) => None,
+        Command::Time(_) | Command::Why(..) => None,
         Command::Open(session) | Command::Drop(session) | Command::Rx(session, _) => {
             Some(*session as usize)
         }
