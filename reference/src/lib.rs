@@ -8,6 +8,7 @@ pub mod coverage;
 pub mod desk;
 pub mod draft;
 pub mod equation;
+pub mod folder;
 pub mod generator;
 pub mod header;
 pub mod lines;

@@ -1,15 +1,13 @@
 //! Writes random scripts with random damage to a folder: most have a line that
 //! can't be read, some damage does no harm, and some scripts have none.
 
-use std::io;
-use std::path::Path;
+use std::io::{self, Write};
 use std::process::ExitCode;
 
+use reference::folder::{self, Texts};
 use reference::generator;
 use reference::random::Random;
 use reference::script::LINE_MOST;
-
-const USAGE: &str = "usage: damage SEED COUNT DIR";
 
 /// Bytes that stand in scripts, or come into them by mistake.
 const BYTES: &[u8] = b"\t\t  \r\n\0\x01\x0b\x7f\x80\xa0\xc3\xefaAfFgGxX09-+.,#'";
@@ -135,37 +133,18 @@ fn damaged(seed: u64) -> Vec<u8> {
     script
 }
 
-fn write_scripts(seed: u64, count: u64, folder: &Path) -> io::Result<()> {
-    std::fs::create_dir_all(folder)?;
-    for index in 0..count {
-        let script = damaged(generator::seed_of(seed, index));
-        std::fs::write(folder.join(format!("{seed}-{index}.script")), script)?;
-    }
-    Ok(())
-}
+struct Damaged;
 
-/// The seed, the count and the folder that the arguments name.
-fn asked(arguments: &[String]) -> Option<(u64, u64, &Path)> {
-    match arguments {
-        [seed, count, folder] => Some((seed.parse().ok()?, count.parse().ok()?, Path::new(folder))),
-        _ => None,
+impl Texts for Damaged {
+    fn text(&mut self, seed: u64) -> Vec<u8> {
+        damaged(seed)
+    }
+
+    fn print(&self, _: &mut dyn Write) -> io::Result<()> {
+        Ok(())
     }
 }
 
 fn main() -> ExitCode {
-    let arguments: Vec<String> = std::env::args().skip(1).collect();
-    let (seed, count, folder) = match asked(&arguments) {
-        Some(asked) => asked,
-        None => {
-            eprintln!("{}", USAGE);
-            return ExitCode::from(2);
-        }
-    };
-    match write_scripts(seed, count, folder) {
-        Ok(()) => ExitCode::SUCCESS,
-        Err(error) => {
-            eprintln!("damage: {}", error);
-            ExitCode::FAILURE
-        }
-    }
+    folder::run("damage", "script", &mut Damaged)
 }

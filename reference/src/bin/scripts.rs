@@ -1,52 +1,28 @@
 //! Writes random scripts to a folder and prints what they reach.
 
-use std::io::{self, BufWriter, Write};
-use std::path::Path;
+use std::io::{self, Write};
 use std::process::ExitCode;
 
 use reference::coverage::Coverage;
+use reference::folder::{self, Texts};
 use reference::generator;
 use reference::script;
 
-const USAGE: &str = "usage: scripts SEED COUNT DIR";
+struct Scripts(Coverage);
 
-fn write_scripts(seed: u64, count: u64, folder: &Path) -> io::Result<()> {
-    std::fs::create_dir_all(folder)?;
-    let mut coverage = Coverage::new();
-    for index in 0..count {
-        let text = generator::story(generator::seed_of(seed, index)).text();
+impl Texts for Scripts {
+    fn text(&mut self, seed: u64) -> Vec<u8> {
+        let text = generator::story(seed).text();
         let (_, driver) = script::run_watched(&text, Coverage::new());
-        coverage.add(&driver.watch);
-        std::fs::write(folder.join(format!("{seed}-{index}.script")), text)?;
+        self.0.add(&driver.watch);
+        text
     }
-    let mut output = BufWriter::new(io::stdout().lock());
-    coverage.print(&mut output)?;
-    output.flush()
-}
 
-/// The seed, how many scripts, and the folder for them.
-fn asked(arguments: &[String]) -> Option<(u64, u64, &Path)> {
-    match arguments {
-        [seed, count, folder] => Some((seed.parse().ok()?, count.parse().ok()?, Path::new(folder))),
-        _ => None,
+    fn print(&self, mut output: &mut dyn Write) -> io::Result<()> {
+        self.0.print(&mut output)
     }
 }
 
 fn main() -> ExitCode {
-    let arguments: Vec<String> = std::env::args().skip(1).collect();
-    let (seed, count, folder) = match asked(&arguments) {
-        Some(asked) => asked,
-        None => {
-            eprintln!("{USAGE}");
-            return ExitCode::from(2);
-        }
-    };
-    match write_scripts(seed, count, folder) {
-        Ok(()) => ExitCode::SUCCESS,
-        Err(error) if error.kind() == io::ErrorKind::BrokenPipe => ExitCode::SUCCESS,
-        Err(error) => {
-            eprintln!("scripts: {error}");
-            ExitCode::FAILURE
-        }
-    }
+    folder::run("scripts", "script", &mut Scripts(Coverage::new()))
 }
