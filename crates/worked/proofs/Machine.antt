@@ -119,7 +119,7 @@ module _ (d : Demand2) where
   unfolding at-work
   end-accepted = by-machine (continued ▸ rest) 4 dataEnd _ refl
 
-  -- and the file is complete, its four fields set and its time 4
+  -- and the file is complete, its five fields set and its time 4
   pub end-completes :
       view (callOf (serverAfter (continued ▸ rest)) (lentAfter (continued ▸ rest)) (rx 4 dataEnd) .done .server)
       (callOf (serverAfter (continued ▸ rest)) (lentAfter (continued ▸ rest)) (rx 4 dataEnd) .lent) .files
@@ -195,7 +195,7 @@ module _ (d : Demand2) where
 
   -- ---- other types
 
-  -- DIR_SHORT_CMD: DL_ERROR_RESP 1 for now
+  -- DIR_SHORT_CMD without the number of a file: DL_ERROR_RESP 1
   pub type-14 : Gets opened 6 directory (1 ∷ 9 ∷ 1 ∷ [])
   unfolding at-work
   type-14 = by-machine opened 6 directory _ refl
