@@ -143,7 +143,7 @@ def function_edited(edit):
 
 
 def edits_of(crate):
-    """The edits of a crate: the one that `rt ci` tries (must-fail/), then the others (edits/)."""
+    """The edits of a crate: one that `rt ci` tries (must-fail/), if there is one, then the others (edits/)."""
     return [Edit(crate, path) for folder in ("must-fail", "edits") for path in files(f"crates/{crate}/{folder}/*.edit")]
 
 
