@@ -35,7 +35,7 @@ class Group:
 
 GROUPS = [
     Group(
-        "worked", "Passes Computed Plain Demand1 Demand2 Machine Downloads", "Demand1 Demand2",
+        "worked", "Passes Computed Plain Demand1 Demand2 Machine Downloads Directories", "Demand1 Demand2",
         "promises/specs/Closing promises/specs/Cut promises/specs/Demand1 promises/specs/Demand2 promises/specs/Feeding promises/specs/Parts"
         " promises/specs/Requests promises/specs/Uncut refines/specs/Refines transfers/specs/Downloads steps/specs/Sound",
     ),

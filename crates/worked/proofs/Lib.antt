@@ -5,3 +5,4 @@ pub mod Demand1
 pub mod Demand2
 pub mod Machine
 pub mod Downloads
+pub mod Directories
