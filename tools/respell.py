@@ -117,6 +117,8 @@ def table(root):
 
 
 def turned(text, rows, members):
+    aliases = set(re.findall(r"^use \S+ as (\S+)$", text, re.M))
+
     def one(m):
         w = m[0]
         if w not in rows:
@@ -126,7 +128,7 @@ def turned(text, rows, members):
             head = re.search(r"([^\s(){};,@]+)\.$", before)
             path = head[1] if head else ""
             last = path.split(".")[-1] if path else ""
-            if not (last[:1].isupper() or w in members):
+            if not (last[:1].isupper() or path in aliases or w in members):
                 return w
         return rows[w]
 

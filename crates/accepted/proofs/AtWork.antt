@@ -54,10 +54,10 @@ seen_two h = transcript (empty 2 2 2 1) h
 -- whoever unfolds this unfolds all that the passes compute with
 at_work : ℕ
 unfolding
-    computing run smallest opened halfway torn before_upload continued lost_once too_early mended uploads both parts.sentBy transcript
-    link.takenBy link.behind link.receivedBy link.anewBy link_bytes events.named_by events.noneBy upload_of events.onQuiet events.onGo events.onSent events.onAnswer accepted-accepted.addedBy
-    accepted accepted-accepted.announcedBy announced accepted-accepted.blocksOf total accepted-accepted.givenBy numbers_given accepted-accepted.fromOne
-    accepted-accepted.lastFrom accepted-accepted.completedBy completions effect.filesBy effect.numberBy effect.timeBy
+    computing run smallest opened halfway torn before_upload continued lost_once too_early mended uploads both parts.sent_by transcript
+    link.taken_by link.behind link.received_by link.anew_by link_bytes events.named_by events.none_by upload_of events.on_quiet events.on_go events.on_sent events.on_answer accepted-accepted.added_by
+    accepted accepted-accepted.announced_by announced accepted-accepted.blocks_of total accepted-accepted.given_by numbers_given accepted-accepted.from_one
+    accepted-accepted.last_from accepted-accepted.completed_by completions effect.files_by effect.number_by effect.time_by
 at_work = 0
 
 module _ (every : EveryTranscript) where
@@ -103,8 +103,8 @@ module _ (every : EveryTranscript) where
 
   -- they are 1 and 2
   pub counted_from_1 : numbers_given (seen too_early) ≡ 1 ∷ 2 ∷ []
-  unfolding accepted-accepted.fromOne
-  counted_from_1 = (one too_early).numbers.counted ∙ ap (λ (ns : List ℕ). accepted-accepted.fromOne (length ns)) two_numbers
+  unfolding accepted-accepted.from_one
+  counted_from_1 = (one too_early).numbers.counted ∙ ap (λ (ns : List ℕ). accepted-accepted.from_one (length ns)) two_numbers
 
   -- no file has a number above the last one given
   pub none_above : (n : ℕ) (f : File) → find n (small too_early).files ≡ some f → (n ≤ 2) × (f.number ≡ n)
@@ -282,7 +282,7 @@ module _ (every : EveryTranscript) where
   told_begun = (one opened).told (rx 6 (upload 0))
 
   pub begun_next : (1 ≡ (small opened).last_number + 1) × ((step (small opened) (rx 6 (upload 0))).after.last_number ≡ 1)
-  unfolding effect.numberBy
+  unfolding effect.number_by
   begun_next = (told_begun.before.next, told_begun.number)
 
   -- its number is not above the last that there is; there are a place and a block for it

@@ -75,14 +75,14 @@ module _ (s : Session) (m : Mem) (last : Last) (st : Stored m last) (more : List
   either_last true x y e f = e
   either_last false x y e f = f
 
-  close_acts : Acted s more m last (on_chooses m (download.closeTurn last m.selected))
-  unfolding on_chooses download.closeTurn
+  close_acts : Acted s more m last (on_chooses m (download.close_turn last m.selected))
+  unfolding on_chooses download.close_turn
   close_acts =
       same_store s m last st more (turn_of closed_session last Closing) (replicate (length m.selected) 0) refl
       (length-replicate (length m.selected) 0)
 
-  selected_acts : (r : Selects) → length r.selected ≡ length m.selected → Acted s more m last (on_chooses m (download.selectedAs s last r))
-  unfolding on_chooses download.selectedAs
+  selected_acts : (r : Selects) → length r.selected ≡ length m.selected → Acted s more m last (on_chooses m (download.selected_as s last r))
+  unfolding on_chooses download.selected_as
   selected_acts r l = go (eqb r.answer.refused 0)
     where
       go : (b : Bool) → Acted s more m last (on_chooses m (cond b
@@ -92,31 +92,31 @@ module _ (s : Session) (m : Mem) (last : Last) (st : Stored m last) (more : List
       go false = same_store s m last st more (turn_of s last (DownloadError r.answer.refused)) r.selected refl l
 
   select_acts : (most size : ℕ) (info : List ℕ)
-      → Acted s more m last (on_chooses m (download.selectTurn s last most size info m.disk m.owner m.table m.selected))
-  unfolding on_chooses download.selectTurn
+      → Acted s more m last (on_chooses m (download.select_turn s last most size info m.disk m.owner m.table m.selected))
+  unfolding on_chooses download.select_turn
   select_acts most size info = go (ltb (length info) size)
     where
       go : (b : Bool) → Acted s more m last (on_chooses m (cond b (chooses (turn_of s last Nothing) m.selected)
-          (download.selectedAs s last (select_of (take size info) m.disk m.owner m.table m.selected most))))
+          (download.selected_as s last (select_of (take size info) m.disk m.owner m.table m.selected most))))
       go true = same_store s m last st more (turn_of s last Nothing) m.selected refl refl
       go false =
           selected_acts (select_of (take size info) m.disk m.owner m.table m.selected most)
           (select_length (take size info) m.disk m.owner m.table m.selected most)
 
   send_acts : (place offset lock passed : ℕ)
-      → Acted s more m last (turned (download.beginTurn s last place offset lock passed m.disk m.owner m.table) m)
-  unfolding download.beginTurn
+      → Acted s more m last (turned (download.begin_turn s last place offset lock passed m.disk m.owner m.table) m)
+  unfolding download.begin_turn
   send_acts place offset lock passed =
       turn_acts _ (either_last (ltb (destinations_at m.disk m.owner m.table place) lock) (turn_of s last (DownloadError 10))
       (turn_of (with_down (with_next s passed) (down.Sending place offset 0)) last Nothing) refl refl)
 
-  list_acts : (listed : Listed) (long : Bool) (passed : ℕ) → Acted s more m last (turned (download.listTurn s last listed long passed) m)
-  unfolding download.listTurn
+  list_acts : (listed : Listed) (long : Bool) (passed : ℕ) → Acted s more m last (turned (download.list_turn s last listed long passed) m)
+  unfolding download.list_turn
   list_acts listed long passed = turn_acts _ refl
 
   confirm_acts : (place destination : ℕ)
-      → Acted s more m last (turned (download.confirmTurn s last place destination m.disk m.owner m.table) m)
-  unfolding download.confirmTurn
+      → Acted s more m last (turned (download.confirm_turn s last place destination m.disk m.owner m.table) m)
+  unfolding download.confirm_turn
   confirm_acts place destination =
       turn_acts _ (either_last (ltb (destinations_at m.disk m.owner m.table place) destination) (turn_of (with_down s down.Idle) last Aborted)
       (turn_of (with_down s down.Idle) last Completed) refl refl)
@@ -132,7 +132,7 @@ module _ (s : Session) (m : Mem) (last : Last) (clock most size : ℕ) (info : L
   carried (act.Tell r) h = turn_acts s m last st (take size info) (turn_of s last r) refl
   carried (act.Begin n) h = begin_acts s m last st (take size info) n
   carried (act.Resume place number received) h =
-      turn_acts s m last st (take size info) (upload.resumeTurn s last place number received) refl
+      turn_acts s m last st (take size info) (upload.resume_turn s last place number received) refl
   carried (act.Store place offset received) h =
       store_acts s m last st place offset received size h (partial place offset received h.receiving) info
   carried (act.Overrun place) h =

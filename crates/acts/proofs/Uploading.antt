@@ -72,25 +72,25 @@ pub ignoring_over : (q offset received : ℕ) → up.Ignoring ≡ up.Receiving q
 ignoring_over q offset received e = let z : ◌≡◌ {A = ℕ} 0 1 = cc in omega arith
 
 stored : (refused : ℕ) (s : Session) (last : Last) (p offset received : ℕ) → refused ≡ 0
-    → upload.storedAs refused s last p offset received ≡ turn_of (with_up s (up.Receiving p offset received)) last Nothing
-unfolding upload.storedAs
+    → upload.stored_as refused s last p offset received ≡ turn_of (with_up s (up.Receiving p offset received)) last Nothing
+unfolding upload.stored_as
 stored refused s last p offset received e = done refused _ (turn_of s last (Nak refused)) e
 
 accepted : (refused : ℕ) (s : Session) (last : Last) (time : ℕ) → refused ≡ 0
-    → upload.acceptedAs refused s last time ≡ turn_of (with_up s up.Idle) (last_of last.number time) Ack
-unfolding upload.acceptedAs
+    → upload.accepted_as refused s last time ≡ turn_of (with_up s up.Idle) (last_of last.number time) Ack
+unfolding upload.accepted_as
 accepted refused s last time e = done refused _ (turn_of (with_up s up.Idle) last (Nak refused)) e
 
 finish_checked : (s : Session) (last : Last) (p clock : ℕ) (disk map owner table : List ℕ) → check_of disk owner table p ≡ 0
-    → upload.finishTurn s last p clock disk map owner table
-    ≡ upload.finishAs (upload.timed (upload_time clock last.time)) s last p disk map owner table
-unfolding upload.judgedAt
+    → upload.finish_turn s last p clock disk map owner table
+    ≡ upload.finish_as (upload.timed (upload_time clock last.time)) s last p disk map owner table
+unfolding upload.judged_at
 finish_checked s last p clock disk map owner table e = rw (eq-eqb (check_of disk owner table p) 0 e)
 
 finish_rejected : (s : Session) (last : Last) (p clock : ℕ) (disk map owner table : List ℕ) → (check_of disk owner table p ≡ 0 → ⊥)
-    → upload.finishTurn s last p clock disk map owner table
-    ≡ upload.withDisk disk (upload.discardTurn s last p up.Idle (check_of disk owner table p) map owner table)
-unfolding upload.judgedAt upload.finishAs
+    → upload.finish_turn s last p clock disk map owner table
+    ≡ upload.with_disk disk (upload.discard_turn s last p up.Idle (check_of disk owner table p) map owner table)
+unfolding upload.judged_at upload.finish_as
 finish_rejected s last p clock disk map owner table n = rw (ne_eqb (check_of disk owner table p) 0 n)
 
 module _ (s : Session) (m : Mem) (last : Last) (st : Stored m last) (more : List ℕ) where
@@ -139,7 +139,7 @@ module _ (s : Session) (m : Mem) (last : Last) (st : Stored m last) (more : List
             place = p;
             size = size;
             free = l.free;
-            here = view_is _ (files.newFile (last.number + 1) size) _ [] l.file (l.bytes m.disk);
+            here = view_is _ (files.new_file (last.number + 1) size) _ [] l.file (l.bytes m.disk);
             others = l.others m.disk;
             given = ap (λ (n : ℕ). last_of n last.time) e;
           });
@@ -150,10 +150,10 @@ module _ (s : Session) (m : Mem) (last : Last) (st : Stored m last) (more : List
       }
 
   begun_or_not : (size number : ℕ) → number ≡ last.number + 1 → (a : Begun)
-      → (files.beginOf m.map m.owner m.table last.number size).answer ≡ a
-      → (b : files.Begins) → b ≡ files.beginOf m.map m.owner m.table last.number size
-      → Acted s more m last (turned (upload.begunTurn a s last number) (mem m.disk b.map b.owner b.table m.selected))
-  unfolding upload.begunTurn
+      → (files.begin_of m.map m.owner m.table last.number size).answer ≡ a
+      → (b : files.Begins) → b ≡ files.begin_of m.map m.owner m.table last.number size
+      → Acted s more m last (turned (upload.begun_turn a s last number) (mem m.disk b.map b.owner b.table m.selected))
+  unfolding upload.begun_turn
   begun_or_not size number e (Refused n) q b w =
       subst (λ (c : files.Begins). Acted s more m last (turned (turn_of s last (UploadError n))
       (mem m.disk c.map c.owner c.table m.selected)))
@@ -165,17 +165,17 @@ module _ (s : Session) (m : Mem) (last : Last) (st : Stored m last) (more : List
       (begin_leaves m.map m.owner m.table last.number last.time st.sound size p q))
       number e
 
-  pub begin_acts : (size : ℕ) → Acted s more m last (on_frees m (upload.beginTurn s last size m.map m.owner m.table))
-  unfolding on_frees upload.beginWith upload.begunAs
+  pub begin_acts : (size : ℕ) → Acted s more m last (on_frees m (upload.begin_turn s last size m.map m.owner m.table))
+  unfolding on_frees upload.begin_with upload.begun_as
   begin_acts size = go (next_number last.number) refl
     where
       go : (g : Given) → next_number last.number ≡ g
-          → Acted s more m last (on_frees m (upload.beginWith g s last size m.map m.owner m.table))
+          → Acted s more m last (on_frees m (upload.begin_with g s last size m.map m.owner m.table))
       go UsedUp q = same_store (turn_of s last (UploadError 3)) m.selected refl refl
       go (Next number) q =
           begun_or_not size number (number_given last.number number q).next
-          (files.beginOf m.map m.owner m.table last.number size).answer refl
-          (files.beginOf m.map m.owner m.table last.number size) refl
+          (files.begin_of m.map m.owner m.table last.number size).answer refl
+          (files.begin_of m.map m.owner m.table last.number size) refl
 
   -- ---- DATA
 
@@ -241,10 +241,10 @@ module _ (s : Session) (m : Mem) (last : Last) (st : Stored m last) (more : List
 
   pub discard_acts : (p offset received : ℕ) → s.up ≡ up.Receiving p offset received → PartialAt (table.files m.table) p (offset + received)
       → (u : Uplink) → ((q o r : ℕ) → u ≡ up.Receiving q o r → ⊥) → (number : ℕ)
-      → Acted s more m last (on_frees m (upload.discardTurn s last p u number m.map m.owner m.table))
-  unfolding on_frees upload.discardTurn
+      → Acted s more m last (on_frees m (upload.discard_turn s last p u number m.map m.owner m.table))
+  unfolding on_frees upload.discard_turn
   discard_acts p offset received e f u over number =
-      discarded p (files.discardOf m.map m.owner m.table p)
+      discarded p (files.discard_of m.map m.owner m.table p)
       (discard_leaves m.map m.owner m.table last.number last.time st.sound p
       (discard_done m.map m.owner m.table last.number last.time st.sound st.sizes.some st.sizes.most p f.number))
       offset received e f u over number
@@ -286,8 +286,8 @@ module _ (s : Session) (m : Mem) (last : Last) (st : Stored m last) (more : List
 
   module _ (p offset received : ℕ) (e : s.up ≡ up.Receiving p offset received) (f : PartialAt (table.files m.table) p (offset + received)) where
     accept_acts : (time : ℕ) → check_of m.disk m.owner m.table p ≡ 0 → last.time < time
-        → Acted s more m last (on_moves m (upload.with_blocks m.map m.owner (upload.acceptTurn s last p time m.disk m.owner m.table)))
-    unfolding on_moves upload.with_blocks upload.acceptTurn
+        → Acted s more m last (on_moves m (upload.with_blocks m.map m.owner (upload.accept_turn s last p time m.disk m.owner m.table)))
+    unfolding on_moves upload.with_blocks upload.accept_turn
     accept_acts time z h =
         let c = complete_of m.disk m.owner m.table p time in
         let a = complete_done m.map m.disk m.owner m.table last.number last.time st.sound st.sizes p f.number z time in
@@ -298,17 +298,17 @@ module _ (s : Session) (m : Mem) (last : Last) (st : Stored m last) (more : List
         offset received e f z h)
 
     reject_acts : (number : ℕ)
-        → Acted s more m last (on_moves m (upload.withDisk m.disk (upload.discardTurn s last p up.Idle number m.map m.owner m.table)))
-    unfolding on_moves on_frees upload.withDisk
+        → Acted s more m last (on_moves m (upload.with_disk m.disk (upload.discard_turn s last p up.Idle number m.map m.owner m.table)))
+    unfolding on_moves on_frees upload.with_disk
     reject_acts number = discard_acts p offset received e f up.Idle idle_over number
 
     given_acts : (clock : ℕ) → check_of m.disk m.owner m.table p ≡ 0 → (g : Given) → upload_time clock last.time ≡ g
-        → Acted s more m last (on_moves m (upload.finishAs (upload.timed g) s last p m.disk m.map m.owner m.table))
-    unfolding upload.finishAs upload.timed
+        → Acted s more m last (on_moves m (upload.finish_as (upload.timed g) s last p m.disk m.map m.owner m.table))
+    unfolding upload.finish_as upload.timed
     given_acts clock z UsedUp q = reject_acts 3
     given_acts clock z (Next time) q = accept_acts time z (time_given clock last.time time q).later
 
-    pub finish_acts : (clock : ℕ) → Acted s more m last (on_moves m (upload.finishTurn s last p clock m.disk m.map m.owner m.table))
+    pub finish_acts : (clock : ℕ) → Acted s more m last (on_moves m (upload.finish_turn s last p clock m.disk m.map m.owner m.table))
     finish_acts clock =
         by_number (check_of m.disk m.owner m.table p)
         (λ z.
@@ -330,9 +330,9 @@ module _ (s : Session) (m : Mem) (last : Last) (st : Stored m last) (p offset re
       let t = length-take-le size info h in
       omega (arith, b, c, t, st.sizes.most, f.agree, r.fits)
 
-  taken : size ≤ length info → (w : files.Writes) → w ≡ files.appendOf m.disk m.owner m.table p (take size info)
-      → Acted s (take size info) m last (on_writes m (upload.appendedAs s last p offset (upload.grown received size) w))
-  unfolding on_writes upload.appendedAs
+  taken : size ≤ length info → (w : files.Writes) → w ≡ files.append_of m.disk m.owner m.table p (take size info)
+      → Acted s (take size info) m last (on_writes m (upload.appended_as s last p offset (upload.grown received size) w))
+  unfolding on_writes upload.appended_as
   taken h w q =
       let k : (record_at m.table p).received + length (take size info) ≤ (record_at m.table p).size =
       omega (arith, length-take-le size info h, r.fits) in
@@ -345,12 +345,12 @@ module _ (s : Session) (m : Mem) (last : Last) (st : Stored m last) (p offset re
       (append_leaves m.map m.disk m.owner m.table last.number last.time st.sound p (take size info) a))
       r.receiving f k (upload.grown received size) (onward h))
 
-  pub store_acts : Acted s (take size info) m last (on_writes m (upload.storeTurn s last p offset received size info m.disk m.owner m.table))
-  unfolding on_writes upload.storeTurn
+  pub store_acts : Acted s (take size info) m last (on_writes m (upload.store_turn s last p offset received size info m.disk m.owner m.table))
+  unfolding on_writes upload.store_turn
   store_acts = go (ltb (length info) size) refl
     where
       go : (t : Bool) → ltb (length info) size ≡ t
           → Acted s (take size info) m last (on_writes m (cond t (writes (turn_of s last Nothing) m.disk m.table)
-          (upload.appendedAs s last p offset (upload.grown received size) (files.appendOf m.disk m.owner m.table p (take size info)))))
+          (upload.appended_as s last p offset (upload.grown received size) (files.append_of m.disk m.owner m.table p (take size info)))))
       go true q = same_store s m last st (take size info) (turn_of s last Nothing) m.selected refl refl
-      go false q = taken (ltb-false (length info) size q) (files.appendOf m.disk m.owner m.table p (take size info)) refl
+      go false q = taken (ltb-false (length info) size q) (files.append_of m.disk m.owner m.table p (take size info)) refl

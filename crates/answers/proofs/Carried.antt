@@ -151,8 +151,8 @@ pub data Begins (map owner table : List ℕ) (b : filesUp.Begins) : Type 0 where
   refused : (e : ℕ) → one_of e upload_errors ≡ true → b ≡ filesUp.begins (Refused e) map owner table → Begins map owner table b
 
 module _ (map owner table : List ℕ) (last latest : ℕ) (s : Sound map owner table last latest) (a : 1 ≤ length owner) (b : length owner ≤ 4096) where
-  begin_at_law : (place n size : ℕ) → place < 256 → Begins map owner table (filesUp.beginAt place n size map owner table)
-  unfolding filesUp.beginAt
+  begin_at_law : (place n size : ℕ) → place < 256 → Begins map owner table (filesUp.begin_at place n size map owner table)
+  unfolding filesUp.begin_at
   begin_at_law place n size h = rw (store_is map owner table last latest s a b place h) (go _ _ _ (leb (blocks_for size) (free_count map)))
     where
       go : (map' owner' table' : List ℕ) (t : Bool)
@@ -161,14 +161,14 @@ module _ (map owner table : List ℕ) (last latest : ℕ) (s : Sound map owner t
       go map' owner' table' true = started place refl
       go map' owner' table' false = refused 13 refl refl
 
-  begin_in_law : (f : Found) → free_of (files table) ≡ f → (n size : ℕ) → Begins map owner table (filesUp.beginIn f n size map owner table)
-  unfolding filesUp.beginIn
+  begin_in_law : (f : Found) → free_of (files table) ≡ f → (n size : ℕ) → Begins map owner table (filesUp.begin_in f n size map owner table)
+  unfolding filesUp.begin_in
   begin_in_law Nothing e n size = refused 13 refl refl
   begin_in_law (At place) e n size =
       begin_at_law place n size (omega (arith, (free_place (files table) place e).0, files_most map owner table last latest s))
 
-  begin_with_law : (g : Given) (size : ℕ) → Begins map owner table (filesUp.beginWith g size map owner table)
-  unfolding filesUp.beginWith
+  begin_with_law : (g : Given) (size : ℕ) → Begins map owner table (filesUp.begin_with g size map owner table)
+  unfolding filesUp.begin_with
   begin_with_law UsedUp size = refused 3 refl refl
   begin_with_law (Next n) size = begin_in_law (free_of (files table)) refl n size
 
@@ -186,23 +186,23 @@ pub record Ready (s : Session) (last : Last) (most size : ℕ) (info : List ℕ)
   pub file : (place : ℕ) → decided.Uploads s.up place → (record_at m.table place).number ≡ 0 → ⊥
 
 module _ (s : Session) (last : Last) (clock most size : ℕ) (info : List ℕ) (m : Mem) (r : Ready s last most size info m) where
-  begun_carried : (n : ℕ) (b : filesUp.Begins) → Begins m.map m.owner m.table b → Carried s last m (on_frees m (upload.begunAs n s last b))
-  unfolding on_frees upload.begunAs upload.begunTurn
+  begun_carried : (n : ℕ) (b : filesUp.Begins) → Begins m.map m.owner m.table b → Carried s last m (on_frees m (upload.begun_as n s last b))
+  unfolding on_frees upload.begun_as upload.begun_turn
   begun_carried n b (started place e) = rw e (plain _ refl)
   begun_carried n b (refused e o q) = rw q (upload_error e o)
 
-  begin_carried : (g : Given) (n : ℕ) → Carried s last m (on_frees m (upload.beginWith g s last n m.map m.owner m.table))
-  unfolding on_frees upload.beginWith
+  begin_carried : (g : Given) (n : ℕ) → Carried s last m (on_frees m (upload.begin_with g s last n m.map m.owner m.table))
+  unfolding on_frees upload.begin_with
   begin_carried UsedUp n = upload_error 3 refl
   begin_carried (Next k) n =
-      begun_carried k (filesUp.beginOf m.map m.owner m.table last.number n)
+      begun_carried k (filesUp.begin_of m.map m.owner m.table last.number n)
       (begin_with_law m.map m.owner m.table last.number last.time r.sound r.sizes.some r.sizes.most
       (next_number last.number) n)
 
   store_carried : (place offset received : ℕ) → decided.Uploads s.up place
       → (record_at m.table place).received + size ≤ (record_at m.table place).size
-      → Carried s last m (on_writes m (upload.storeTurn s last place offset received size info m.disk m.owner m.table))
-  unfolding on_writes upload.storeTurn upload.appendedAs upload.storedAs
+      → Carried s last m (on_writes m (upload.store_turn s last place offset received size info m.disk m.owner m.table))
+  unfolding on_writes upload.store_turn upload.appended_as upload.stored_as
   store_carried place offset received u h =
       rw (
         le-ltb (length info) size (omega (arith, r.information, r.fits)),
@@ -213,34 +213,34 @@ module _ (s : Session) (last : Last) (clock most size : ℕ) (info : List ℕ) (
       (plain _ refl)
 
   discard_carried : (place e : ℕ) (u : Uplink) → one_of e naks ≡ true → UploadOver e u
-      → Carried s last m (on_frees m (upload.discardTurn s last place u e m.map m.owner m.table))
-  unfolding on_frees upload.discardTurn
+      → Carried s last m (on_frees m (upload.discard_turn s last place u e m.map m.owner m.table))
+  unfolding on_frees upload.discard_turn
   discard_carried place e u o v = nak e u _ _ _ o v
 
   -- DATA_END: the header's checks, then 3
   rejected_carried : (place : ℕ) → (check_of m.disk m.owner m.table place ≡ 0 → ⊥)
       → one_of (check_of m.disk m.owner m.table place) naks ≡ true
-      → Carried s last m (on_moves m (upload.finishTurn s last place clock m.disk m.map m.owner m.table))
-  unfolding on_moves upload.judgedAt upload.finishAs upload.withDisk upload.discardTurn
+      → Carried s last m (on_moves m (upload.finish_turn s last place clock m.disk m.map m.owner m.table))
+  unfolding on_moves upload.judged_at upload.finish_as upload.with_disk upload.discard_turn
   rejected_carried place z o = rw (ne_eqb (check_of m.disk m.owner m.table place) 0 z) (nak _ up.Idle _ _ _ o over)
 
   timed_carried : (place : ℕ)
       → ((time : ℕ) → (complete_of m.disk m.owner m.table place time).answer ≡ 0)
       → (g : Given)
-      → Carried s last m (on_moves m (upload.finishAs (upload.timed g) s last place m.disk m.map m.owner m.table))
-  unfolding on_moves upload.timed upload.finishAs upload.withDisk upload.discardTurn upload.with_blocks upload.acceptTurn upload.acceptedAs
+      → Carried s last m (on_moves m (upload.finish_as (upload.timed g) s last place m.disk m.map m.owner m.table))
+  unfolding on_moves upload.timed upload.finish_as upload.with_disk upload.discard_turn upload.with_blocks upload.accept_turn upload.accepted_as
   timed_carried place d UsedUp = nak 3 up.Idle _ _ _ refl over
   timed_carried place d (Next time) = rw (d time) (plain _ refl)
 
   accepted_carried : (place : ℕ) → check_of m.disk m.owner m.table place ≡ 0
       → ((time : ℕ) → (complete_of m.disk m.owner m.table place time).answer ≡ 0)
-      → Carried s last m (on_moves m (upload.finishTurn s last place clock m.disk m.map m.owner m.table))
-  unfolding upload.judgedAt
+      → Carried s last m (on_moves m (upload.finish_turn s last place clock m.disk m.map m.owner m.table))
+  unfolding upload.judged_at
   accepted_carried place z d =
       rw (eq-eqb (check_of m.disk m.owner m.table place) 0 z) (timed_carried place d (upload_time clock last.time))
 
   finish_carried : (place : ℕ) → decided.Uploads s.up place
-      → Carried s last m (on_moves m (upload.finishTurn s last place clock m.disk m.map m.owner m.table))
+      → Carried s last m (on_moves m (upload.finish_turn s last place clock m.disk m.map m.owner m.table))
   finish_carried place u = go (eqb (check_of m.disk m.owner m.table place) 0) refl
     where
       file : (record_at m.table place).number ≡ 0 → ⊥
@@ -250,7 +250,7 @@ module _ (s : Session) (last : Last) (clock most size : ℕ) (info : List ℕ) (
       is = check_is m.map m.disk m.owner m.table last.number last.time r.sound r.sizes place file
 
       go : (t : Bool) → eqb (check_of m.disk m.owner m.table place) 0 ≡ t
-          → Carried s last m (on_moves m (upload.finishTurn s last place clock m.disk m.map m.owner m.table))
+          → Carried s last m (on_moves m (upload.finish_turn s last place clock m.disk m.map m.owner m.table))
       go true q =
           let z = eqb-true (check_of m.disk m.owner m.table place) 0 q in
           accepted_carried place z
@@ -263,8 +263,8 @@ module _ (s : Session) (last : Last) (clock most size : ℕ) (info : List ℕ) (
 
   -- SELECT_CMD: 8, "a refused SELECT keeps the old selection"
   selected_carried : (eq : List ℕ) → length eq ≤ 256
-      → Carried s last m (on_chooses m (download.selectedAs s last (select_of eq m.disk m.owner m.table m.selected most)))
-  unfolding on_chooses download.selectedAs select_of
+      → Carried s last m (on_chooses m (download.selected_as s last (select_of eq m.disk m.owner m.table m.selected most)))
+  unfolding on_chooses download.selected_as select_of
   selected_carried eq h =
       go (select_number eq (length m.selected) most)
       (λ z. subst (λ (n : ℕ). one_of n download_errors ≡ true) (sym is) (validity_number eq h (λ y. z (is ∙ y)))) _ _
@@ -276,27 +276,27 @@ module _ (s : Session) (last : Last) (clock most size : ℕ) (info : List ℕ) (
           → (count : ℕ) (selected : List ℕ)
           → Carried s last m
           (on_chooses m
-          (download.selectedAs s last
+          (download.selected_as s last
           (cond (eqb n 0) (selects (record { refused = 0; count = count }) selected) (selects (record { refused = n; count = 0 }) m.selected))))
       go n o count selected = by (eqb n 0) refl
         where
           by : (t : Bool) → eqb n 0 ≡ t
               → Carried s last m
               (on_chooses m
-              (download.selectedAs s last
+              (download.selected_as s last
               (cond t (selects (record { refused = 0; count = count }) selected) (selects (record { refused = n; count = 0 }) m.selected))))
           by true q = plain _ refl
           by false q = rw q (download_error n (o (eqb-false n 0 q)))
 
-  select_carried : Carried s last m (on_chooses m (download.selectTurn s last most size info m.disk m.owner m.table m.selected))
-  unfolding download.selectTurn
+  select_carried : Carried s last m (on_chooses m (download.select_turn s last most size info m.disk m.owner m.table m.selected))
+  unfolding download.select_turn
   select_carried =
       rw (le-ltb (length info) size (omega (arith, r.information, r.fits)))
       (selected_carried (take size info) (omega (arith, length-take-le size info (omega (arith, r.information, r.fits)), r.fits)))
 
   send_carried : (place offset lock passed : ℕ)
-      → Carried s last m (turned (download.beginTurn s last place offset lock passed m.disk m.owner m.table) m)
-  unfolding download.beginTurn
+      → Carried s last m (turned (download.begin_turn s last place offset lock passed m.disk m.owner m.table) m)
+  unfolding download.begin_turn
   send_carried place offset lock passed = go _ (ltb (destinations_at m.disk m.owner m.table place) lock)
     where
       go : (s' : Session) (t : Bool) → Carried s last m (turned (cond t (turn_of s last (reply.DownloadError 10)) (turn_of s' last reply.Nothing)) m)
@@ -304,8 +304,8 @@ module _ (s : Session) (last : Last) (clock most size : ℕ) (info : List ℕ) (
       go s' false = plain _ refl
 
   confirm_carried : (place destination : ℕ)
-      → Carried s last m (turned (download.confirmTurn s last place destination m.disk m.owner m.table) m)
-  unfolding download.confirmTurn
+      → Carried s last m (turned (download.confirm_turn s last place destination m.disk m.owner m.table) m)
+  unfolding download.confirm_turn
   confirm_carried place destination = go _ (ltb (destinations_at m.disk m.owner m.table place) destination)
     where
       go : (s' : Session) (t : Bool) → Carried s last m (turned (cond t (turn_of s' last reply.Aborted) (turn_of s' last reply.Completed)) m)
@@ -331,10 +331,10 @@ module _ (s : Session) (last : Last) (clock most size : ℕ) (info : List ℕ) (
   carried a decided.ending f = plain _ refl
   carried a (decided.abort place) f = plain _ refl
   carried a decided.break_off f = plain _ refl
-  carried a (decided.list l long passed) f = unfold download.listTurn in plain _ refl
+  carried a (decided.list l long passed) f = unfold download.list_turn in plain _ refl
 
 -- closing alone
 pub carried_close : (a : Act) (s : Session) (last : Last) (clock most size : ℕ) (info : List ℕ) (m : Mem) → closes a ≡ true
-    → carry_out a s last clock most size info m ≡ on_chooses m (download.closeTurn last m.selected)
+    → carry_out a s last clock most size info m ≡ on_chooses m (download.close_turn last m.selected)
 unfolding carry_out
 carried_close a s last clock most size info m e = ap (λ (b : Act). carry_out b s last clock most size info m) (close_alone a e)

@@ -227,7 +227,7 @@ unfolding sound_parts
 state_facts sv l f s =
     let b = laws.both_true (sizes_fit sv.blocks sv.files sv.sessions sv.most) _ f in
     let t = laws.both_true (sound_test (map_part sv l) (owner_part sv l) (table_part sv l) sv.last.number sv.last.time) _ s in
-    go (laws.sizes-true _ _ _ _ b.0) (some_sizes _ _ _ _ b.0) (laws.room-true _ _ _ _ _ _ _ _ _ _ b.1) t.0 t.1
+    go (laws.sizes_true _ _ _ _ b.0) (some_sizes _ _ _ _ b.0) (laws.room_true _ _ _ _ _ _ _ _ _ _ b.1) t.0 t.1
   where
     go : laws.Sizes sv.blocks sv.files sv.sessions sv.most
         → (1 ≤ sv.blocks) × (1 ≤ sv.most)
@@ -245,7 +245,7 @@ state_facts sv l f s =
           room = r;
           store = sound_facts (map_part sv l) (owner_part sv l) (table_part sv l) sv.last.number sv.last.time t;
           store_sizes = record { some = omega (arith, some.0); most = omega (arith, z.blocks); bytes = omega (arith, r.disk) };
-          sessions = links.sound-facts (files (table_part sv l)) sv.sessions sv.most l.selected l.held sv.links u;
+          sessions = links.sound_facts (files (table_part sv l)) sv.sessions sv.most l.selected l.held sv.links u;
         }
 
 -- a session's part of the unfinished packets, and of the selections, is lent whole

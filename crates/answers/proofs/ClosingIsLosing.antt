@@ -156,12 +156,12 @@ module _ (sv : Server) (l : Lent) (session clock : ℕ) (input out : List ℕ) (
   step_is = rw go_on
 
   act_closes : (h : Ended (part (i * 258) 258 l.held) (link_of sv i).held input)
-      → decide.closes (steps.actAt sv l session clock input out i t h)
+      → decide.closes (steps.act_at sv l session clock input out i t h)
       ≡ decide.closing (with_held (link_of sv i) 0) (answer_by h.taken none_held (some h.event)).frame
-  unfolding steps.actAt
+  unfolding steps.act_at
   act_closes h =
-      decide.decide-closes (with_held (link_of sv i) 0) (in_use sv) (answer_by h.taken none_held (some h.event)).frame
-      (answer_by h.taken none_held (some h.event)).info _ _ (steps.framed-facts h.taken h.event h.info).info
+      decide.decide_closes (with_held (link_of sv i) 0) (in_use sv) (answer_by h.taken none_held (some h.event)).frame
+      (answer_by h.taken none_held (some h.event)).info _ _ (steps.framed_facts h.taken h.event h.info).info
 
   closes_at : Hears (part (i * 258) 258 l.held) (link_of sv i).held input → ClosesExactly sv l session clock input out i
   closes_at (unended u) =
@@ -169,7 +169,7 @@ module _ (sv : Server) (l : Lent) (session clock : ℕ) (input out : List ℕ) (
         closes = λ w. absurd (unwelcome_none _ _ (ap (λ (c : Call Held Event). c.event) u.came) w);
         only = λ taken e.
             let c : answer.Quiet (length input) ≡ answer.Closed taken =
-            sym (ap (λ (o : Outcome). o.done.answer) (step_is ∙ steps.step-unended sv l session clock input out i t u)) ∙ e in
+            sym (ap (λ (o : Outcome). o.done.answer) (step_is ∙ steps.step_unended sv l session clock input out i t u)) ∙ e in
             let z : ◌≡◌ {A = ℕ} 0 1 = cc in absurd (omega arith);
       }
   closes_at (ended h) =
@@ -177,27 +177,27 @@ module _ (sv : Server) (l : Lent) (session clock : ℕ) (input out : List ℕ) (
         closes = λ w.
             answered
             ∙ ap (λ (k : Turned). (tell k.turn.reply h.taken out).answer)
-            (steps.turn-closes sv l session clock input out i t h
+            (steps.turn_closes sv l session clock input out i t h
             (act_closes h ∙ frame_closes (link_of sv i) h.taken h.event
             (subst (λ (o : Option Event). Unwelcome (link_of sv i) o) (ap (λ (c : Call Held Event). c.event) h.came) w)))
             ∙ (unfold tell in ap (λ (c : Call Held Event). answer.Closed c.taken) (sym h.came));
         only = λ taken e.
             subst (λ (o : Option Event). Unwelcome (link_of sv i) o) (sym (ap (λ (c : Call Held Event). c.event) h.came))
-            (by_act (decide.closes (steps.actAt sv l session clock input out i t h)) refl (closed_reply _ h.taken taken out (sym answered ∙ e)));
+            (by_act (decide.closes (steps.act_at sv l session clock input out i t h)) refl (closed_reply _ h.taken taken out (sym answered ∙ e)));
       }
     where
       answered : (receive_of sv l out session clock input).done.answer
-          ≡ (tell (steps.turnAt sv l session clock input out i t h).turn.reply h.taken out).answer
-      answered = ap (λ (o : Outcome). o.done.answer) (step_is ∙ steps.step-ended sv l session clock input out i t h)
+          ≡ (tell (steps.turn_at sv l session clock input out i t h).turn.reply h.taken out).answer
+      answered = ap (λ (o : Outcome). o.done.answer) (step_is ∙ steps.step_ended sv l session clock input out i t h)
 
-      by_act : (b : Bool) → decide.closes (steps.actAt sv l session clock input out i t h) ≡ b
-          → (steps.turnAt sv l session clock input out i t h).turn.reply ≡ reply.Closing
+      by_act : (b : Bool) → decide.closes (steps.act_at sv l session clock input out i t h) ≡ b
+          → (steps.turn_at sv l session clock input out i t h).turn.reply ≡ reply.Closing
           → Unwelcome (link_of sv i) (some h.event)
       by_act true q r = closes_frame (link_of sv i) h.taken h.event (sym (act_closes h) ∙ q)
-      by_act false q r = absurd (steps.turn-open sv l session clock input out i t h q r)
+      by_act false q r = absurd (steps.turn_open sv l session clock input out i t h q r)
 
 -- THEOREM: the server closes a link exactly where the paper says
 pub every_closing : EveryClosing
 every_closing sv l session clock input out i e =
     let t = check_through sv l session true (length out) i e in
-    closes_at sv l session clock input out i t e (steps.heard-by sv l session clock input out i t)
+    closes_at sv l session clock input out i t e (steps.heard_by_law sv l session clock input out i t)

@@ -94,10 +94,10 @@ module _ (sv : Server) (i : ℕ) (s : Session) (m : Mem) where
 
 module _ (sv : Server) (i : ℕ) (m : Mem) where
   pub put_back_closed : length (part (i * sv.most) sv.most m.selected) ≡ sv.most
-      → put_back sv i m (on_chooses (parts_of sv i m) (download.closeTurn sv.last (part (i * sv.most) sv.most m.selected)))
+      → put_back sv i m (on_chooses (parts_of sv i m) (download.close_turn sv.last (part (i * sv.most) sv.most m.selected)))
       ≡ turned (turn_of closed_session sv.last reply.Closing)
       (mem m.disk m.map m.owner m.table (with_part (i * sv.most) sv.most (replicate sv.most 0) m.selected))
-  unfolding put_back on_chooses download.closeTurn
+  unfolding put_back on_chooses download.close_turn
   put_back_closed n =
       rw (
         take-append-drop (words sv.blocks) m.map,
@@ -176,7 +176,7 @@ module _ (sv : Server) (l : Lent) (session clock : ℕ) (input out : List ℕ) (
       carried.carried (with_held (link_of sv i) 0) sv.last clock sv.most _ _
       (parts_of sv i (mem l.disk l.map l.owner l.table l.selected))
       (ready (framed_facts e.taken e.event e.info)) _
-      (decided.decide-proper (with_held (link_of sv i) 0) (in_use sv) _ _ _ _) f
+      (decided.decide_proper (with_held (link_of sv i) 0) (in_use sv) _ _ _ _) f
     where
       ready : FramedFacts e.taken (answer_by e.taken none_held (some e.event))
           → carried.Ready (with_held (link_of sv i) 0) sv.last sv.most (size_in (answer_by e.taken none_held (some e.event)).frame)
@@ -203,7 +203,7 @@ module _ (sv : Server) (l : Lent) (session clock : ℕ) (input out : List ℕ) (
       → (turn_at e).turn.reply ≡ reply.Closing
       → ⊥
   unfolding turn_at act_at act_of put_back
-  turn_open e f q = carried.carried-open _ _ _ _ (carried_at e f) q
+  turn_open e f q = carried.carried_open _ _ _ _ (carried_at e f) q
 
   pub turn_closes : (e : Ended (part (i * 258) 258 l.held) (link_of sv i).held input) → closes (act_at e) ≡ true
       → turn_at e
@@ -212,7 +212,7 @@ module _ (sv : Server) (l : Lent) (session clock : ℕ) (input out : List ℕ) (
   unfolding turn_at act_at act_of
   turn_closes e f =
       ap (λ (t : Turned). put_back sv i (mem l.disk l.map l.owner l.table l.selected) t)
-      (carried.carried-close (act_at e) (with_held (link_of sv i) 0) sv.last clock sv.most _ _
+      (carried.carried_close (act_at e) (with_held (link_of sv i) 0) sv.last clock sv.most _ _
       (parts_of sv i (mem l.disk l.map l.owner l.table l.selected)) f)
       ∙ put_back_closed sv i (mem l.disk l.map l.owner l.table l.selected) selection_part
 

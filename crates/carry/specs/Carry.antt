@@ -26,24 +26,24 @@ unfoldable pub on_chooses : Mem → Chooses → Turned
 on_chooses m r = turned r.turn (mem m.disk m.map m.owner m.table r.selected)
 
 unfoldable pub carry_out : Act → Session → Last → ℕ → ℕ → ℕ → List ℕ → Mem → Turned
-carry_out act.Close s last clock most size info m = on_chooses m (download.closeTurn last m.selected)
+carry_out act.Close s last clock most size info m = on_chooses m (download.close_turn last m.selected)
 carry_out act.Ignore s last clock most size info m = turned (turn_of s last Nothing) m
 carry_out (act.Tell r) s last clock most size info m = turned (turn_of s last r) m
-carry_out (act.Begin n) s last clock most size info m = on_frees m (upload.beginTurn s last n m.map m.owner m.table)
-carry_out (act.Resume place number received) s last clock most size info m = turned (upload.resumeTurn s last place number received) m
+carry_out (act.Begin n) s last clock most size info m = on_frees m (upload.begin_turn s last n m.map m.owner m.table)
+carry_out (act.Resume place number received) s last clock most size info m = turned (upload.resume_turn s last place number received) m
 carry_out (act.Store place offset received) s last clock most size info m =
-    on_writes m (upload.storeTurn s last place offset received size info m.disk m.owner m.table)
+    on_writes m (upload.store_turn s last place offset received size info m.disk m.owner m.table)
 carry_out (act.Overrun place) s last clock most size info m =
-    on_frees m (upload.discardTurn s last place up.Ignoring 16 m.map m.owner m.table)
+    on_frees m (upload.discard_turn s last place up.Ignoring 16 m.map m.owner m.table)
 carry_out act.Stop s last clock most size info m = turned (turn_of (with_up s up.Idle) last Nothing) m
 carry_out (act.Finish place) s last clock most size info m =
-    on_moves m (upload.finishTurn s last place clock m.disk m.map m.owner m.table)
+    on_moves m (upload.finish_turn s last place clock m.disk m.map m.owner m.table)
 carry_out act.Select s last clock most size info m =
-    on_chooses m (download.selectTurn s last most size info m.disk m.owner m.table m.selected)
+    on_chooses m (download.select_turn s last most size info m.disk m.owner m.table m.selected)
 carry_out (act.Send place offset lock passed) s last clock most size info m =
-    turned (download.beginTurn s last place offset lock passed m.disk m.owner m.table) m
+    turned (download.begin_turn s last place offset lock passed m.disk m.owner m.table) m
 carry_out (act.Confirm place destination) s last clock most size info m =
-    turned (download.confirmTurn s last place destination m.disk m.owner m.table) m
+    turned (download.confirm_turn s last place destination m.disk m.owner m.table) m
 carry_out (act.End r) s last clock most size info m = turned (turn_of (with_down s down.Idle) last r) m
 carry_out (act.Abort place) s last clock most size info m = turned (turn_of (with_down s (down.Aborting place)) last DataEnd) m
-carry_out (act.List listed long passed) s last clock most size info m = turned (download.listTurn s last listed long passed) m
+carry_out (act.List listed long passed) s last clock most size info m = turned (download.list_turn s last listed long passed) m

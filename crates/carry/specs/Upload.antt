@@ -22,7 +22,7 @@ use Rattle.carry.specs.Turn.{last_of, turn_of, Frees, frees, Writes, writes, Mov
 
 -- "UL_GO_RESP gives number and offset"; a refused one uses no number
 unfoldable pub begun_turn : Begun → Session → Last → ℕ → Turn
-begun_turn (Refused n) s last number = turn_of s last (UploadError (files.begunNumber (Refused n)))
+begun_turn (Refused n) s last number = turn_of s last (UploadError (files.begun_number (Refused n)))
 begun_turn (Started place) s last number = turn_of (with_up s (up.Receiving place 0 0)) (last_of number last.time) (Go number 0)
 
 unfoldable pub begun_as : ℕ → Session → Last → files.Begins → Frees
@@ -31,7 +31,7 @@ begun_as number s last b = frees (begun_turn b.answer s last number) b.map b.own
 -- "UPLOAD new: 1, 3, 13"
 unfoldable pub begin_with : Given → Session → Last → ℕ → List ℕ → List ℕ → List ℕ → Frees
 begin_with UsedUp s last size map owner table = frees (turn_of s last (UploadError (given_number UsedUp))) map owner table
-begin_with (Next number) s last size map owner table = begun_as number s last (files.beginOf map owner table last.number size)
+begin_with (Next number) s last size map owner table = begun_as number s last (files.begin_of map owner table last.number size)
 
 abbrev pub begin_turn : Session → Last → ℕ → List ℕ → List ℕ → List ℕ → Frees
 begin_turn s last size map owner table = begin_with (next_number last.number) s last size map owner table
@@ -56,13 +56,13 @@ appended_as s last place offset received w = writes (stored_as w.answer s last p
 unfoldable pub store_turn : Session → Last → ℕ → ℕ → ℕ → ℕ → List ℕ → List ℕ → List ℕ → List ℕ → Writes
 store_turn s last place offset received size info disk owner table =
     cond (ltb (length info) size) (writes (turn_of s last Nothing) disk table)
-    (appended_as s last place offset (grown received size) (files.appendOf disk owner table place (take size info)))
+    (appended_as s last place offset (grown received size) (files.append_of disk owner table place (take size info)))
 
 -- "the partial is discarded, UL_NAK_RESP 16 goes out, and further DATA is ignored"; "A NAK discards the partial"
 unfoldable pub discard_turn : Session → Last → ℕ → Uplink → ℕ → List ℕ → List ℕ → List ℕ → Frees
 discard_turn s last place u number map owner table =
-    frees (turn_of (with_up s u) last (Nak number)) (files.discardOf map owner table place).map (files.discardOf map owner table place).owner
-    (files.discardOf map owner table place).table
+    frees (turn_of (with_up s u) last (Nak number)) (files.discard_of map owner table place).map (files.discard_of map owner table place).owner
+    (files.discard_of map owner table place).table
 
 -- ---- DATA_END
 

@@ -159,11 +159,11 @@ unfolding computing
 unexpected = refl
 
 -- a closed link, and a lost one, forget it
-pub closed : session_at (left day (listing ++ rx 6 (ack 0) ∷ [])) 0 ≡ model.closedSession
+pub closed : session_at (left day (listing ++ rx 6 (ack 0) ∷ [])) 0 ≡ model.closed_session
 unfolding computing
 closed = refl
 
-pub lost : session_at (left day (listing ++ pump ∷ lose 1 ∷ [])) 0 ≡ model.closedSession
+pub lost : session_at (left day (listing ++ pump ∷ lose 1 ∷ [])) 0 ≡ model.closed_session
 unfolding computing
 lost = refl
 

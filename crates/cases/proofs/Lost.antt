@@ -34,7 +34,7 @@ pub before : session_at (left day (take 4 calls)) 0
 unfolding computing
 before = refl
 
-pub afterwards : session_at (left day (take 5 calls)) 0 ≡ model.closedSession
+pub afterwards : session_at (left day (take 5 calls)) 0 ≡ model.closed_session
 unfolding computing
 afterwards = refl
 

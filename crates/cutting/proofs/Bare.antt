@@ -60,52 +60,52 @@ either true x y e f = e
 either false x y e f = f
 
 module _ (s : Session) (last : Last) (e : s.held ≡ 0) where
-  begun_zero : (b : Begun) (number : ℕ) → Zero (upload.begunTurn b s last number)
-  unfolding upload.begunTurn
+  begun_zero : (b : Begun) (number : ℕ) → Zero (upload.begun_turn b s last number)
+  unfolding upload.begun_turn
   begun_zero (Refused n) number = e
   begun_zero (Started place) number = e
 
-  begin_zero : (g : Given) (size : ℕ) (map owner table : List ℕ) → Zero (upload.beginWith g s last size map owner table).turn
-  unfolding upload.beginWith upload.begunAs
+  begin_zero : (g : Given) (size : ℕ) (map owner table : List ℕ) → Zero (upload.begin_with g s last size map owner table).turn
+  unfolding upload.begin_with upload.begun_as
   begin_zero UsedUp size map owner table = e
-  begin_zero (Next number) size map owner table = begun_zero (filesUp.beginOf map owner table last.number size).answer number
+  begin_zero (Next number) size map owner table = begun_zero (filesUp.begin_of map owner table last.number size).answer number
 
-  stored_zero : (refused place offset received : ℕ) → Zero (upload.storedAs refused s last place offset received)
-  unfolding upload.storedAs
+  stored_zero : (refused place offset received : ℕ) → Zero (upload.stored_as refused s last place offset received)
+  unfolding upload.stored_as
   stored_zero refused place offset received = either (eqb refused 0) _ _ e e
 
   store_zero : (place offset received size : ℕ) (info disk owner table : List ℕ)
-      → Zero (upload.storeTurn s last place offset received size info disk owner table).turn
-  unfolding upload.storeTurn upload.appendedAs
+      → Zero (upload.store_turn s last place offset received size info disk owner table).turn
+  unfolding upload.store_turn upload.appended_as
   store_zero place offset received size info disk owner table = go (ltb (length info) size)
     where
       w : filesUp.Writes
-      w = filesUp.appendOf disk owner table place (take size info)
+      w = filesUp.append_of disk owner table place (take size info)
 
       go : (b : Bool)
           → Zero
           (cond b (writes (turn_of s last reply.Nothing) disk table)
-          (writes (upload.storedAs w.answer s last place offset (upload.grown received size)) w.disk w.table)).turn
+          (writes (upload.stored_as w.answer s last place offset (upload.grown received size)) w.disk w.table)).turn
       go true = e
       go false = stored_zero w.answer place offset (upload.grown received size)
 
   timed_zero : (g : Given) (place : ℕ) (disk map owner table : List ℕ)
-      → Zero (upload.finishAs (upload.timed g) s last place disk map owner table).turn
-  unfolding upload.timed upload.finishAs upload.withDisk upload.discardTurn upload.with_blocks upload.acceptTurn upload.acceptedAs
+      → Zero (upload.finish_as (upload.timed g) s last place disk map owner table).turn
+  unfolding upload.timed upload.finish_as upload.with_disk upload.discard_turn upload.with_blocks upload.accept_turn upload.accepted_as
   timed_zero UsedUp place disk map owner table = e
   timed_zero (Next time) place disk map owner table = either (eqb (complete_of disk owner table place time).answer 0) _ _ e e
 
-  finish_zero : (place clock : ℕ) (disk map owner table : List ℕ) → Zero (upload.finishTurn s last place clock disk map owner table).turn
-  unfolding upload.judgedAt upload.finishAs upload.withDisk upload.discardTurn
+  finish_zero : (place clock : ℕ) (disk map owner table : List ℕ) → Zero (upload.finish_turn s last place clock disk map owner table).turn
+  unfolding upload.judged_at upload.finish_as upload.with_disk upload.discard_turn
   finish_zero place clock disk map owner table = go (eqb (check_of disk owner table place) 0) refl
     where
-      go : (b : Bool) → eqb (check_of disk owner table place) 0 ≡ b → Zero (upload.finishTurn s last place clock disk map owner table).turn
+      go : (b : Bool) → eqb (check_of disk owner table place) 0 ≡ b → Zero (upload.finish_turn s last place clock disk map owner table).turn
       go true q = rw q (timed_zero (upload_time clock last.time) place disk map owner table)
       go false q = rw q e
 
   select_zero : (most size : ℕ) (info disk owner table selected : List ℕ)
-      → Zero (download.selectTurn s last most size info disk owner table selected).turn
-  unfolding download.selectTurn download.selectedAs
+      → Zero (download.select_turn s last most size info disk owner table selected).turn
+  unfolding download.select_turn download.selected_as
   select_zero most size info disk owner table selected =
       go (ltb (length info) size) (eqb (select_of (take size info) disk owner table selected most).answer.refused 0)
     where
@@ -123,29 +123,29 @@ module _ (s : Session) (last : Last) (e : s.held ≡ 0) where
 
   carried_zero : (a : Act) (clock most size : ℕ) (info : List ℕ) (m : Mem) → Zero (carry_out a s last clock most size info m).turn
   unfolding carry_out on_frees on_writes on_moves on_chooses
-  carried_zero act.Close clock most size info m = unfold download.closeTurn in refl
+  carried_zero act.Close clock most size info m = unfold download.close_turn in refl
   carried_zero act.Ignore clock most size info m = e
   carried_zero (act.Tell r) clock most size info m = e
   carried_zero (act.Begin n) clock most size info m = begin_zero (next_number last.number) n m.map m.owner m.table
   carried_zero (act.Resume place number received) clock most size info m = e
   carried_zero (act.Store place offset received) clock most size info m =
       store_zero place offset received size info m.disk m.owner m.table
-  carried_zero (act.Overrun place) clock most size info m = unfold upload.discardTurn in e
+  carried_zero (act.Overrun place) clock most size info m = unfold upload.discard_turn in e
   carried_zero act.Stop clock most size info m = e
   carried_zero (act.Finish place) clock most size info m =
       finish_zero place clock m.disk m.map m.owner m.table
   carried_zero act.Select clock most size info m = select_zero most size info m.disk m.owner m.table m.selected
   carried_zero (act.Send place offset lock passed) clock most size info m =
-      unfold download.beginTurn in either (ltb (destinations_at m.disk m.owner m.table place) lock) _ _ e e
+      unfold download.begin_turn in either (ltb (destinations_at m.disk m.owner m.table place) lock) _ _ e e
   carried_zero (act.Confirm place destination) clock most size info m =
-      unfold download.confirmTurn in either (ltb (destinations_at m.disk m.owner m.table place) destination) _ _ e e
+      unfold download.confirm_turn in either (ltb (destinations_at m.disk m.owner m.table place) destination) _ _ e e
   carried_zero (act.End r) clock most size info m = e
   carried_zero (act.Abort place) clock most size info m = e
-  carried_zero (act.List t long passed) clock most size info m = unfold download.listTurn in e
+  carried_zero (act.List t long passed) clock most size info m = unfold download.list_turn in e
 
 module _ (sv : Server) (l : Lent) (session clock : ℕ) (input out : List ℕ) (i : ℕ) (t : Through sv l session true (length out) i) where
-  turn_zero : (e : Ended (part (i * 258) 258 l.held) (link_of sv i).held input) → Zero (steps.turnAt sv l session clock input out i t e).turn
-  unfolding steps.turnAt act_of put_back
+  turn_zero : (e : Ended (part (i * 258) 258 l.held) (link_of sv i).held input) → Zero (steps.turn_at sv l session clock input out i t e).turn
+  unfolding steps.turn_at act_of put_back
   turn_zero e = carried_zero (with_held (link_of sv i) 0) sv.last refl _ clock sv.most _ _ _
 
 -- ---- a session that holds nothing
@@ -184,15 +184,15 @@ module _ (sv : Server) (l : Lent) (good : Good sv l) (i : ℕ) (below : i < sv.s
       go true q = own (eqb-true (session_in c) (i + 1) q)
       go false q = free_bare c (others_free sv l good c i (eqb-false (session_in c) (i + 1) q))
 
-  own_index : (session : ℕ) (wanted : Bool) (room j : ℕ) → session ≡ i + 1 → check.checkOf sv l session wanted room ≡ Go j → j ≡ i
+  own_index : (session : ℕ) (wanted : Bool) (room j : ℕ) → session ≡ i + 1 → check.check_of sv l session wanted room ≡ Go j → j ≡ i
   own_index session wanted room j own e =
       let t = check_through sv l session wanted room j e in omega (arith, t.index, t.from_one)
 
   pub bare_login : (session clock : ℕ) (out : List ℕ) → Left (login session clock out)
   unfolding login_of login_by on_login
-  bare_login session clock out = by_session (login session clock out) (λ own. go own (check.checkOf sv l session false (length out)) refl)
+  bare_login session clock out = by_session (login session clock out) (λ own. go own (check.check_of sv l session false (length out)) refl)
     where
-      go : session ≡ i + 1 → (k : Check) → check.checkOf sv l session false (length out) ≡ k → Bare (on_login k sv out clock).done.server l i
+      go : session ≡ i + 1 → (k : Check) → check.check_of sv l session false (length out) ≡ k → Bare (on_login k sv out clock).done.server l i
       go own (Refuse n) e = bare
       go own (Go j) e =
           subst (λ (k : ℕ). Bare (with_link sv k fresh_session) l i) (sym (own_index session false (length out) j own e))
@@ -206,9 +206,9 @@ module _ (sv : Server) (l : Lent) (good : Good sv l) (i : ℕ) (below : i < sv.s
 
   pub bare_lose : (session : ℕ) → Left (lose session)
   unfolding lose_of lose_by on_lose
-  bare_lose session = by_session (lose session) (λ own. go own (check.checkOf sv l session true 258) refl)
+  bare_lose session = by_session (lose session) (λ own. go own (check.check_of sv l session true 258) refl)
     where
-      go : session ≡ i + 1 → (k : Check) → check.checkOf sv l session true 258 ≡ k
+      go : session ≡ i + 1 → (k : Check) → check.check_of sv l session true 258 ≡ k
           → Bare (on_lose k sv l.selected l.held).done.server
           (lent l.disk l.map l.owner l.table (on_lose k sv l.selected l.held).selected
           (on_lose k sv l.selected l.held).held) i
@@ -229,26 +229,26 @@ module _ (sv : Server) (l : Lent) (good : Good sv l) (i : ℕ) (below : i < sv.s
   pub bare_receive : (session clock : ℕ) (input out : List ℕ) (v : Event) → (session ≡ i + 1 → event_at sv l i input ≡ some v)
       → Left (receive session clock input out)
   bare_receive session clock input out v some-ends =
-      by_session (receive session clock input out) (λ own. go own (check.checkOf sv l session true (length out)) refl)
+      by_session (receive session clock input out) (λ own. go own (check.check_of sv l session true (length out)) refl)
     where
-      heard : (j : ℕ) → j ≡ i → (e : check.checkOf sv l session true (length out) ≡ Go j) → event_at sv l j input ≡ some v
+      heard : (j : ℕ) → j ≡ i → (e : check.check_of sv l session true (length out) ≡ Go j) → event_at sv l j input ≡ some v
           → (t : Through sv l session true (length out) j)
           → Hears (part (j * 258) 258 l.held) (link_of sv j).held input
           → Bare (receive_of sv l out session clock input).done.server (receive_of sv l out session clock input).lent j
       heard j here e told t (unended u) = absurd (no_event v (sym (ap (λ (c : Call Held Event). c.event) u.came) ∙ told))
       heard j here e told t (ended h) =
           subst (λ (o : Outcome). Bare o.done.server o.lent j)
-          (sym (gone_on sv l session clock input out j e ∙ steps.step-ended sv l session clock input out j t h))
+          (sym (gone_on sv l session clock input out j e ∙ steps.step_ended sv l session clock input out j t h))
           (record {
             count = ap (λ (s : Session). s.held)
-                (get_or-set_same sv.links j (steps.turnAt sv l session clock input out j t h).turn.session closed_session
+                (get_or-set_same sv.links j (steps.turn_at sv l session clock input out j t h).turn.session closed_session
                 (subst (λ (k : ℕ). k < length sv.links) (sym here) link_below))
                 ∙ turn_zero sv l session clock input out j t h;
             packet = part_own (j * 258) 258 (replicate 258 0) l.held (length-replicate {A = ℕ} 258 0)
                 (subst (λ (k : ℕ). k * 258 + 258 ≤ length l.held) (sym here) room);
           })
 
-      go : session ≡ i + 1 → (k : Check) → check.checkOf sv l session true (length out) ≡ k
+      go : session ≡ i + 1 → (k : Check) → check.check_of sv l session true (length out) ≡ k
           → Bare (receive_of sv l out session clock input).done.server (receive_of sv l out session clock input).lent i
       go own (Refuse n) e = subst (λ (o : Outcome). Bare o.done.server o.lent i) (sym (refused_receive sv l session clock input out n e)) bare
       go own (Go j) e =
@@ -256,7 +256,7 @@ module _ (sv : Server) (l : Lent) (good : Good sv l) (i : ℕ) (below : i < sv.s
           let t = check_through sv l session true (length out) j e in
           subst (λ (k : ℕ). Bare (receive_of sv l out session clock input).done.server (receive_of sv l out session clock input).lent k) here
           (heard j here e (subst (λ (k : ℕ). event_at sv l k input ≡ some v) (sym here) (some-ends own)) t
-          (steps.heard-by sv l session clock input out j t))
+          (steps.heard_by_law sv l session clock input out j t))
 
 -- ---- the bytes of one event alone
 

@@ -72,7 +72,7 @@ hold_same sv i =
     (set-get_or sv.links i closed_session)
 
 keep_same : (l : Lent) (i : ℕ) → keep l i (part (i * 258) 258 l.held) ≡ l
-keep_same l i = ap (λ (k : List ℕ). lent l.disk l.map l.owner l.table l.selected k) (steps.part-back (i * 258) 258 l.held)
+keep_same l i = ap (λ (k : List ℕ). lent l.disk l.map l.owner l.table l.selected k) (steps.part_back (i * 258) 258 l.held)
 
 pub record Nothing (sv : Server) (l : Lent) (c : history.Call) : Type 0 where
   pub server : (call_of sv l c).done.server ≡ sv
@@ -244,8 +244,8 @@ module _ (sv : Server) (l : Lent) (good : Good sv l) (session clock : ℕ) (xs o
                 ∙ e.heard.came;
             size = e.heard.size;
             few = e.heard.few;
-            is = ap (λ (p : List ℕ). frame.receiveOf p (link_of (call_of sv l c).done.server e.i).held xs) here.packet
-                ∙ ap (λ (n : ℕ). frame.receiveOf (part (e.i * 258) 258 l.held) n xs) here.held
+            is = ap (λ (p : List ℕ). frame.receive_of p (link_of (call_of sv l c).done.server e.i).held xs) here.packet
+                ∙ ap (λ (n : ℕ). frame.receive_of (part (e.i * 258) 258 l.held) n xs) here.held
                 ∙ e.heard.is;
           }
 
@@ -254,7 +254,7 @@ module _ (sv : Server) (l : Lent) (good : Good sv l) (session clock : ℕ) (xs o
           (keep (call_of sv l c).lent e.i e.heard.state.part) out
       last =
           gone_on (call_of sv l c).done.server (call_of sv l c).lent session clock xs out e.i (check_kept ∙ go_on)
-          ∙ steps.step-unended (call_of sv l c).done.server (call_of sv l c).lent session clock xs out e.i
+          ∙ steps.step_unended (call_of sv l c).done.server (call_of sv l c).lent session clock xs out e.i
           (check_through (call_of sv l c).done.server (call_of sv l c).lent session true (length out) e.i (check_kept ∙ go_on)) heard
 
   -- bytes that end nothing, before or after a call that has nothing to do with them

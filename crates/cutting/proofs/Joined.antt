@@ -83,7 +83,7 @@ step_with sv i clock l out h =
     (mem l.disk l.map l.owner l.table l.selected))
 
 pub step_with_law : (sv : Server) (i clock : ℕ) (l : Lent) (out input : List ℕ) (h : Heard)
-    → frame.receiveOf (part (i * 258) 258 l.held) (link_of sv i).held input ≡ h
+    → frame.receive_of (part (i * 258) 258 l.held) (link_of sv i).held input ≡ h
     → step_of sv i clock input l out ≡ step_with sv i clock l out h
 unfolding step_of heard_by hear_of step_with
 step_with_law sv i clock l out input h e = ap (λ (k : Heard). step_with sv i clock l out k) e
@@ -110,8 +110,8 @@ answer_more k taken h (some too_long) = refl
 
 heard_end : (p : List ℕ) (n : ℕ) (xs ys : List ℕ) (e : Event)
     → (call byte (record { count = n; part = p }) xs).event ≡ some e
-    → frame.receiveOf p n (xs ++ ys) ≡ frame.receiveOf p n xs
-unfolding frame.receiveOf
+    → frame.receive_of p n (xs ++ ys) ≡ frame.receive_of p n xs
+unfolding frame.receive_of
 heard_end p n xs ys e q =
     ap (λ (c : Call Held Event). cond (eqb (length p) 258) (cond (ltb n 258) (answer_of c) (refused_part p n)) (refused_part p n))
     (call_end byte xs ys (record { count = n; part = p }) e q)
@@ -147,8 +147,8 @@ module _ (sv : Server) (l : Lent) (session clock : ℕ) (xs ys out : List ℕ) (
       omega (arith, f.room.held, part_end i sv.sessions 258 (omega (arith, t.index, t.from_one, t.in_range)))
 
   -- the second call goes on with the packet
-  second : frame.receiveOf (part (i * 258) 258 (keep l i u.state.part).held) (link_of (hold sv i u.state.count) i).held ys ≡ answer_of rest
-  unfolding frame.receiveOf
+  second : frame.receive_of (part (i * 258) 258 (keep l i u.state.part).held) (link_of (hold sv i u.state.count) i).held ys ≡ answer_of rest
+  unfolding frame.receive_of
   second =
       rw (
         part_own (i * 258) 258 u.state.part l.held u.size room,
@@ -164,8 +164,8 @@ module _ (sv : Server) (l : Lent) (session clock : ℕ) (xs ys out : List ℕ) (
       ∙ ap (λ (c : Call Held Event). further (length xs) (call byte c.state ys)) u.came
 
   one : (held_few : (link_of sv i).held < 258) → length (part (i * 258) 258 l.held) ≡ 258
-      → frame.receiveOf (part (i * 258) 258 l.held) (link_of sv i).held (xs ++ ys) ≡ heard_more (length xs) (answer_of rest)
-  unfolding frame.receiveOf answer_of
+      → frame.receive_of (part (i * 258) 258 l.held) (link_of sv i).held (xs ++ ys) ≡ heard_more (length xs) (answer_of rest)
+  unfolding frame.receive_of answer_of
   one few whole =
       rw (eq-eqb (length (part (i * 258) 258 l.held)) 258 whole, lt-ltb (link_of sv i).held 258 few, both)
       (ap (λ (f : Framed). heard f rest.state.part) (answer_more (length xs) rest.taken rest.state rest.event))
@@ -186,7 +186,7 @@ module _ (sv : Server) (l : Lent) (session clock : ℕ) (xs ys out : List ℕ) (
       ≡ shifted (length xs) (step_of (hold sv i u.state.count) i clock ys (keep l i u.state.part) out)
   step_joined =
       step_with_law sv i clock l out (xs ++ ys) _
-      (one (steps.few-held sv l session clock xs out i t) (steps.packet-part sv l session clock xs out i t))
+      (one (steps.few_held sv l session clock xs out i t) (steps.packet_part sv l session clock xs out i t))
       ∙ step_more sv i clock l out (length xs) (answer_of rest)
       ∙ ap (λ (o : Outcome). shifted (length xs) o)
       (sym (held_step (answer_of rest)) ∙ sym

@@ -63,11 +63,11 @@ goes sv l c j k e d q =
 -- ---- what a call leaves of another session
 
 heard_size : (sv : Server) (l : Lent) (session clock : ℕ) (input out : List ℕ) (j : ℕ) → Through sv l session true (length out) j
-    → length (frame.receiveOf (part (j * 258) 258 l.held) (link_of sv j).held input).part ≡ 258
-heard_size sv l session clock input out j t = go (steps.heard-by sv l session clock input out j t)
+    → length (frame.receive_of (part (j * 258) 258 l.held) (link_of sv j).held input).part ≡ 258
+heard_size sv l session clock input out j t = go (steps.heard_by_law sv l session clock input out j t)
   where
     go : Hears (part (j * 258) 258 l.held) (link_of sv j).held input
-        → length (frame.receiveOf (part (j * 258) 258 l.held) (link_of sv j).held input).part ≡ 258
+        → length (frame.receive_of (part (j * 258) 258 l.held) (link_of sv j).held input).part ≡ 258
     go (unended u) = ap (λ (h : Heard). length h.part) u.is ∙ u.size
     go (ended e) = ap (λ (h : Heard). length h.part) e.is ∙ length-replicate {A = ℕ} 258 0
 
@@ -143,8 +143,8 @@ others_part sv l (receive session clock input out) k d = go (check_of sv l sessi
     go (Go j) e =
         let t = check_through sv l session true (length out) j e in
         ap (λ (o : Outcome). part (k * 258) 258 o.lent.held)
-        (step_with_law sv j clock l out input (frame.receiveOf (part (j * 258) 258 l.held) (link_of sv j).held input) refl)
-        ∙ part_other j k 258 (frame.receiveOf (part (j * 258) 258 l.held) (link_of sv j).held input).part l.held
+        (step_with_law sv j clock l out input (frame.receive_of (part (j * 258) 258 l.held) (link_of sv j).held input) refl)
+        ∙ part_other j k 258 (frame.receive_of (part (j * 258) 258 l.held) (link_of sv j).held input).part l.held
         (λ q. goes sv l (receive session clock input out) j k e d q)
         (heard_size sv l session clock input out j t) (through_room sv l session true (length out) j t)
 others_part sv l (request session out) k d = refl
@@ -256,13 +256,13 @@ module _ (sv : Server) (l : Lent) (i n : ℕ) (p : List ℕ) (good : Good sv l) 
   receive_moved (Go j) session clock input out e d =
       let t = check_through sv l session true (length out) j e in
       let r = through_room sv l session true (length out) j t in
-      step_with_law (hold sv i n) j clock (keep l i p) out input (frame.receiveOf (part (j * 258) 258 l.held) (link_of sv j).held input)
-      (ap (λ (x : List ℕ). frame.receiveOf x (link_of (hold sv i n) j).held input) (part_other i j 258 p l.held (d j refl) whole here)
-      ∙ ap (λ (s : Session). frame.receiveOf (part (j * 258) 258 l.held) s.held input) (hold_other sv i n link_below j (λ q. d j refl (sym q))))
-      ∙ step_moved j clock out (frame.receiveOf (part (j * 258) 258 l.held) (link_of sv j).held input) (d j refl)
+      step_with_law (hold sv i n) j clock (keep l i p) out input (frame.receive_of (part (j * 258) 258 l.held) (link_of sv j).held input)
+      (ap (λ (x : List ℕ). frame.receive_of x (link_of (hold sv i n) j).held input) (part_other i j 258 p l.held (d j refl) whole here)
+      ∙ ap (λ (s : Session). frame.receive_of (part (j * 258) 258 l.held) s.held input) (hold_other sv i n link_below j (λ q. d j refl (sym q))))
+      ∙ step_moved j clock out (frame.receive_of (part (j * 258) 258 l.held) (link_of sv j).held input) (d j refl)
       (heard_size sv l session clock input out j t) r
       ∙ ap (λ (o : Outcome). moved i n p o)
-      (sym (step_with_law sv j clock l out input (frame.receiveOf (part (j * 258) 258 l.held) (link_of sv j).held input) refl))
+      (sym (step_with_law sv j clock l out input (frame.receive_of (part (j * 258) 258 l.held) (link_of sv j).held input) refl))
 
   -- a call for another session does the same
   pub apart_call : (c : Call) → (session_in c ≡ i + 1 → ⊥) → call_of (hold sv i n) (keep l i p) c ≡ moved i n p (call_of sv l c)

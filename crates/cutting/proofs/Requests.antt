@@ -30,6 +30,6 @@ not_due (down.Listing t long done sent) s disk owner fs selected out e = let z :
 
 -- THEOREM: with nothing due a request changes nothing
 pub nothing_due : NothingDue
-unfolding request_of request_by server.onRequest due_as
+unfolding request_of request_by server.on_request due_as
 nothing_due sv l session out i e q =
     rw (e, not_due (link_of sv i).down (link_of sv i) l.disk (owner_part sv l) (files (table_part sv l)) (part (i * sv.most) sv.most l.selected) out q, set-get_or sv.links i closed_session)

@@ -55,10 +55,10 @@ pub record Computed : Type 0 where
 -- whoever unfolds this unfolds all that the examples compute with
 computing : ℕ
 unfolding
-    worked-passes.computing run parts.sentBy accepted-link.takenBy accepted-link.behind accepted-link.receivedBy accepted-link.anewBy link_bytes
-    accepted-events.named_by accepted-events.noneBy accepted-events.uploadOf accepted-events.onQuiet accepted-events.onGo accepted-events.onSent
-    accepted-events.onAnswer accepted-accepted.addedBy accepted accepted-accepted.announcedBy accepted-accepted.announced accepted-accepted.blocksOf total
-    accepted-accepted.givenBy numbers_given transcript_at ends_in handed complete80
+    worked-passes.computing run parts.sent_by accepted-link.taken_by accepted-link.behind accepted-link.received_by accepted-link.anew_by link_bytes
+    accepted-events.named_by accepted-events.none_by accepted-events.upload_of accepted-events.on_quiet accepted-events.on_go accepted-events.on_sent
+    accepted-events.on_answer accepted-accepted.added_by accepted accepted-accepted.announced_by accepted-accepted.announced accepted-accepted.blocks_of total
+    accepted-accepted.given_by numbers_given transcript_at ends_in handed complete80
 computing = 0
 
 pub computed : Computed

@@ -37,7 +37,7 @@ module _ (sv : Server) (l : Lent) (g : Good sv l) where
 
   module _ (i : ℕ) (f : LinkFacts (files (table_part sv l)) sv.most (selection_of sv.most l.selected i) (packet_of l.held i) (link_of sv i)) where
     up_small : (u : Uplink) → (link_of sv i).up ≡ u → UpFits u
-    up_small up.Idle e = fitting.idle-up
+    up_small up.Idle e = fitting.idle_up
     up_small (up.Receiving place offset received) e =
         let p = f.receiving place offset received e in
         let b = (file_small place p.number).1 in
@@ -45,7 +45,7 @@ module _ (sv : Server) (l : Lent) (g : Good sv l) where
     up_small up.Ignoring e = fitting.ignoring
 
     down_small : (d : Downlink) → (link_of sv i).down ≡ d → DownFits d
-    down_small down.Idle e = fitting.idle-down
+    down_small down.Idle e = fitting.idle_down
     down_small (down.Sending place offset sent) e =
         let p = f.sending place offset sent e in
         let b = (file_small place p.complete.number).0 in
@@ -58,7 +58,7 @@ module _ (sv : Server) (l : Lent) (g : Good sv l) where
     link_small = record { up = up_small (link_of sv i).up refl; down = down_small (link_of sv i).down refl }
 
   closed_fits : SessionFits closed_session
-  closed_fits = record { up = fitting.idle-up; down = fitting.idle-down }
+  closed_fits = record { up = fitting.idle_up; down = fitting.idle_down }
 
   session_fits : Kept sv → (i : ℕ) → i < 4 → SessionFits (link_of sv i)
   session_fits k i h = go (link_of sv i).linked refl (ltb i sv.sessions) refl

@@ -86,47 +86,47 @@ module _ (s : Session) (last : Last) (fits : LastFits last) (linked : s.linked �
   gives : (x : Session) (given : Last) (r : Reply) → LastFits given → x.linked ≡ true → Keeps (turn_of x given r)
   gives x given r f e = record { last = f; rests = linked_rests x e }
 
-  begun_keeps : (b : Begun) (number : ℕ) → number < 4294967296 → Keeps (upload.begunTurn b s last number)
-  unfolding upload.begunTurn
+  begun_keeps : (b : Begun) (number : ℕ) → number < 4294967296 → Keeps (upload.begun_turn b s last number)
+  unfolding upload.begun_turn
   begun_keeps (Refused n) number h = stays s _ linked
   begun_keeps (Started place) number h = gives _ (last_of number last.time) _ (record { number = h; time = fits.time }) linked
 
-  begin_keeps : (g : Given) → Below g → (size : ℕ) (map owner table : List ℕ) → Keeps (upload.beginWith g s last size map owner table).turn
-  unfolding upload.beginWith upload.begunAs
+  begin_keeps : (g : Given) → Below g → (size : ℕ) (map owner table : List ℕ) → Keeps (upload.begin_with g s last size map owner table).turn
+  unfolding upload.begin_with upload.begun_as
   begin_keeps UsedUp h size map owner table = stays s _ linked
-  begin_keeps (Next number) h size map owner table = begun_keeps (files.beginOf map owner table last.number size).answer number h
+  begin_keeps (Next number) h size map owner table = begun_keeps (files.begin_of map owner table last.number size).answer number h
 
   store_keeps : (place offset received size : ℕ) (info disk owner table : List ℕ)
-      → Keeps (upload.storeTurn s last place offset received size info disk owner table).turn
-  unfolding upload.storeTurn upload.appendedAs upload.storedAs
+      → Keeps (upload.store_turn s last place offset received size info disk owner table).turn
+  unfolding upload.store_turn upload.appended_as upload.stored_as
   store_keeps place offset received size info disk owner table =
       by_test (λ (w : Writes). Keeps w.turn) (ltb (length info) size) _ _ (λ e. stays s _ linked)
       (λ e.
-      by_test Keeps (eqb (files.appendOf disk owner table place (take size info)).answer 0) _ _ (λ d. stays _ _ linked) (λ d. stays s _ linked))
+      by_test Keeps (eqb (files.append_of disk owner table place (take size info)).answer 0) _ _ (λ d. stays _ _ linked) (λ d. stays s _ linked))
 
-  accepted_keeps : (n time : ℕ) → time < 4294967296 → Keeps (upload.acceptedAs n s last time)
-  unfolding upload.acceptedAs
+  accepted_keeps : (n time : ℕ) → time < 4294967296 → Keeps (upload.accepted_as n s last time)
+  unfolding upload.accepted_as
   accepted_keeps n time h =
       by_test Keeps (eqb n 0) _ _ (λ e. gives _ (last_of last.number time) _ (record { number = fits.number; time = h }) linked)
       (λ e. stays _ _ linked)
 
   timed_keeps : (g : Given) → Below g → (place : ℕ) (disk map owner table : List ℕ)
-      → Keeps (upload.finishAs (upload.timed g) s last place disk map owner table).turn
-  unfolding upload.finishAs upload.timed upload.withDisk upload.with_blocks upload.discardTurn upload.acceptTurn
+      → Keeps (upload.finish_as (upload.timed g) s last place disk map owner table).turn
+  unfolding upload.finish_as upload.timed upload.with_disk upload.with_blocks upload.discard_turn upload.accept_turn
   timed_keeps UsedUp h place disk map owner table = stays _ _ linked
   timed_keeps (Next time) h place disk map owner table = accepted_keeps (complete_of disk owner table place time).answer time h
 
   finish_keeps : (place clock : ℕ) (disk map owner table : List ℕ) → clock < 4294967296
-      → Keeps (upload.finishTurn s last place clock disk map owner table).turn
-  unfolding upload.judgedAt upload.finishAs upload.withDisk upload.discardTurn
+      → Keeps (upload.finish_turn s last place clock disk map owner table).turn
+  unfolding upload.judged_at upload.finish_as upload.with_disk upload.discard_turn
   finish_keeps place clock disk map owner table c =
-      by_test (λ j. Keeps (upload.finishAs j s last place disk map owner table).turn) (eqb (check_of disk owner table place) 0) _ _
+      by_test (λ j. Keeps (upload.finish_as j s last place disk map owner table).turn) (eqb (check_of disk owner table place) 0) _ _
       (λ e. timed_keeps (upload_time clock last.time) (time_below clock last.time c fits.time) place disk map owner table)
       (λ e. stays _ _ linked)
 
   select_keeps : (most size : ℕ) (info disk owner table selected : List ℕ)
-      → Keeps (download.selectTurn s last most size info disk owner table selected).turn
-  unfolding download.selectTurn download.selectedAs
+      → Keeps (download.select_turn s last most size info disk owner table selected).turn
+  unfolding download.select_turn download.selected_as
   select_keeps most size info disk owner table selected =
       by_test (λ (x : Chooses). Keeps x.turn) (ltb (length info) size) _ _ (λ e. stays s _ linked)
       (λ e.
@@ -134,19 +134,19 @@ module _ (s : Session) (last : Last) (fits : LastFits last) (linked : s.linked �
       (λ d. stays _ _ linked) (λ d. stays s _ linked))
 
   send_keeps : (place offset lock passed : ℕ) (disk owner table : List ℕ)
-      → Keeps (download.beginTurn s last place offset lock passed disk owner table)
-  unfolding download.beginTurn
+      → Keeps (download.begin_turn s last place offset lock passed disk owner table)
+  unfolding download.begin_turn
   send_keeps place offset lock passed disk owner table =
       by_test Keeps (ltb (destinations_at disk owner table place) lock) _ _ (λ e. stays s _ linked) (λ e. stays _ _ linked)
 
-  confirm_keeps : (place destination : ℕ) (disk owner table : List ℕ) → Keeps (download.confirmTurn s last place destination disk owner table)
-  unfolding download.confirmTurn
+  confirm_keeps : (place destination : ℕ) (disk owner table : List ℕ) → Keeps (download.confirm_turn s last place destination disk owner table)
+  unfolding download.confirm_turn
   confirm_keeps place destination disk owner table =
       by_test Keeps (ltb (destinations_at disk owner table place) destination) _ _ (λ e. stays _ _ linked) (λ e. stays _ _ linked)
 
   carry_keeps : (a : Act) (clock most size : ℕ) (info : List ℕ) (m : Mem) → clock < 4294967296
       → Keeps (carry_out a s last clock most size info m).turn
-  unfolding carry_out on_frees on_writes on_moves on_chooses download.closeTurn upload.discardTurn
+  unfolding carry_out on_frees on_writes on_moves on_chooses download.close_turn upload.discard_turn
   carry_keeps act.Close clock most size info m c = record { last = fits; rests = λ e. refl }
   carry_keeps act.Ignore clock most size info m c = stays s _ linked
   carry_keeps (act.Tell r) clock most size info m c = stays s _ linked
@@ -162,7 +162,7 @@ module _ (s : Session) (last : Last) (fits : LastFits last) (linked : s.linked �
   carry_keeps (act.Confirm place destination) clock most size info m c = confirm_keeps place destination m.disk m.owner m.table
   carry_keeps (act.End r) clock most size info m c = stays _ _ linked
   carry_keeps (act.Abort place) clock most size info m c = stays _ _ linked
-  carry_keeps (act.List t long passed) clock most size info m c = unfold download.listTurn in stays _ _ linked
+  carry_keeps (act.List t long passed) clock most size info m c = unfold download.list_turn in stays _ _ linked
 
 -- ---- a request
 

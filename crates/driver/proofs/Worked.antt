@@ -67,7 +67,7 @@ unfolding calls
 clocks = ((((((tt, tt), omega arith), tt), omega arith), omega arith), omega arith)
 
 small_legal : legal small ≡ true
-unfolding small check.sizesFit check.roomFits
+unfolding small check.sizes_fit check.room_fits
 small_legal = refl
 
 module _ (every : EveryDriver) (make : EveryMake) (machines : DriverPlays) where
@@ -78,8 +78,8 @@ module _ (every : EveryDriver) (make : EveryMake) (machines : DriverPlays) where
   -- what it leaves: one block of one is free
   pub all_free : free_by (reached small words nothing).words (reached small words nothing).lent.map two ≡ filled 0 (1 ∷ 1 ∷ [])
   unfolding
-      small calls_of after made making.makeOf making.emptyOf check.sizesFit check.roomFits blocks-answers.makeMap blocks-owners.mapOf blocks-owners.word_of
-      blocks-map.freeCount ones
+      small calls_of after made making.make_of making.empty_of check.sizes_fit check.room_fits blocks-answers.make_map blocks-owners.map_of blocks-owners.word_of
+      blocks-map.free_count ones
   all_free = (every small words makes_it nothing tt).free two (omega arith)
 
   -- ---- it is the server

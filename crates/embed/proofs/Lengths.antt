@@ -132,9 +132,9 @@ known : {R : Type 0} (answer_of : R → Answer) (same : ℕ → R) (r : R) → (
 known answer_of same r f (through p) = open_way p
 known answer_of same r f (refused n h e) = shut_way n h (ap answer_of e ∙ f n)
 
-tell_bound : (a : Answer) (sv : Server) (state counts : List ℕ) → Known a → size_of a ≤ 258 → (calls.tellOf a sv state counts).code ≤ 2
-    → get_or (calls.tellOf a sv state counts).counts 1 0 ≤ 258
-unfolding calls.tellOf
+tell_bound : (a : Answer) (sv : Server) (state counts : List ℕ) → Known a → size_of a ≤ 258 → (calls.tell_of a sv state counts).code ≤ 2
+    → get_or (calls.tell_of a sv state counts).counts 1 0 ≤ 258
+unfolding calls.tell_of
 tell_bound (answer.Quiet taken) sv state counts k h e = omega arith
 tell_bound (answer.Sent taken size) sv state counts k h e = h
 tell_bound (answer.Closed taken) sv state counts k h e = omega arith
@@ -151,30 +151,30 @@ by_ready code_of size_in fit state counts f kept gone = go (ready_of fit state c
     go ready.Go h c = gone c
 
 module _ (state counts : List ℕ) (l : Lent) (session : ℕ) (out : List ℕ) where
-  pub receive_length : (clock : ℕ) (input : List ℕ) → (calls.receiveBy state counts l out session clock input).told.code ≤ 2
-      → get_or (calls.receiveBy state counts l out session clock input).told.counts 1 0 ≤ 258
-  unfolding calls.receiveBy calls.onReceive receive_of receive_by
+  pub receive_length : (clock : ℕ) (input : List ℕ) → (calls.receive_by state counts l out session clock input).told.code ≤ 2
+      → get_or (calls.receive_by state counts l out session clock input).told.counts 1 0 ≤ 258
+  unfolding calls.receive_by calls.on_receive receive_of receive_by
   receive_length clock input =
-      by_ready (λ (r : calls.Received). r.told.code) (λ (r : calls.Received). get_or r.told.counts 1 0) (calls.fitsAt state l) state (length counts)
-      (λ (k : Ready). calls.onReceive k state counts l out session clock input) (λ n. refl)
+      by_ready (λ (r : calls.Received). r.told.code) (λ (r : calls.Received). get_or r.told.counts 1 0) (calls.fits_at state l) state (length counts)
+      (λ (k : Ready). calls.on_receive k state counts l out session clock input) (λ n. refl)
       (tell_bound _ _ state counts (known (λ (o : Outcome). o.done.answer) _ _ (λ n. refl)
       (receive_ended (server_at state) l session out clock input))
       (on_receive_law (server_at state) l out (check_of (server_at state) l session true (length out)) clock input))
 
-  pub open_length : (clock : ℕ) → (calls.openBy state counts l out session clock).told.code ≤ 2
-      → get_or (calls.openBy state counts l out session clock).told.counts 1 0 ≤ 258
-  unfolding calls.openBy calls.onOpen login_of login_by
+  pub open_length : (clock : ℕ) → (calls.open_by state counts l out session clock).told.code ≤ 2
+      → get_or (calls.open_by state counts l out session clock).told.counts 1 0 ≤ 258
+  unfolding calls.open_by calls.on_open login_of login_by
   open_length clock =
-      by_ready (λ (r : calls.Sent). r.told.code) (λ (r : calls.Sent). get_or r.told.counts 1 0) (calls.fitsAt state l) state (length counts)
-      (λ (k : Ready). calls.onOpen k state counts l out session clock) (λ n. refl)
+      by_ready (λ (r : calls.Sent). r.told.code) (λ (r : calls.Sent). get_or r.told.counts 1 0) (calls.fits_at state l) state (length counts)
+      (λ (k : Ready). calls.on_open k state counts l out session clock) (λ n. refl)
       (tell_bound _ _ state counts (known (λ (o : Opened). o.done.answer) _ _ (λ n. refl) (login_ended (server_at state) l session out clock))
       (on_login_law (server_at state) l out (check_of (server_at state) l session false (length out)) clock))
 
-  pub request_length : (calls.requestBy state counts l out session).told.code ≤ 2
-      → get_or (calls.requestBy state counts l out session).told.counts 1 0 ≤ 258
-  unfolding calls.requestBy calls.onRequest request_of request_by
+  pub request_length : (calls.request_by state counts l out session).told.code ≤ 2
+      → get_or (calls.request_by state counts l out session).told.counts 1 0 ≤ 258
+  unfolding calls.request_by calls.on_request request_of request_by
   request_length =
-      by_ready (λ (r : calls.Sent). r.told.code) (λ (r : calls.Sent). get_or r.told.counts 1 0) (calls.fitsAt state l) state (length counts)
-      (λ (k : Ready). calls.onRequest k state counts l out session) (λ n. refl)
+      by_ready (λ (r : calls.Sent). r.told.code) (λ (r : calls.Sent). get_or r.told.counts 1 0) (calls.fits_at state l) state (length counts)
+      (λ (k : Ready). calls.on_request k state counts l out session) (λ n. refl)
       (tell_bound _ _ state counts (known (λ (o : Opened). o.done.answer) _ _ (λ n. refl) (request_ended (server_at state) l session out))
       (on_request_law (server_at state) l out (check_of (server_at state) l session true (length out))))

@@ -51,15 +51,15 @@ module _ {S E : Type 0} (byte : S → ℕ → Step S E) where
 
 -- ---- by a link's framing
 
-answer_taken : (taken : ℕ) (h : frame.Held) (e : Option frame.Event) → (frame.answerBy taken h e).taken ≡ taken
-unfolding frame.answerBy frame.withoutPacket
+answer_taken : (taken : ℕ) (h : frame.Held) (e : Option frame.Event) → (frame.answer_by taken h e).taken ≡ taken
+unfolding frame.answer_by frame.without_packet
 answer_taken taken h none = refl
 answer_taken taken h (some frame.too_long) = refl
 answer_taken taken h (some (frame.packet kind info)) = refl
 
 frame_takes : (part : List ℕ) (held : ℕ) (input : List ℕ) → length part ≡ 258 → held < 258
-    → Takes (length input) (frame.receiveOf part held input).answer.taken
-unfolding frame.receiveOf frame.answer_of
+    → Takes (length input) (frame.receive_of part held input).answer.taken
+unfolding frame.receive_of frame.answer_of
 frame_takes part held input e h =
     let c = call frame.byte (record { count = held; part = part }) input in
     rw (eq-eqb (length part) 258 e, lt-ltb held 258 h, answer_taken c.taken c.state c.event)
@@ -93,7 +93,7 @@ unfolding replies.answered
 answered_taken r taken out h = rw (le-ltb (length out) 258 h) (tell_taken r taken out)
 
 step_taken : (sv : Server) (i clock : ℕ) (input : List ℕ) (l : Lent) (out : List ℕ) → 258 ≤ length out
-    → taken_of (step_of sv i clock input l out).done.answer ≡ (frame.receiveOf (part (i * 258) 258 l.held) (link_of sv i).held input).answer.taken
+    → taken_of (step_of sv i clock input l out).done.answer ≡ (frame.receive_of (part (i * 258) 258 l.held) (link_of sv i).held input).answer.taken
 unfolding step_of heard_by answered_by hear_of
 step_taken sv i clock input l out h = answered_taken _ _ out h
 
@@ -167,8 +167,8 @@ step_takes sv session i clock input l out e =
 
 -- the first count is of the bytes taken, where the answer's number is no refusal's
 tell_counts : (a : Answer) (sv : Server) (state counts : List ℕ) → is_refused a ≡ false
-    → get_or (calls.tellOf a sv state counts).counts 0 0 ≡ taken_of a
-unfolding calls.tellOf
+    → get_or (calls.tell_of a sv state counts).counts 0 0 ≡ taken_of a
+unfolding calls.tell_of
 tell_counts (answer.Quiet taken) sv state counts e = refl
 tell_counts (answer.Sent taken size) sv state counts e = refl
 tell_counts (answer.Closed taken) sv state counts e = refl
@@ -179,9 +179,9 @@ module _ (state counts : List ℕ) (l : Lent) (out : List ℕ) (session clock : 
   refused_by_law n h k = omega (arith, h.0, h.1, k)
 
   checked_takes : (k : Check) → check_of (server_at state) l session true (length out) ≡ k → Local (check_number k)
-      → (calls.receivedBy state counts (on_check k (server_at state) l out clock input)).told.code ≤ 2
-      → Takes (length input) (get_or (calls.receivedBy state counts (on_check k (server_at state) l out clock input)).told.counts 0 0)
-  unfolding on_check calls.tellOf
+      → (calls.received_by state counts (on_check k (server_at state) l out clock input)).told.code ≤ 2
+      → Takes (length input) (get_or (calls.received_by state counts (on_check k (server_at state) l out clock input)).told.counts 0 0)
+  unfolding on_check calls.tell_of
   checked_takes (check.Refuse n) e h c = absurd (refused_by_law n h c)
   checked_takes (check.Go i) e h c =
       let sv = server_at state in
@@ -192,16 +192,16 @@ module _ (state counts : List ℕ) (l : Lent) (out : List ℕ) (session clock : 
       (step_takes sv session i clock input l out e)
 
   ready_takes : (k : Ready) → Local (ready_number k)
-      → (calls.onReceive k state counts l out session clock input).told.code ≤ 2
-      → Takes (length input) (get_or (calls.onReceive k state counts l out session clock input).told.counts 0 0)
-  unfolding calls.onReceive receive_of receive_by
+      → (calls.on_receive k state counts l out session clock input).told.code ≤ 2
+      → Takes (length input) (get_or (calls.on_receive k state counts l out session clock input).told.counts 0 0)
+  unfolding calls.on_receive receive_of receive_by
   ready_takes (ready.Refuse n) h c = absurd (refused_by_law n h c)
   ready_takes ready.Go h c =
       checked_takes (check_of (server_at state) l session true (length out)) refl
       (check_number_law (server_at state) l session true (length out)) c
 
-  pub receive_takes : (calls.receiveBy state counts l out session clock input).told.code ≤ 2
-      → Takes (length input) (get_or (calls.receiveBy state counts l out session clock input).told.counts 0 0)
-  unfolding calls.receiveBy
+  pub receive_takes : (calls.receive_by state counts l out session clock input).told.code ≤ 2
+      → Takes (length input) (get_or (calls.receive_by state counts l out session clock input).told.counts 0 0)
+  unfolding calls.receive_by
   receive_takes c =
-      ready_takes (ready_of (calls.fitsAt state l) state (length counts)) (ready_number_law (calls.fitsAt state l) state (length counts)) c
+      ready_takes (ready_of (calls.fits_at state l) state (length counts)) (ready_number_law (calls.fits_at state l) state (length counts)) c

@@ -120,8 +120,8 @@ module _ (sv : Server) (l : Lent) (session : ℕ) where
 
 -- ---- the calls
 
-tell_code : (a : Answer) (sv : Server) (state counts : List ℕ) → is_refused a ≡ false → (calls.tellOf a sv state counts).code ≤ 2
-unfolding calls.tellOf
+tell_code : (a : Answer) (sv : Server) (state counts : List ℕ) → is_refused a ≡ false → (calls.tell_of a sv state counts).code ≤ 2
+unfolding calls.tell_of
 tell_code (answer.Quiet taken) sv state counts e = omega arith
 tell_code (answer.Sent taken size) sv state counts e = omega arith
 tell_code (answer.Closed taken) sv state counts e = omega arith
@@ -138,67 +138,67 @@ by_ready code_of same fit state counts f kept gone = go (ready_of fit state coun
 module _ (state counts : List ℕ) (l : Lent) (session : ℕ) where
   receive_go : (out : List ℕ) (o : Outcome)
       → Ended (λ (o : Outcome). o.done.answer) (λ (n : ℕ). outcome (done_with (server_at state) (answer.Refused n)) l out) o
-      → Ends (λ (r : calls.Received). r.told.code) (λ (n : ℕ). calls.received (calls.told n state counts) l out) (calls.receivedBy state counts o)
-  unfolding calls.tellOf
+      → Ends (λ (r : calls.Received). r.told.code) (λ (n : ℕ). calls.received (calls.told n state counts) l out) (calls.received_by state counts o)
+  unfolding calls.tell_of
   receive_go out o (through p) = answered (tell_code o.done.answer o.done.server state counts p)
-  receive_go out o (refused n h e) = unchanged n h (ap (calls.receivedBy state counts) e)
+  receive_go out o (refused n h e) = unchanged n h (ap (calls.received_by state counts) e)
 
   pub receive_ends : (out : List ℕ) (clock : ℕ) (input : List ℕ)
       → Ends (λ (r : calls.Received). r.told.code) (λ (n : ℕ). calls.received (calls.told n state counts) l out)
-      (calls.receiveBy state counts l out session clock input)
-  unfolding calls.receiveBy calls.onReceive
+      (calls.receive_by state counts l out session clock input)
+  unfolding calls.receive_by calls.on_receive
   receive_ends out clock input =
-      by_ready _ _ (calls.fitsAt state l) state (length counts) (λ (k : Ready). calls.onReceive k state counts l out session clock input) (λ n. refl)
+      by_ready _ _ (calls.fits_at state l) state (length counts) (λ (k : Ready). calls.on_receive k state counts l out session clock input) (λ n. refl)
       (receive_go out _ (receive_ended (server_at state) l session out clock input))
 
   sent_go : (out : List ℕ) (o : Opened)
       → Ended (λ (o : Opened). o.done.answer) (λ (n : ℕ). opened (done_with (server_at state) (answer.Refused n)) out) o
-      → Ends (λ (r : calls.Sent). r.told.code) (λ (n : ℕ). calls.sent (calls.told n state counts) out) (calls.sentBy state counts o)
-  unfolding calls.tellOf
+      → Ends (λ (r : calls.Sent). r.told.code) (λ (n : ℕ). calls.sent (calls.told n state counts) out) (calls.sent_by state counts o)
+  unfolding calls.tell_of
   sent_go out o (through p) = answered (tell_code o.done.answer o.done.server state counts p)
-  sent_go out o (refused n h e) = unchanged n h (ap (calls.sentBy state counts) e)
+  sent_go out o (refused n h e) = unchanged n h (ap (calls.sent_by state counts) e)
 
   pub open_ends : (out : List ℕ) (clock : ℕ)
       → Ends (λ (r : calls.Sent). r.told.code) (λ (n : ℕ). calls.sent (calls.told n state counts) out)
-      (calls.openBy state counts l out session clock)
-  unfolding calls.openBy calls.onOpen
+      (calls.open_by state counts l out session clock)
+  unfolding calls.open_by calls.on_open
   open_ends out clock =
-      by_ready _ _ (calls.fitsAt state l) state (length counts) (λ (k : Ready). calls.onOpen k state counts l out session clock) (λ n. refl)
+      by_ready _ _ (calls.fits_at state l) state (length counts) (λ (k : Ready). calls.on_open k state counts l out session clock) (λ n. refl)
       (sent_go out _ (login_ended (server_at state) l session out clock))
 
   pub request_ends : (out : List ℕ)
-      → Ends (λ (r : calls.Sent). r.told.code) (λ (n : ℕ). calls.sent (calls.told n state counts) out) (calls.requestBy state counts l out session)
-  unfolding calls.requestBy calls.onRequest
+      → Ends (λ (r : calls.Sent). r.told.code) (λ (n : ℕ). calls.sent (calls.told n state counts) out) (calls.request_by state counts l out session)
+  unfolding calls.request_by calls.on_request
   request_ends out =
-      by_ready _ _ (calls.fitsAt state l) state (length counts) (λ (k : Ready). calls.onRequest k state counts l out session) (λ n. refl)
+      by_ready _ _ (calls.fits_at state l) state (length counts) (λ (k : Ready). calls.on_request k state counts l out session) (λ n. refl)
       (sent_go out _ (request_ended (server_at state) l session out))
 
   lose_go : (o : Lost)
       → Ended (λ (o : Lost). o.done.answer) (λ (n : ℕ). lost (done_with (server_at state) (answer.Refused n)) l.selected l.held) o
       → Ends (λ (r : calls.Gone). r.told.code) (λ (n : ℕ). calls.gone (calls.told n state counts) l.selected l.held)
-      (calls.goneBy state counts o)
-  unfolding calls.tellOf
+      (calls.gone_by state counts o)
+  unfolding calls.tell_of
   lose_go o (through p) = answered (tell_code o.done.answer o.done.server state counts p)
-  lose_go o (refused n h e) = unchanged n h (ap (calls.goneBy state counts) e)
+  lose_go o (refused n h e) = unchanged n h (ap (calls.gone_by state counts) e)
 
   pub lose_ends :
       Ends (λ (r : calls.Gone). r.told.code) (λ (n : ℕ). calls.gone (calls.told n state counts) l.selected l.held)
-      (calls.loseBy state counts l session)
-  unfolding calls.loseBy calls.onLose
+      (calls.lose_by state counts l session)
+  unfolding calls.lose_by calls.on_lose
   lose_ends =
-      by_ready _ _ (calls.fitsAt state l) state (length counts) (λ (k : Ready). calls.onLose k state counts l session) (λ n. refl)
+      by_ready _ _ (calls.fits_at state l) state (length counts) (λ (k : Ready). calls.on_lose k state counts l session) (λ n. refl)
       (lose_go _ (lose_ended (server_at state) l session))
 
 -- making a server answers 0, or 33 with all as it was
 module _ (blocks files sessions most : ℕ) (state : List ℕ) (disk : ℕ) (l : Emptied) where
-  pub make_ends : Ends (λ (r : calls.Begun). r.code) (λ (n : ℕ). calls.begun n state l) (calls.makeBy blocks files sessions most state disk l)
-  unfolding calls.makeBy make_of calls.keepOf
+  pub make_ends : Ends (λ (r : calls.Begun). r.code) (λ (n : ℕ). calls.begun n state l) (calls.make_by blocks files sessions most state disk l)
+  unfolding calls.make_by make_of calls.keep_of
   make_ends = go (ltb (length state) 54) (fits (new_server blocks files sessions most) disk l.map l.owner l.table l.selected l.held)
     where
       go : (a b : Bool)
           → Ends (λ (r : calls.Begun). r.code) (λ (n : ℕ). calls.begun n state l)
           (cond a (calls.begun 33 state l)
-          (calls.begunBy state
+          (calls.begun_by state
           (cond b
           (makes (record { refused = 0; server = new_server blocks files sessions most })
           (empty_of blocks files sessions most l.map l.owner l.table l.selected l.held))
@@ -210,21 +210,21 @@ module _ (blocks files sessions most : ℕ) (state : List ℕ) (disk : ℕ) (l :
 
 -- so do the two calls that only write numbers
 module _ (blocks files sessions most : ℕ) (need : List ℕ) where
-  pub memory_ends : Ends (λ (r : calls.Filled). r.code) (λ (n : ℕ). calls.filled n need) (calls.memoryBy blocks files sessions most need)
-  unfolding calls.memoryBy
+  pub memory_ends : Ends (λ (r : calls.Filled). r.code) (λ (n : ℕ). calls.filled n need) (calls.memory_by blocks files sessions most need)
+  unfolding calls.memory_by
   memory_ends = go (ltb (length need) 7) (sizes_fit blocks files sessions most)
     where
       go : (a b : Bool)
           → Ends (λ (r : calls.Filled). r.code) (λ (n : ℕ). calls.filled n need)
           (cond a (calls.filled 33 need)
-          (cond b (calls.filled 0 (calls.lengthsFor blocks files sessions most ++ drop 7 need)) (calls.filled 33 need)))
+          (cond b (calls.filled 0 (calls.lengths_for blocks files sessions most ++ drop 7 need)) (calls.filled 33 need)))
       go true b = unchanged 33 (omega arith, omega arith) refl
       go false true = answered (omega arith)
       go false false = unchanged 33 (omega arith, omega arith) refl
 
 module _ (map counts : List ℕ) where
-  pub free_ends : (state : List ℕ) → Ends (λ (r : calls.Filled). r.code) (λ (n : ℕ). calls.filled n counts) (calls.freeBy state map counts)
-  unfolding calls.freeBy calls.onFree
+  pub free_ends : (state : List ℕ) → Ends (λ (r : calls.Filled). r.code) (λ (n : ℕ). calls.filled n counts) (calls.free_by state map counts)
+  unfolding calls.free_by calls.on_free
   free_ends state =
-      by_ready _ _ (calls.mapFits (server_at state) (length map)) state (length counts) (λ (k : Ready). calls.onFree k state map counts) (λ n. refl)
+      by_ready _ _ (calls.map_fits (server_at state) (length map)) state (length counts) (λ (k : Ready). calls.on_free k state map counts) (λ n. refl)
       (answered (omega arith))

@@ -109,7 +109,7 @@ module _ (rs : List Relation) (file start ms : List ℕ) (at : ℕ) (h : Walking
   no_item e = sym (h.same ∙ rw e)
 
   pub walk_broken : head_of (drop at file) ≡ Broken → ms ≡ settled_by (walk 0 file).items rs start
-  walk_broken e = no_item (rw (walks.walk-broken file at e))
+  walk_broken e = no_item (rw (walks.walk_broken file at e))
 
   pub walk_end : head_of (drop at file) ≡ head.End → ms ≡ settled_by (walk 0 file).items rs start
   walk_end e = no_item (rw (walks.walk_end file at e))
@@ -123,7 +123,7 @@ module _ (rs : List Relation) (file start ms : List ℕ) (at : ℕ) (h : Walking
       let d : at + 3 + n - (at + 3) ≡ n = omega arith in
       let g' : ms' ≡ settled (record { id = i; bytes = take n (drop (at + 3) file) }) rs ms = rw d at g in
       record {
-        in_file = walks.item-within file at i n e;
+        in_file = walks.item_within file at i n e;
         sized = ap length g' ∙ settled_length (record { id = i; bytes = take n (drop (at + 3) file) }) rs ms ∙ h.sized;
-        same = h.same ∙ rw (walks.walk-item file at i n e, g');
+        same = h.same ∙ rw (walks.walk_item file at i n e, g');
       }

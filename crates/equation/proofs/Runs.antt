@@ -61,7 +61,7 @@ module _ (steps ms : List ℕ) (st : List Bool) (d i k : ℕ) (h : Running steps
   refused e = said none e
 
   pub run_end : length steps ≤ i → finished d (get_or st 0 false) ≡ outcome_by steps ms
-  run_end l = stacks.finish-is st d ∙ said _ (unfold rest run in rw (drop_of_length-le steps {i = i} l))
+  run_end l = stacks.finish_is st d ∙ said _ (unfold rest run in rw (drop_of_length-le steps {i = i} l))
 
   module _ (l : i < length steps) where
     pub run_bad : 2049 < get_or steps i 0 → Refused 8 ≡ outcome_by steps ms
@@ -83,7 +83,7 @@ module _ (steps ms : List ℕ) (st : List Bool) (d i k : ℕ) (h : Running steps
 
       pub run_few : d < 2 → Refused 8 ≡ outcome_by steps ms
       unfolding bind
-      run_few g = refused (joins none (stacks.join-few (combine (eqb (get_or steps i 0) 2048)) st d g))
+      run_few g = refused (joins none (stacks.join_few (combine (eqb (get_or steps i 0) 2048)) st d g))
 
       pub run_join : (v : Bool)
           → 2 ≤ d
@@ -98,7 +98,7 @@ module _ (steps ms : List ℕ) (st : List Bool) (d i k : ℕ) (h : Running steps
             sized = length-set st (d - 2) v ∙ h.sized;
             same =
                 h.same
-                ∙ joins (some (stack_of (set st (d - 2) v) (d - 1))) (stacks.join-two (combine (eqb (get_or steps i 0) 2048)) st d v g (omega arith) q)
+                ∙ joins (some (stack_of (set st (d - 2) v) (d - 1))) (stacks.join_two (combine (eqb (get_or steps i 0) 2048)) st d v g (omega arith) q)
                 ∙ rw (add-one i);
           }
 
@@ -111,7 +111,7 @@ module _ (steps ms : List ℕ) (st : List Bool) (d i k : ℕ) (h : Running steps
 
       pub run_full : 100 ≤ d → Refused 8 ≡ outcome_by steps ms
       unfolding bind
-      run_full f = refused (pushes none (stacks.push-full st d (marked_true ms k) f))
+      run_full f = refused (pushes none (stacks.push_full st d (marked_true ms k) f))
 
       pub run_rel : (v : Bool) → d < 100 → v ≡ marked_true ms k → Running steps ms (set st d v) (d + 1) (i + 1) (k + 1)
       unfolding bind
@@ -123,7 +123,7 @@ module _ (steps ms : List ℕ) (st : List Bool) (d i k : ℕ) (h : Running steps
             sized = length-set st d v ∙ h.sized;
             same =
                 h.same
-                ∙ pushes (some (stack_of (set st d v) (d + 1))) (rw (← g) (stacks.push-room st d v f (omega arith)))
+                ∙ pushes (some (stack_of (set st d v) (d + 1))) (rw (← g) (stacks.push_room st d v f (omega arith)))
                 ∙ rw (add-one k, add-one i);
           }
 

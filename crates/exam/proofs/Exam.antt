@@ -15,9 +15,9 @@ use Rattle.exam.specs.Exam.{sheet, marked}
 
 pub exam : desk_of server sheet ≡ marked
 unfolding
-    computing answer.refusal answer.validityOf symbols.starsIn symbols.goodText symbols.goodNumber symbols.good symbols.connectiveOf
-    symbols.relationAt symbols.tokenOf symbols.follow symbols.symbolsPast relation.width tree.pushed tree.joined tree.result tree.bind tree.run
-    tree.parse selection.selectNumber selection.selectOf selection.passing selection.is_yes reading.field fields.fieldsEnd fields.isRx
-    fields.scriptEnd fields.lessFirst fields.lessSession desk.firstRow desk.readRow desk.rows_from desk.rows_of desk.isRight desk.verdictWord
-    desk.rowText desk.marksLine desk.lastText desk.refusedLine desk.stopText desk.rightAfter desk.printRows desk.outputOf
+    computing answer.refusal answer.validity_of symbols.stars_in symbols.good_text symbols.good_number symbols.good symbols.connective_of
+    symbols.relation_at symbols.token_of symbols.follow symbols.symbols_past relation.width tree.pushed tree.joined tree.result tree.bind tree.run
+    tree.parse selection.select_number selection.select_of selection.passing selection.is_yes reading.field fields.fields_end fields.is_rx
+    fields.script_end fields.less_first fields.less_session desk.first_row desk.read_row desk.rows_from desk.rows_of desk.is_right desk.verdict_word
+    desk.row_text desk.marks_line desk.last_text desk.refused_line desk.stop_text desk.right_after desk.print_rows desk.output_of
 exam = refl

@@ -40,7 +40,7 @@ sound_facts map owner table last latest e =
       most = leb-true (places table) 256 q.0;
       whole = eqb-true (length table % 4) 0 q.1;
       blocks = check_facts map owner (places table) r.0;
-      files = fitting.sound-facts last latest (counts_of owner) (files table) s.0 s.1;
+      files = fitting.sound_facts last latest (counts_of owner) (files table) s.0 s.1;
     }
 
 pub facts_sound : (map owner table : List ℕ) (last latest : ℕ) → Sound map owner table last latest → sound_test map owner table last latest ≡ true
@@ -50,8 +50,8 @@ facts_sound map owner table last latest s =
       le-leb (places table) 256 s.most,
       eq-eqb (length table % 4) 0 s.whole,
       facts_check map owner (places table) s.blocks,
-      fitting.sound-fits last latest (counts_of owner) (files table) s.files,
-      fitting.sound-distinct last latest (counts_of owner) (files table) (omega (arith, s.most, length_files table)) s.files,
+      fitting.sound_fits last latest (counts_of owner) (files table) s.files,
+      fitting.sound_distinct last latest (counts_of owner) (files table) (omega (arith, s.most, length_files table)) s.files,
     )
 
 -- the facts of a store with other slices of the same sizes

@@ -103,7 +103,7 @@ unfolding command_of_three readable
 three_readable name number.Bad hex e = absurd (clash e)
 three_readable name (number.Value v) hex e = go (same name (bytes_of "rx")) (is_hex hex) e
   where
-    go : (a b : Bool) → readable (cond a (cond b (command.Rx v (length (lines.bytesIn hex))) command.Unreadable) command.Unreadable) ≡ true → a ≡ true
+    go : (a b : Bool) → readable (cond a (cond b (command.Rx v (length (lines.bytes_in hex))) command.Unreadable) command.Unreadable) ≡ true → a ≡ true
     go true b e = refl
     go false b e = absurd (clash e)
 

@@ -178,19 +178,19 @@ ids_small = refl
 usual_good : (xs : List Named) (id : ℕ) → good_widths xs ≡ true → width (width_in xs id) ≡ true
 unfolding good_widths width_in
 usual_good [] id h = unfold width in refl
-usual_good (x ∷ xs) id h = by (usual_good xs id (tests.second-true (width x.width) _ h)) (eqb x.id id)
+usual_good (x ∷ xs) id h = by (usual_good xs id (tests.second_true (width x.width) _ h)) (eqb x.id id)
   where
     by : width (width_in xs id) ≡ true → (t : Bool) → width (cond t x.width (width_in xs id)) ≡ true
-    by ih true = tests.first-true (width x.width) _ h
+    by ih true = tests.first_true (width x.width) _ h
     by ih false = ih
 
 named_small : (xs : List Named) (letters : List ℕ) (id : ℕ) → small_ids xs ≡ true → id_in xs letters ≡ some id → id < 65536
 unfolding small_ids id_in
 named_small [] letters id a h = let z : ◌≡◌ {A = ℕ} 0 1 = cc in absurd (omega arith)
-named_small (x ∷ xs) letters id a h = by (named_small xs letters id (tests.second-true (ltb x.id 65536) _ a)) (same (small x) letters) h
+named_small (x ∷ xs) letters id a h = by (named_small xs letters id (tests.second_true (ltb x.id 65536) _ a)) (same (small x) letters) h
   where
     by : (id_in xs letters ≡ some id → id < 65536) → (t : Bool) → cond t (some x.id) (id_in xs letters) ≡ some id → id < 65536
-    by ih true e = let z : x.id ≡ id = cc in omega (arith, ltb-true x.id 65536 (tests.first-true (ltb x.id 65536) _ a))
+    by ih true e = let z : x.id ≡ id = cc in omega (arith, ltb-true x.id 65536 (tests.first_true (ltb x.id 65536) _ a))
     by ih false e = ih e
 
 pub item_small : (i : Item) (id : ℕ) → Stands i id → id < 65536
@@ -198,16 +198,16 @@ unfolding Stands every
 item_small (grammar.name letters) id h = named_small items (map lower letters) id ids_small h
 item_small (grammar.number a b c d) id h =
     let g = h.0 in
-    let g1 = tests.second-true (is_hex_digit a) _ g in
-    let g2 = tests.second-true (is_hex_digit b) _ g1 in
-    let g3 = tests.second-true (is_hex_digit c) _ g2 in
+    let g1 = tests.second_true (is_hex_digit a) _ g in
+    let g2 = tests.second_true (is_hex_digit b) _ g1 in
+    let g3 = tests.second_true (is_hex_digit c) _ g2 in
     omega (
       arith,
       h.1,
-      ltb-true (hex_of a) 16 (tests.first-true (is_hex_digit a) _ g),
-      ltb-true (hex_of b) 16 (tests.first-true (is_hex_digit b) _ g1),
-      ltb-true (hex_of c) 16 (tests.first-true (is_hex_digit c) _ g2),
-      ltb-true (hex_of d) 16 (tests.first-true (is_hex_digit d) _ g3),
+      ltb-true (hex_of a) 16 (tests.first_true (is_hex_digit a) _ g),
+      ltb-true (hex_of b) 16 (tests.first_true (is_hex_digit b) _ g1),
+      ltb-true (hex_of c) 16 (tests.first_true (is_hex_digit c) _ g2),
+      ltb-true (hex_of d) 16 (tests.first_true (is_hex_digit d) _ g3),
     )
 
 -- 1, 2 and 4

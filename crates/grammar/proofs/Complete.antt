@@ -23,7 +23,7 @@ closes_blanks : (x bs : List ℕ) → Blanks x → Closes bs → Closes (x ++ bs
 unfolding every digit
 closes_blanks [] bs g h = h
 closes_blanks (b ∷ x) bs g h =
-    let z : b ≤ 32 = tests.blank-below b (tests.first-true (is_blank b) _ g) in
+    let z : b ≤ 32 = tests.blank_below b (tests.first_true (is_blank b) _ g) in
     (rw (lt-ltb b 48 (omega arith)), λ y. omega arith)
 
 closes_with : (b : ℕ) (bs : List ℕ) → digit b ≡ false → (b ≡ 58 → ⊥) → Closes (b ∷ bs)
@@ -68,10 +68,10 @@ unfolding textF formulaF GoodF nestF
 bracket_runs x s y r g l ls p bs n h =
     simp append_assoc
     (then (over_blanks (want l ls) (want_still l ls) x g.0 p (40 ∷ (textS s ++ (41 ∷ (y ++ bs)))))
-    (λ p1. then (one (want l ls) (want fresh (l ∷ ls)) p1 40 (textS s ++ (41 ∷ (y ++ bs))) (steps.want-open l ls (omega arith)))
+    (λ p1. then (one (want l ls) (want fresh (l ∷ ls)) p1 40 (textS s ++ (41 ∷ (y ++ bs))) (steps.want_open l ls (omega arith)))
     (λ p2. then (r g.1 (l ∷ ls) p2 (41 ∷ (y ++ bs)) (omega arith) (closes_with 41 (y ++ bs) (unfold digit in refl) (λ z. omega arith)))
     (λ p3. then (one (have (last s) (front s) (l ∷ ls)) (have (and_after l.product (or_after (front s) (last s))) l.sum ls) p3 41 (y ++ bs)
-    (steps.have-close (last s) (front s) ls l))
+    (steps.have_close (last s) (front s) ls l))
     (λ p4. rw (whole s) (over_blanks (have (and_after l.product (formulaS s)) l.sum ls) (have_still (and_after l.product (formulaS s)) l.sum ls) y
     g.2 p4 bs))))))
 
@@ -90,8 +90,8 @@ unfolding textP formulaP GoodP nestP
 times_runs x f r s g o ls p bs n h =
     simp append_assoc
     (then (r g.0 o ls p (38 ∷ 38 ∷ (textF f ++ bs)) (omega arith) (closes_with 38 (38 ∷ (textF f ++ bs)) (unfold digit in refl) (λ z. omega arith)))
-    (λ p1. then (one (have (formulaP x) o ls) (ampersand (formulaP x) o ls) p1 38 (38 ∷ (textF f ++ bs)) (steps.have-ampersand (formulaP x) o ls))
-    (λ p2. then (one (ampersand (formulaP x) o ls) (want (level o (some (formulaP x))) ls) p2 38 (textF f ++ bs) (steps.second-ampersand (formulaP x) o ls))
+    (λ p1. then (one (have (formulaP x) o ls) (ampersand (formulaP x) o ls) p1 38 (38 ∷ (textF f ++ bs)) (steps.have_ampersand (formulaP x) o ls))
+    (λ p2. then (one (ampersand (formulaP x) o ls) (want (level o (some (formulaP x))) ls) p2 38 (textF f ++ bs) (steps.second_ampersand (formulaP x) o ls))
     (λ p3. s g.1 (level o (some (formulaP x))) ls p3 bs (omega arith) h))))
 
 product_runs : (x : Product) → ProductRuns x → SumRuns (product x)
@@ -103,9 +103,9 @@ unfolding textS GoodS nestS
 plus_runs s x r t g ls p bs n h =
     simp append_assoc
     (then (r g.0 ls p (124 ∷ 124 ∷ (textP x ++ bs)) (omega arith) (closes_with 124 (124 ∷ (textP x ++ bs)) (unfold digit in refl) (λ z. omega arith)))
-    (λ p1. then (one (have (last s) (front s) ls) (bar (last s) (front s) ls) p1 124 (124 ∷ (textP x ++ bs)) (steps.have-bar (last s) (front s) ls))
+    (λ p1. then (one (have (last s) (front s) ls) (bar (last s) (front s) ls) p1 124 (124 ∷ (textP x ++ bs)) (steps.have_bar (last s) (front s) ls))
     (λ p2. then (one (bar (last s) (front s) ls) (want (level (some (or_after (front s) (last s))) none) ls) p2 124 (textP x ++ bs)
-    (steps.second-bar (last s) (front s) ls))
+    (steps.second_bar (last s) (front s) ls))
     (λ p3. rw (whole s) (t g.1 (some (formulaS s)) ls p3 bs (omega arith) h)))))
 
 mutual

@@ -213,7 +213,7 @@ relation_of_law id c u s k h g e =
 -- ---- constants
 
 one_digit : (b : ℕ) → digit b ≡ true → Digits (b ∷ [])
-one_digit b h = record { some = omega arith; are = tests.every_one digit b h; fits = unfold value_from in omega (arith, tests.digit-most b h) }
+one_digit b h = record { some = omega arith; are = tests.every_one digit b h; fits = unfold value_from in omega (arith, tests.digit_most b h) }
 
 opened : (id : ℕ) (c : Comparison) (s : List ℕ) (b : ℕ) → Front id c s → eqb b 34 ≡ true → is_equality c ≡ true → PartHeld (on (string id c [])) s b
 unfolding PartHeld PhaseHeld
@@ -252,7 +252,7 @@ held_number id c v s b h =
   where
     more : digit b ≡ true → 10 * v + (b - 48) ≤ 4294967295 → NumberHeld id c (10 * v + (b - 48)) (s ++ b ∷ [])
     more e f =
-        let z : value_from 0 (h.ds ++ b ∷ []) ≡ 10 * v + (b - 48) = rw (tests.value-snoc 0 h.ds b, h.value) in
+        let z : value_from 0 (h.ds ++ b ∷ []) ≡ 10 * v + (b - 48) = rw (tests.value_snoc 0 h.ds b, h.value) in
         record {
           u = h.u;
           front = h.front;
@@ -293,8 +293,8 @@ bytes_snoc (y ∷ xs) x = ap (λ (l : List ℕ). character_byte y ∷ l) (bytes_
 good_snoc : (xs : List Character) (x : Character) → good_characters xs ≡ true → good_character x ≡ true → good_characters (xs ++ x ∷ []) ≡ true
 unfolding good_characters
 good_snoc [] x h i = rw i
-good_snoc (y ∷ xs) x h i = tests.both_true (good_character y) _ (tests.first-true (good_character y) _ h)
-    (good_snoc xs x (tests.second-true (good_character y) _ h) i)
+good_snoc (y ∷ xs) x h i = tests.both_true (good_character y) _ (tests.first_true (good_character y) _ h)
+    (good_snoc xs x (tests.second_true (good_character y) _ h) i)
 
 -- a character more
 string_more : (id : ℕ) (c : Comparison) (bytes w s t : List ℕ) (x : Character) (b : ℕ) → StringHeld id c bytes w s → good_character x ≡ true
@@ -322,8 +322,8 @@ unfolding stars_in
 stars_kept bytes b h = by (eqb b 42) refl
   where
     by : (t : Bool) → eqb b 42 ≡ t → cond t (leb 4 (stars_in bytes)) false ≡ false → stars_in (bytes ++ b ∷ []) ≤ 4
-    by true e z = let y : stars_in (b ∷ []) ≡ 1 = rw e in omega (arith, steps.stars-append bytes (b ∷ []), leb-false 4 (stars_in bytes) z)
-    by false e z = let y : stars_in (b ∷ []) ≡ 0 = rw e in omega (arith, steps.stars-append bytes (b ∷ []))
+    by true e z = let y : stars_in (b ∷ []) ≡ 1 = rw e in omega (arith, steps.stars_append bytes (b ∷ []), leb-false 4 (stars_in bytes) z)
+    by false e z = let y : stars_in (b ∷ []) ≡ 0 = rw e in omega (arith, steps.stars_append bytes (b ∷ []))
 
 stars_now : (id : ℕ) (c : Comparison) (bytes w s : List ℕ) → StringHeld id c bytes w s → stars_in bytes ≤ 4
 stars_now id c bytes w s h = rw h.is at h.good.stars
@@ -362,7 +362,7 @@ held_escape id c bytes s b h i =
     quoted : (d : ℕ) → good_character (grammar.escaped d) ≡ true → stars_in (d ∷ []) ≡ 0 → StringHeld id c (bytes ++ d ∷ []) [] (s ++ d ∷ [])
     quoted d g z =
         string_more id c bytes (92 ∷ []) s (d ∷ []) (grammar.escaped d) d h g (unfold character_byte in refl) (unfold character_text in refl) i
-        (omega (arith, steps.stars-append bytes (d ∷ []), stars_now id c bytes (92 ∷ []) s h))
+        (omega (arith, steps.stars_append bytes (d ∷ []), stars_now id c bytes (92 ∷ []) s h))
 
 -- ---- every phase
 

@@ -43,13 +43,13 @@ hex_digits : (a b c d : ℕ) → every is_hex_digit (a ∷ b ∷ c ∷ d ∷ [])
     → (is_hex_digit a ≡ true) × (is_hex_digit b ≡ true) × (is_hex_digit c ≡ true) × (is_hex_digit d ≡ true)
 unfolding every
 hex_digits a b c d h =
-    let i = tests.second-true (is_hex_digit a) _ h in
-    let j = tests.second-true (is_hex_digit b) _ i in (
-      tests.first-true (is_hex_digit a) _ h,
-      tests.first-true (is_hex_digit b) _ i,
-      tests.first-true (is_hex_digit c) _ j,
-      tests.first-true (is_hex_digit d) _
-          (tests.second-true (is_hex_digit c) _ j),
+    let i = tests.second_true (is_hex_digit a) _ h in
+    let j = tests.second_true (is_hex_digit b) _ i in (
+      tests.first_true (is_hex_digit a) _ h,
+      tests.first_true (is_hex_digit b) _ i,
+      tests.first_true (is_hex_digit c) _ j,
+      tests.first_true (is_hex_digit d) _
+          (tests.second_true (is_hex_digit c) _ j),
     )
 
 -- a state in which letters are read as after the letters w: `want`, before any, or one inside a name
@@ -58,7 +58,7 @@ Acts st w l ls = (b : ℕ) → 48 ≤ b → step st b ≡ taken (part_of (name w
 
 module _ (l : Level) (ls : List Level) where
   pub want_acts : Acts (want l ls) [] l ls
-  want_acts b h = steps.want-name l ls b (tests.not-blank b (omega arith)) (λ z. omega arith) (λ z. omega arith)
+  want_acts b h = steps.want_name l ls b (tests.not_blank b (omega arith)) (λ z. omega arith) (λ z. omega arith)
 
   pub inside_acts : (w : List ℕ) → Acts (inside (name w) l ls) w l ls
   unfolding step
@@ -83,7 +83,7 @@ module _ (l : Level) (ls : List Level) where
   letters_run (c ∷ []) st w (b ∷ x ∷ s) id p bs a n h i e = let z : ◌≡◌ {A = ℕ} 0 1 = cc in absurd (omega arith)
   letters_run (c ∷ []) st w (b ∷ []) id p bs a n h i e =
       let f : lower b ≡ c = cc in
-      one st (inside (item id) l ls) p b bs (a b (lower_high b c f (names.last-high w c h)) ∙ last_letter w b c id f i)
+      one st (inside (item id) l ls) p b bs (a b (lower_high b c f (names.last_high w c h)) ∙ last_letter w b c id f i)
   letters_run (c ∷ d ∷ r) st w (b ∷ s) id p bs a n h i e =
       let f : lower b ≡ c = cc in
       let g : map lower s ≡ d ∷ r = cc in
@@ -104,10 +104,10 @@ module _ (l : Level) (ls : List Level) where
   unfolding Stands item_text
   item_runs (grammar.name letters) id p bs h =
       letters_run (map lower letters) (want l ls) [] letters id p bs want_acts (some_letter (map lower letters) h)
-      (names.name-walks (map lower letters) id h) h refl
+      (names.name_walks (map lower letters) id h) h refl
     where
       no_letters : id_named [] ≡ some id → ⊥
-      no_letters z = names.not-empty id z
+      no_letters z = names.not_empty id z
 
       some_letter : (w : List ℕ) → id_named w ≡ some id → 0 < length w
       some_letter [] z = absurd (no_letters z)
@@ -115,7 +115,7 @@ module _ (l : Level) (ls : List Level) where
   item_runs (grammar.number a b c d) id p bs h =
       let g = hex_digits a b c d h.0 in
       let e : 16 * (16 * (16 * (16 * 0 + hex_of a) + hex_of b) + hex_of c) + hex_of d ≡ id = omega (arith, h.1) in
-      then (one (want l ls) (inside (hash 0 0) l ls) p 35 (a ∷ b ∷ c ∷ d ∷ bs) (steps.want-hash l ls))
+      then (one (want l ls) (inside (hash 0 0) l ls) p 35 (a ∷ b ∷ c ∷ d ∷ bs) (steps.want_hash l ls))
       (λ p1. then (hash_digit 0 0 a p1 (b ∷ c ∷ d ∷ bs) (omega arith) g.0)
       (λ p2. then (hash_digit 1 (16 * 0 + hex_of a) b p2 (c ∷ d ∷ bs) (omega arith) g.1)
       (λ p3. then (hash_digit 2 (16 * (16 * 0 + hex_of a) + hex_of b) c p3 (d ∷ bs) (omega arith) g.2)
@@ -136,7 +136,7 @@ module _ (id : ℕ) (l : Level) (ls : List Level) where
   order_runs : (c : Comparison) (b p : ℕ) (bs : List ℕ) → part_of (item id) b ≡ on (order id c) → NotEqualSign bs → Reach (inside (item id) l ls) p (b ∷ bs)
       (inside (constant id c) l ls) bs
   order_runs c b p bs h n =
-      then (part_on l ls (item id) (order id c) p b bs h) (λ q. record { place = q; moves = refl; runs = steps.order-ends id c l ls q bs n })
+      then (part_on l ls (item id) (order id c) p b bs h) (λ q. record { place = q; moves = refl; runs = steps.order_ends id c l ls q bs n })
 
   or_equal_runs : (c : Comparison) (b p : ℕ) (bs : List ℕ) → part_of (item id) b ≡ on (order id c) → Reach (inside (item id) l ls) p (b ∷ 61 ∷ bs)
       (inside (constant id (or_equal c)) l ls) bs
@@ -161,10 +161,10 @@ module _ (id : ℕ) (c : Comparison) (l : Level) (ls : List Level) where
   unfolding every value_from
   digits_run [] v p bs h i = stay (inside (digits id c v) l ls) p bs
   digits_run (d ∷ ds) v p bs h i =
-      let least : 10 * v + (d - 48) ≤ value_from (10 * v + (d - 48)) ds = tests.value-least (10 * v + (d - 48)) ds in
+      let least : 10 * v + (d - 48) ≤ value_from (10 * v + (d - 48)) ds = tests.value_least (10 * v + (d - 48)) ds in
       then (part_on l ls (digits id c v) (digits id c (10 * v + (d - 48))) p d (ds ++ bs)
-      (steps.digit-more id c v d (tests.first-true (digit d) _ h) (omega arith)))
-      (λ q. digits_run ds (10 * v + (d - 48)) q bs (tests.second-true (digit d) _ h) i)
+      (steps.digit_more id c v d (tests.first_true (digit d) _ h) (omega arith)))
+      (λ q. digits_run ds (10 * v + (d - 48)) q bs (tests.second_true (digit d) _ h) i)
 
   number_runs : (ds : List ℕ) (p : ℕ) (bs : List ℕ) → Digits ds → Reach (inside (constant id c) l ls) p (ds ++ bs)
       (inside (digits id c (value_from 0 ds)) l ls) bs
@@ -173,8 +173,8 @@ module _ (id : ℕ) (c : Comparison) (l : Level) (ls : List Level) where
   number_runs (d ∷ ds) p bs h =
       let z : 10 * 0 + (d - 48) ≡ d - 48 = omega arith in
       let f : value_from (d - 48) ds ≤ 4294967295 = rw z at h.fits in
-      rw z (then (part_on l ls (constant id c) (digits id c (d - 48)) p d (ds ++ bs) (steps.wants-digit id c d (tests.first-true (digit d) _ h.are)))
-      (λ q. digits_run ds (d - 48) q bs (tests.second-true (digit d) _ h.are) f))
+      rw z (then (part_on l ls (constant id c) (digits id c (d - 48)) p d (ds ++ bs) (steps.wants_digit id c d (tests.first_true (digit d) _ h.are)))
+      (λ q. digits_run ds (d - 48) q bs (tests.second_true (digit d) _ h.are) f))
 
   -- one character of a string
   character_runs : (x : Character) (bytes : List ℕ) (p : ℕ) (bs : List ℕ) → good_character x ≡ true → length bytes < 255 → stars_in
@@ -190,21 +190,21 @@ module _ (id : ℕ) (c : Comparison) (l : Level) (ls : List Level) where
         where
           not_escape : (t : Bool) → eqb b 92 ≡ t → cond t false (is_printed b) ≡ true → part_of (string id c bytes) b ≡ on (string id c (bytes ++ b ∷ []))
           not_escape true f y = absurd (tests.clash false y refl)
-          not_escape false f y = steps.string-plain id c bytes b (eqb-false b 34 e) (eqb-false b 92 f) y ∙ steps.adds id c bytes b h i
+          not_escape false f y = steps.string_plain id c bytes b (eqb-false b 34 e) (eqb-false b 92 f) y ∙ steps.adds id c bytes b h i
   character_runs (escaped b) bytes p bs g h i =
-      then (part_on l ls (string id c bytes) (escape id c bytes) p 92 (b ∷ bs) (steps.string-escape id c bytes h))
+      then (part_on l ls (string id c bytes) (escape id c bytes) p 92 (b ∷ bs) (steps.string_escape id c bytes h))
       (λ q. part_on l ls (escape id c bytes) (string id c (bytes ++ b ∷ [])) q b bs (by (eqb b 34) refl g))
     where
       by : (t : Bool) → eqb b 34 ≡ t → cond t true (eqb b 92) ≡ true → part_of (escape id c bytes) b ≡ on (string id c (bytes ++ b ∷ []))
       by true e z = rw (eqb-true b 34 e) (unfold part_of in refl)
       by false e z = rw (eqb-true b 92 z) (unfold part_of in refl)
   character_runs (coded a b) bytes p bs g h i =
-      then (part_on l ls (string id c bytes) (escape id c bytes) p 92 (120 ∷ a ∷ b ∷ bs) (steps.string-escape id c bytes h))
+      then (part_on l ls (string id c bytes) (escape id c bytes) p 92 (120 ∷ a ∷ b ∷ bs) (steps.string_escape id c bytes h))
       (λ p1. then (part_on l ls (escape id c bytes) (machine.coded id c bytes) p1 120 (a ∷ b ∷ bs) (unfold part_of in refl))
       (λ p2. then (part_on l ls (machine.coded id c bytes) (code id c bytes (hex_of a)) p2 a (b ∷ bs)
-      (unfold part_of in rw (tests.first-true (is_hex_digit a) _ g)))
+      (unfold part_of in rw (tests.first_true (is_hex_digit a) _ g)))
       (λ p3. part_on l ls (code id c bytes (hex_of a)) (string id c (bytes ++ (16 * hex_of a + hex_of b) ∷ [])) p3 b bs
-      (unfold part_of in rw (tests.second-true (is_hex_digit a) _ g) (steps.adds id c bytes (16 * hex_of a + hex_of b) h i)))))
+      (unfold part_of in rw (tests.second_true (is_hex_digit a) _ g) (steps.adds id c bytes (16 * hex_of a + hex_of b) h i)))))
 
   characters_run : (xs : List Character) (bytes : List ℕ) (p : ℕ) (bs : List ℕ) → good_characters xs ≡ true → length (bytes ++ characters_bytes xs) ≤ 255
       → stars_in (bytes ++ characters_bytes xs) ≤ 4
@@ -217,43 +217,43 @@ module _ (id : ℕ) (c : Comparison) (l : Level) (ls : List Level) where
       let h' : length ((bytes ++ character_byte x ∷ []) ++ characters_bytes xs) ≤ 255 = rw split at h in
       let i' : stars_in ((bytes ++ character_byte x ∷ []) ++ characters_bytes xs) ≤ 4 = rw split at i in
       rw (split, append_assoc (character_text x) (characters_text xs) bs)
-      (then (character_runs x bytes p (characters_text xs ++ bs) (tests.first-true (good_character x) _ g)
+      (then (character_runs x bytes p (characters_text xs ++ bs) (tests.first_true (good_character x) _ g)
       (omega (arith, h', length-append (bytes ++ character_byte x ∷ []) (characters_bytes xs), length-append bytes (character_byte x ∷ [])))
-      (omega (arith, i', steps.stars-append (bytes ++ character_byte x ∷ []) (characters_bytes xs))))
-      (λ q. characters_run xs (bytes ++ character_byte x ∷ []) q bs (tests.second-true (good_character x) _ g) h' i'))
+      (omega (arith, i', steps.stars_append (bytes ++ character_byte x ∷ []) (characters_bytes xs))))
+      (λ q. characters_run xs (bytes ++ character_byte x ∷ []) q bs (tests.second_true (good_character x) _ g) h' i'))
 
   pub constant_runs : (k : Constant) (p : ℕ) (bs : List ℕ) → GoodConstant c k → Closes bs → Reach (inside (constant id c) l ls) p (constant_text k ++ bs)
       (after_relation l ls (meant id c k)) bs
   unfolding GoodConstant constant_text meant
   constant_runs (grammar.number ds) p bs g h =
-      then (number_runs ds p bs g) (λ q. record { place = q; moves = refl; runs = steps.number-ends id c l ls (value_from 0 ds) q bs h })
+      then (number_runs ds p bs g) (λ q. record { place = q; moves = refl; runs = steps.number_ends id c l ls (value_from 0 ds) q bs h })
   constant_runs (grammar.sized ds w) p bs g h =
       rw (append_assoc ds (58 ∷ w ∷ []) bs)
       (then (number_runs ds p (58 ∷ w ∷ bs) g.0)
-      (λ p1. then (part_on l ls (digits id c (value_from 0 ds)) (colon id c (value_from 0 ds)) p1 58 (w ∷ bs) (steps.digits-colon id c (value_from 0 ds)))
+      (λ p1. then (part_on l ls (digits id c (value_from 0 ds)) (colon id c (value_from 0 ds)) p1 58 (w ∷ bs) (steps.digits_colon id c (value_from 0 ds)))
       (λ p2. part_whole l ls (colon id c (value_from 0 ds)) (number_relation id c (w - 48) (value_from 0 ds)) p2 w bs
-      (steps.colon-width id c (value_from 0 ds) w g.1))))
+      (steps.colon_width id c (value_from 0 ds) w g.1))))
   constant_runs (grammar.string xs) p bs g h =
       rw (append_assoc (characters_text xs) (34 ∷ []) bs)
-      (then (part_on l ls (constant id c) (string id c []) p 34 (characters_text xs ++ 34 ∷ bs) (steps.wants-string id c g.1))
+      (then (part_on l ls (constant id c) (string id c []) p 34 (characters_text xs ++ 34 ∷ bs) (steps.wants_string id c g.1))
       (λ p1. then (characters_run xs [] p1 (34 ∷ bs) g.0.are g.0.short g.0.stars)
       (λ p2. part_whole l ls (string id c (characters_bytes xs)) (text_relation id c (characters_bytes xs)) p2 34 bs
-      (steps.string-end id c (characters_bytes xs)))))
+      (steps.string_end id c (characters_bytes xs)))))
 
 -- ---- relations
 
 constant_first : (c : Comparison) (k : Constant) (bs : List ℕ) → GoodConstant c k → NotEqualSign (constant_text k ++ bs)
 unfolding GoodConstant constant_text every
 constant_first c (grammar.number []) bs g z = omega (arith, g.some)
-constant_first c (grammar.number (d ∷ ds)) bs g z = omega (arith, tests.digit-most d (tests.first-true (digit d) _ g.are))
+constant_first c (grammar.number (d ∷ ds)) bs g z = omega (arith, tests.digit_most d (tests.first_true (digit d) _ g.are))
 constant_first c (grammar.sized [] w) bs g z = omega (arith, g.0.some)
-constant_first c (grammar.sized (d ∷ ds) w) bs g z = omega (arith, tests.digit-most d (tests.first-true (digit d) _ g.0.are))
+constant_first c (grammar.sized (d ∷ ds) w) bs g z = omega (arith, tests.digit_most d (tests.first_true (digit d) _ g.0.are))
 constant_first c (grammar.string xs) bs g z = omega arith
 
 behind_first : (x bs : List ℕ) → grammar.Blanks x → NotEqualSign bs → NotEqualSign (x ++ bs)
 unfolding every
 behind_first [] bs g n z = n z
-behind_first (b ∷ x) bs g n z = omega (arith, tests.blank-below b (tests.first-true (is_blank b) _ g))
+behind_first (b ∷ x) bs g n z = omega (arith, tests.blank_below b (tests.first_true (is_blank b) _ g))
 
 -- a relation, wherever it stands
 pub relation_runs : (r : Written) → GoodWritten r → (l : Level) (ls : List Level) (p : ℕ) (bs : List ℕ) → Closes bs → Reach (want l ls) p (written_text r ++ bs)

@@ -94,7 +94,7 @@ pub over_blanks : (st : State) → Still st → (x : List ℕ) → Blanks x → 
 unfolding every
 over_blanks st h [] g p bs = stay st p bs
 over_blanks st h (b ∷ x) g p bs =
-    then (one st st p b (x ++ bs) (h b (tests.first-true (is_blank b) _ g))) (λ q. over_blanks st h x (tests.second-true (is_blank b) _ g) q bs)
+    then (one st st p b (x ++ bs) (h b (tests.first_true (is_blank b) _ g))) (λ q. over_blanks st h x (tests.second_true (is_blank b) _ g) q bs)
 
 -- ---- around relations
 
@@ -161,7 +161,7 @@ have_top p o b x y z = rw (x, ne_eqb b 38 y, ne_eqb b 124 z) (by (eqb b 41))
 module _ (id : ℕ) (c : Comparison) where
   pub wants_digit : (b : ℕ) → digit b ≡ true → part_of (constant id c) b ≡ on (digits id c (b - 48))
   unfolding part_of wanted
-  wants_digit b h = rw (tests.not-blank b (omega (arith, tests.digit-least b h)), h)
+  wants_digit b h = rw (tests.not_blank b (omega (arith, tests.digit_least b h)), h)
 
   pub wants_string : is_equality c ≡ true → part_of (constant id c) 34 ≡ on (string id c [])
   unfolding part_of wanted is_blank digit

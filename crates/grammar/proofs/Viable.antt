@@ -89,8 +89,8 @@ module _ (l : Level) (ls : List Level) where
         rest = c.rest ++ e.rest;
         means = e.means;
         runs = λ p.
-            (let x = letters_run l ls c.rest (inside (name w) l ls) w c.rest c.id p e.rest (inside_acts l ls w) (names.more-letters w n c)
-            (names.walks-on w n c) c.is c.lowered in
+            (let x = letters_run l ls c.rest (inside (name w) l ls) w c.rest c.id p e.rest (inside_acts l ls w) (names.more_letters w n c)
+            (names.walks_on w n c) c.is c.lowered in
             x.runs ∙ e.runs x.place);
       }
 
@@ -154,15 +154,15 @@ module _ (l : Level) (ls : List Level) where
   ends_phase (code id c bytes d) u h = ends_code id c bytes d h.4
 
   ends_want : Ends (want l ls)
-  ends_want = ends_by 35 (want l ls) (inside (hash 0 0) l ls) (steps.want-hash l ls) (ends_hash 0 0 [] (unfold HashHeld in (refl, refl)))
+  ends_want = ends_by 35 (want l ls) (inside (hash 0 0) l ls) (steps.want_hash l ls) (ends_hash 0 0 [] (unfold HashHeld in (refl, refl)))
 
 ends : (st : State) (s : List ℕ) → Held st s → Ends st
 ends (want l ls) s h = ends_want l ls
 ends (inside ph l ls) s h = let k = phase_held ph l ls s h in ends_phase l ls ph k.0 k.1
 ends (have t o ls) s h = ends_have t o ls
-ends (ampersand t o ls) s h = ends_by 38 (ampersand t o ls) (want (level o (some t)) ls) (steps.second-ampersand t o ls) (ends_want (level o (some t)) ls)
+ends (ampersand t o ls) s h = ends_by 38 (ampersand t o ls) (want (level o (some t)) ls) (steps.second_ampersand t o ls) (ends_want (level o (some t)) ls)
 ends (bar t o ls) s h =
-    ends_by 124 (bar t o ls) (want (level (some (or_after o t)) none) ls) (steps.second-bar t o ls) (ends_want (level (some (or_after o t)) none) ls)
+    ends_by 124 (bar t o ls) (want (level (some (or_after o t)) none) ls) (steps.second_bar t o ls) (ends_want (level (some (or_after o t)) none) ls)
 
 -- ---- a refused text
 

@@ -211,7 +211,7 @@ place_run w p seen [] h n = go seen.place.found refl
 place_run w p seen (x ∷ xs) h n =
     let l : length (raw x ++ written xs) ≡ length (raw x) + length (written xs) = length-append (raw x) (written xs) in
     let r = length_raw x in
-    let q : (passes p (raw x)).pos ≡ p.pos + (3 + length x.bytes) = vals.passes-pos p (raw x) (omega arith) ∙ omega arith in
+    let q : (passes p (raw x)).pos ≡ p.pos + (3 + length x.bytes) = vals.passes_pos p (raw x) (omega arith) ∙ omega arith in
     let q₃ : (head_passed p (x.id % 256) (x.id / 256) (length x.bytes)).pos ≡ p.pos + 3 = omega arith in
     place_run w (passes p (raw x)) (item_seen w p seen x) xs (omega arith)
     (subst Fresh (sym (item_place w p seen x.id (x.id % 256) (x.id / 256) x.bytes)) (fresh_after seen.place w x.id (length x.bytes) (head_passed p (x.id % 256) (x.id / 256) (length x.bytes)).pos n))
@@ -289,16 +289,16 @@ module _ (w : ℕ) (is : List Field) (rest : List ℕ) (named : Named is) (small
       vals.counted (λ s. s.destinations) (λ n. eqb n 20) (λ s id recent. refl) (λ s w id n at. refl) w p₂ s₀ is (omega (arith, few)) ∙ omega arith
 
   oks : S.ok ≡ cond (every fits is) (ordered 0 is) false
-  oks = vals.ok-run w p₂ s₀ is
+  oks = vals.ok_run w p₂ s₀ is
 
   placed : S.place ≡ place_from w 2 is
   placed = place_run w p₂ s₀ is (omega arith) (λ z. refl)
 
   ended_at : P.pos ≡ 2 + length (written is)
-  ended_at = vals.passes-pos p₂ (written is) (omega arith)
+  ended_at = vals.passes_pos p₂ (written is) (omega arith)
 
   summed : P.sum ≡ (255 + sum_of (written is)) % 65536
-  summed = vals.passes-sum p₂ (written is) (omega arith)
+  summed = vals.passes_sum p₂ (written is) (omega arith)
 
   pub items_refused : item_refusal (end_scan w is rest) ≡ check_items (file_of is rest)
   unfolding item_refusal
@@ -319,7 +319,7 @@ module _ (w : ℕ) (is : List Field) (rest : List ℕ) (named : Named is) (small
     sizes =
         let t = c.low 4 (omega arith) (omega arith) in
         let l = length_of 4 3 is refl f (omega arith) in
-        vals.value-four S.size (bytes_of 4 is) (vals.taken (λ s. s.size) 4 (λ s w id n at. refl) (λ s id recent. refl) w p₂ s₀ is (omega arith) bytes t (omega arith)) l
+        vals.value_four S.size (bytes_of 4 is) (vals.taken (λ s. s.size) 4 (λ s w id n at. refl) (λ s id recent. refl) w p₂ s₀ is (omega arith) bytes t (omega arith)) l
 
     -- the field of two bytes that the machine keeps under g
     two_bytes : (g : Seen → ℕ) (i : ℕ)
@@ -332,7 +332,7 @@ module _ (w : ℕ) (is : List Field) (rest : List ℕ) (named : Named is) (small
     two_bytes g i heads datas a b e =
         let t = c.low i a b in
         let l = length_of i 1 is e f (omega arith) in
-        vals.value-two (g S) (bytes_of i is) (vals.taken g i heads datas w p₂ s₀ is (omega arith) bytes t (omega arith)) l
+        vals.value_two (g S) (bytes_of i is) (vals.taken g i heads datas w p₂ s₀ is (omega arith) bytes t (omega arith)) l
 
     offsets : vals.Two S.offset (bytes_of 11 is)
     unfolding with_data with_head listed length_in
@@ -351,7 +351,7 @@ module _ (w : ℕ) (is : List Field) (rest : List ℕ) (named : Named is) (small
         let h = headsums.own in
         let l = headsums.little in
         let t = summed in
-        let le = vals.sum-of 10 is in
+        let le = vals.sum_of_law 10 is in
         own_sum P.sum (255 + sum_of (written is)) (S.headsum / 65536 % 256) (S.headsum / 16777216) (sum_of (bytes_of 10 is)) h l (omega arith) t
         ∙ sym (file_sum is rest named)
 

@@ -191,15 +191,15 @@ module _ (links : List Session) (most : ℕ) (m : Mem) (s : Session) (last : Las
 
   module _ (size number : ℕ) where
     abbrev b : uploads.Begins
-    b = uploads.beginOf m.map m.owner m.table last.number size
+    b = uploads.begin_of m.map m.owner m.table last.number size
 
     abbrev begun_mem : Mem
     begun_mem = mem m.disk b.map b.owner b.table m.selected
 
     -- a new file stands where none was
     begun_new : (p : ℕ) → BeginLeaves m.map m.owner m.table last.number last.time size p b
-        → Done (turned (upload.begunTurn (Started p) s last number) begun_mem)
-    unfolding upload.begunTurn
+        → Done (turned (upload.begun_turn (Started p) s last number) begun_mem)
+    unfolding upload.begun_turn
     begun_new p l =
         record {
           kept = λ q n o.
@@ -216,19 +216,19 @@ module _ (links : List Session) (most : ℕ) (m : Mem) (s : Session) (last : Las
           held = λ b. refl;
         }
 
-    begun : (a : Begun) → b.answer ≡ a → Done (turned (upload.begunTurn a s last number) begun_mem)
-    unfolding upload.begunTurn
+    begun : (a : Begun) → b.answer ≡ a → Done (turned (upload.begun_turn a s last number) begun_mem)
+    unfolding upload.begun_turn
     begun (Refused n) e =
         quiet _ (ap (λ (x : uploads.Begins). x.table) (begin_kept m.map m.owner m.table last.number size n e)) refl refl r
     begun (Started p) e = begun_new p (begin_leaves m.map m.owner m.table last.number last.time stored.sound size p e)
 
-  begin_done : (size : ℕ) (g : Given) → Done (on_frees m (upload.beginWith g s last size m.map m.owner m.table))
-  unfolding upload.beginWith upload.begunAs on_frees
+  begin_done : (size : ℕ) (g : Given) → Done (on_frees m (upload.begin_with g s last size m.map m.owner m.table))
+  unfolding upload.begin_with upload.begun_as on_frees
   begin_done size UsedUp = quiet _ refl refl refl r
   begin_done size (Next number) = begun size number (b size number).answer refl
 
   resume_done : (place number received : ℕ) → Resumes (files m.table) links place received
-      → Done (turned (upload.resumeTurn s last place number received) m)
+      → Done (turned (upload.resume_turn s last place number received) m)
   resume_done place number received h =
       record {
         kept = λ q n o. refl;
@@ -250,7 +250,7 @@ module _ (links : List Session) (most : ℕ) (m : Mem) (s : Session) (last : Las
     partial = subst (λ (x : Uplink). Up (files m.table) x) f.own u
 
     abbrev w : uploads.Writes
-    w = uploads.appendOf m.disk m.owner m.table place (take size info)
+    w = uploads.append_of m.disk m.owner m.table place (take size info)
 
     abbrev appended : Turn → Turned
     appended t = turned t (mem w.disk m.map m.owner w.table m.selected)
@@ -281,8 +281,8 @@ module _ (links : List Session) (most : ℕ) (m : Mem) (s : Session) (last : Las
         }
 
     append_done : size ≤ length info → (k : ℕ) → w.answer ≡ k
-        → Done (appended (upload.storedAs k s last place offset (upload.grown received size)))
-    unfolding upload.storedAs
+        → Done (appended (upload.stored_as k s last place offset (upload.grown received size)))
+    unfolding upload.stored_as
     append_done h k e =
         by_number k
         (λ z. rw (eq-eqb k 0 z)
@@ -291,8 +291,8 @@ module _ (links : List Session) (most : ℕ) (m : Mem) (s : Session) (last : Las
         (λ z. rw (ne_eqb k 0 z)
         (quiet _ (ap (λ (x : uploads.Writes). x.table) (append_kept m.disk m.owner m.table place (take size info) k e z)) refl refl r))
 
-    store_done : Done (on_writes m (upload.storeTurn s last place offset received size info m.disk m.owner m.table))
-    unfolding upload.storeTurn upload.appendedAs on_writes
+    store_done : Done (on_writes m (upload.store_turn s last place offset received size info m.disk m.owner m.table))
+    unfolding upload.store_turn upload.appended_as on_writes
     store_done =
         by_test (λ (x : Writes). Done (on_writes m x)) (ltb (length info) size) _ _ (λ e. quiet _ refl refl refl r)
         (λ e. append_done (ltb-false (length info) size e) w.answer refl)
@@ -308,13 +308,13 @@ module _ (links : List Session) (most : ℕ) (m : Mem) (s : Session) (last : Las
     other q o e = o (subst (λ (x : ℕ). Own s.up x) (sym e) own)
 
     abbrev d : uploads.Frees
-    d = uploads.discardOf m.map m.owner m.table place
+    d = uploads.discard_of m.map m.owner m.table place
 
     discard_other : (q : ℕ) → (Own s.up q → ⊥) → record_at d.table q ≡ record_at m.table q
-    unfolding uploads.discardOf
+    unfolding uploads.discard_of
     discard_other q o =
         by_test (λ (x : uploads.Frees). record_at x.table q ≡ record_at m.table q)
-        (eqb (uploads.discardNumber m.map m.owner place (record_at m.table place)) 0) _ _
+        (eqb (uploads.discard_number m.map m.owner place (record_at m.table place)) 0) _ _
         (λ e. get_put_other m.table place no_file q (other q o)) (λ e. refl)
 
     complete_other : (time q : ℕ) → (Own s.up q → ⊥)
@@ -325,40 +325,40 @@ module _ (links : List Session) (most : ℕ) (m : Mem) (s : Session) (last : Las
         (eqb (complete_number m.disk m.owner place (record_at m.table place)) 0) _ _
         (λ e. get_put_other m.table place (completed time (record_at m.table place)) q (other q o)) (λ e. refl)
 
-    overrun_done : Done (on_frees m (upload.discardTurn s last place up.Ignoring 16 m.map m.owner m.table))
-    unfolding upload.discardTurn on_frees
+    overrun_done : Done (on_frees m (upload.discard_turn s last place up.Ignoring 16 m.map m.owner m.table))
+    unfolding upload.discard_turn on_frees
     overrun_done = ended _ discard_other own_ignoring tt (λ h. refl) (reads_then up.Ignoring)
 
     rejected_done : (number : ℕ)
-        → Done (on_moves m (upload.withDisk m.disk (upload.discardTurn s last place up.Idle number m.map m.owner m.table)))
-    unfolding upload.withDisk upload.discardTurn on_moves
+        → Done (on_moves m (upload.with_disk m.disk (upload.discard_turn s last place up.Idle number m.map m.owner m.table)))
+    unfolding upload.with_disk upload.discard_turn on_moves
     rejected_done number = ended _ discard_other own_idle tt (λ h. refl) (reads_then up.Idle)
 
     accepted_done : (time : ℕ)
-        → Done (on_moves m (upload.with_blocks m.map m.owner (upload.acceptTurn s last place time m.disk m.owner m.table)))
-    unfolding upload.with_blocks upload.acceptTurn upload.acceptedAs on_moves
+        → Done (on_moves m (upload.with_blocks m.map m.owner (upload.accept_turn s last place time m.disk m.owner m.table)))
+    unfolding upload.with_blocks upload.accept_turn upload.accepted_as on_moves
     accepted_done time =
         let c = complete_of m.disk m.owner m.table place time in
         by_test (λ (x : Turn). Done (turned x (mem c.disk m.map m.owner c.table m.selected))) (eqb c.answer 0) _ _
         (λ e. ended _ (complete_other time) own_idle tt (λ h. refl) (reads_then up.Idle))
         (λ e. ended _ (complete_other time) own_idle tt (λ h. refl) (reads_then up.Idle))
 
-    timed_done : (g : Given) → Done (on_moves m (upload.finishAs (upload.timed g) s last place m.disk m.map m.owner m.table))
-    unfolding upload.finishAs upload.timed
+    timed_done : (g : Given) → Done (on_moves m (upload.finish_as (upload.timed g) s last place m.disk m.map m.owner m.table))
+    unfolding upload.finish_as upload.timed
     timed_done UsedUp = rejected_done 3
     timed_done (Next time) = accepted_done time
 
-    finish_done : (clock : ℕ) → Done (on_moves m (upload.finishTurn s last place clock m.disk m.map m.owner m.table))
-    unfolding upload.finishAs upload.judgedAt
+    finish_done : (clock : ℕ) → Done (on_moves m (upload.finish_turn s last place clock m.disk m.map m.owner m.table))
+    unfolding upload.finish_as upload.judged_at
     finish_done clock =
         let k = check_of m.disk m.owner m.table place in
-        by_test (λ x. Done (on_moves m (upload.finishAs x s last place m.disk m.map m.owner m.table))) (eqb k 0) _ _
+        by_test (λ x. Done (on_moves m (upload.finish_as x s last place m.disk m.map m.owner m.table))) (eqb k 0) _ _
         (λ e. timed_done (upload_time clock last.time)) (λ e. rejected_done k)
 
   -- ---- the downlink
 
-  close_done : Done (on_chooses m (download.closeTurn last m.selected))
-  unfolding download.closeTurn on_chooses
+  close_done : Done (on_chooses m (download.close_turn last m.selected))
+  unfolding download.close_turn on_chooses
   close_done =
       ended _ (λ q o. refl) own_idle tt (λ h. absurd (omega arith))
       (record {
@@ -372,8 +372,8 @@ module _ (links : List Session) (most : ℕ) (m : Mem) (s : Session) (last : Las
       })
 
   send_done : (place offset lock passed : ℕ) → Sends (files m.table) s.count place offset passed
-      → Done (turned (download.beginTurn s last place offset lock passed m.disk m.owner m.table) m)
-  unfolding download.beginTurn
+      → Done (turned (download.begin_turn s last place offset lock passed m.disk m.owner m.table) m)
+  unfolding download.begin_turn
   send_done place offset lock passed h =
       by_test (λ (x : Turn). Done (turned x m)) (ltb (destinations_at m.disk m.owner m.table place) lock) _ _
       (λ e. quiet _ refl refl refl r)
@@ -387,15 +387,15 @@ module _ (links : List Session) (most : ℕ) (m : Mem) (s : Session) (last : Las
   down_done v reply h = quiet _ refl refl refl (reads_with (files m.table) most m.selected s (with_down s v) r h refl r.next)
 
   list_done : (l : Listed) (long : Bool) (passed : ℕ) → Lists (files m.table) s.count l passed
-      → Done (turned (download.listTurn s last l long passed) m)
-  unfolding download.listTurn
+      → Done (turned (download.list_turn s last l long passed) m)
+  unfolding download.list_turn
   list_done l long passed h =
       quiet _ refl refl refl
       (reads_with (files m.table) most m.selected s (with_down (with_next s passed) (down.Listing l long 0 0)) r
       (record { one = h.one; come = omega arith; within = omega arith }) refl h.few)
 
-  confirm_done : (place destination : ℕ) → Done (turned (download.confirmTurn s last place destination m.disk m.owner m.table) m)
-  unfolding download.confirmTurn
+  confirm_done : (place destination : ℕ) → Done (turned (download.confirm_turn s last place destination m.disk m.owner m.table) m)
+  unfolding download.confirm_turn
   confirm_done place destination =
       by_test (λ (x : Turn). Done (turned x m)) (ltb (destinations_at m.disk m.owner m.table place) destination) _ _
       (λ e. down_done down.Idle Aborted tt) (λ e. down_done down.Idle Completed tt)
@@ -409,7 +409,7 @@ module _ (links : List Session) (most : ℕ) (m : Mem) (s : Session) (last : Las
     -- each number of the selection is that of a complete file
     chosen_complete : (k : ℕ) → k < length ps → CompleteAt (files m.table) (get_or ps k 0)
     chosen_complete k h =
-        let c = choice.selected-sound m.map most eq m.disk m.owner m.table last.number last.time stored.sound in
+        let c = choice.selected_sound m.map most eq m.disk m.owner m.table last.number last.time stored.sound in
         let p = get_or ps k 0 in
         let a : 0 < uploaded (record_at m.table p) = c.complete p (at_in ps k h) in
         let n = uploaded_file (record_at m.table p) (λ z. omega arith) in
@@ -443,17 +443,17 @@ module _ (links : List Session) (most : ℕ) (m : Mem) (s : Session) (last : Las
           names = chosen_named;
         }
 
-    selected_done : Done (on_chooses m (download.selectedAs s last (select_of eq m.disk m.owner m.table m.selected most)))
-    unfolding select_of download.selectedAs on_chooses
+    selected_done : Done (on_chooses m (download.selected_as s last (select_of eq m.disk m.owner m.table m.selected most)))
+    unfolding select_of download.selected_as on_chooses
     selected_done =
         let k = select_number eq (length m.selected) most in
-        by_test (λ (x : Selects). Done (on_chooses m (download.selectedAs s last x))) (eqb k 0) _ _
+        by_test (λ (x : Selects). Done (on_chooses m (download.selected_as s last x))) (eqb k 0) _ _
         (λ e. quiet _ refl refl refl chosen_reads)
         (λ e. rw e (quiet _ refl refl refl r))
 
   select_done : (size : ℕ) (info : List ℕ) → takes_command s.down ≡ true
-      → Done (on_chooses m (download.selectTurn s last most size info m.disk m.owner m.table m.selected))
-  unfolding download.selectTurn on_chooses
+      → Done (on_chooses m (download.select_turn s last most size info m.disk m.owner m.table m.selected))
+  unfolding download.select_turn on_chooses
   select_done size info idle =
       by_test (λ (x : Chooses). Done (on_chooses m x)) (ltb (length info) size) _ _ (λ e. quiet _ refl refl refl r)
       (λ e. selected_done (take size info) idle)

@@ -73,10 +73,10 @@ module _ (sv : Server) (l : Lent) where
             some = some;
             sizes = s;
             room = r;
-            store = store.sound-facts (map_part sv l) (owner_part sv l) (table_part sv l) sv.last.number sv.last.time t.store;
+            store = store.sound_facts (map_part sv l) (owner_part sv l) (table_part sv l) sv.last.number sv.last.time t.store;
             disk = record { some = omega arith; most = omega (arith, s.blocks); bytes = omega (arith, r.disk) };
-            sessions = links.kept-facts (files (table_part sv l)) sv.sessions sv.most l.selected l.held sv.links
-                (links.sound-facts (files (table_part sv l)) sv.sessions sv.most l.selected l.held sv.links t.sessions) g.kept;
+            sessions = links.kept_facts (files (table_part sv l)) sv.sessions sv.most l.selected l.held sv.links
+                (links.sound_facts (files (table_part sv l)) sv.sessions sv.most l.selected l.held sv.links t.sessions) g.kept;
             links = g.links;
           }
 
@@ -90,10 +90,10 @@ module _ (sv : Server) (l : Lent) where
   facts_good f s k n =
       record {
         fits = f;
-        sound = rw (store.facts-sound (map_part sv l) (owner_part sv l) (table_part sv l) sv.last.number sv.last.time s)
-            (links.facts-sound (files (table_part sv l)) sv.sessions sv.most l.selected l.held sv.links
-            (links.facts-tested (files (table_part sv l)) sv.sessions sv.most l.selected l.held sv.links k));
-        kept = links.facts-kept (files (table_part sv l)) sv.sessions sv.most l.selected l.held sv.links k;
+        sound = rw (store.facts_sound (map_part sv l) (owner_part sv l) (table_part sv l) sv.last.number sv.last.time s)
+            (links.facts_sound (files (table_part sv l)) sv.sessions sv.most l.selected l.held sv.links
+            (links.facts_tested (files (table_part sv l)) sv.sessions sv.most l.selected l.held sv.links k));
+        kept = links.facts_kept (files (table_part sv l)) sv.sessions sv.most l.selected l.held sv.links k;
         links = n;
       }
 

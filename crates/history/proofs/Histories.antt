@@ -30,7 +30,7 @@ module _ (s : Start) (ok : legal s ≡ true) where
 
   -- what is lent stays long enough, and the sizes stay those of the table
   pub never_33 : (h : History) (c : Call) → (call_of (after s h).server (after s h).lent c).done.answer ≡ answer.Refused 33 → ⊥
-  never_33 h c = never.never-33 (after s h).server (after s h).lent (good_after h) c
+  never_33 h c = never.never_33 (after s h).server (after s h).lent (good_after h) c
 
   next_sizes : (h : History) (c : Call) → SameSizes (made s).server (after s h).server → SameSizes (made s).server (after s (h ▸ c)).server
   unfolding after

@@ -439,8 +439,8 @@ module _ (fs : List File) (s : Session) (disk owner selected out : List ℕ)
           }
 
   -- an entry is no longer than its file
-  entry_most : (long : Bool) (f : Found) → CompleteIn fs f → length (entry_in long disk owner fs f) ≤ size.sizeIn fs f
-  unfolding entry_in size.sizeIn
+  entry_most : (long : Bool) (f : Found) → CompleteIn fs f → length (entry_in long disk owner fs f) ≤ size.size_in fs f
+  unfolding entry_in size.size_in
   entry_most long Nothing c = omega arith
   entry_most long (At place) c =
       omega (arith, (entry_short long disk owner place (file_at fs place).received).within, received place c)

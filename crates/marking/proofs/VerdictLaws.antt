@@ -168,5 +168,5 @@ unfolding mark_of
 step_marks day v l left bytes answer out text after at s r e f = go (step_of day l bytes room) (e ∙ front_step day l bytes)
   where
     go : (t : script.Stepping) → stepping s left out ≡ t
-        → marking r left after ≡ step.markBy t (judged_of v answer (take t.stepped.written t.text) at text)
+        → marking r left after ≡ step.mark_by t (judged_of v answer (take t.stepped.written t.text) at text)
     go t g = rw (← g) (ap (λ (k : step.Concludes). marking k.step left k.text) f)

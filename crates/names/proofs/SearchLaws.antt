@@ -68,8 +68,8 @@ begins_shared zero cs bs h i = omega arith
 begins_shared (suc n) cs [] h i = absurd (omega arith)
 begins_shared (suc n) [] (b ∷ bs) h i = absurd (tests.clash false i refl)
 begins_shared (suc n) (c ∷ cs) (b ∷ bs) h i =
-    let e : eqb (lower b) c ≡ true = tests.first-true (eqb (lower b) c) _ i in
-    let k = begins_shared n cs bs (omega arith) (tests.second-true (eqb (lower b) c) _ i) in
+    let e : eqb (lower b) c ≡ true = tests.first_true (eqb (lower b) c) _ i in
+    let k = begins_shared n cs bs (omega arith) (tests.second_true (eqb (lower b) c) _ i) in
     rw e (omega (arith, k))
 
 -- ---- the search

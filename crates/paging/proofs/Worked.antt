@@ -78,7 +78,7 @@ unfolding
     walk marked fields_of listed every count_if bytes_of length_in length_fits ordered proper complete sum_of check_items check_values verdict place_from
     with_fields with_sum fields_set hex_digit before_mark unmarked_past stars_in good_text good_number good connective_of relation_at token_of follow symbols_past width
     compare text_meets number_meets meets holds tree.pushed tree.joined tree.result tree.bind tree.run tree.parse tree.truth equation.said
-    equation.answer equation.is_yes equation.refusal equation.validityOf tell find changed without reserved uploading matching placed by_time upload_new
+    equation.answer equation.is_yes equation.refusal equation.validity_of tell find changed without reserved uploading matching placed by_time upload_new
     upload_continued on_upload_cmd data_to on_data data_end_to on_data_end on_select_cmd by_type ends_in on_event refusal unless step run
 met =
     record {

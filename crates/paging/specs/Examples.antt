@@ -22,7 +22,7 @@ sent n r = take n (answered r 0 (replicate 258 0)).out
 
 -- what a link with no unfinished packet makes of two bytes
 abbrev pub head_of : ℕ → ℕ → Frame
-head_of a b = (frame.receiveOf (replicate 258 0) 0 (a ∷ b ∷ [])).answer.frame
+head_of a b = (frame.receive_of (replicate 258 0) 0 (a ∷ b ∷ [])).answer.frame
 
 -- P8 "an 80-byte file with only the mandatory items, sums and sizes right, and no body"
 unfoldable pub smallest : List ℕ

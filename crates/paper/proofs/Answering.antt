@@ -39,7 +39,7 @@ module _ (text out buffer : List ℕ) where
     text_over h =
         let f = sum_is in
         rw (f.runs [] refl ∙ places.halts text e (have f.product f.sum []) reason.Connective h
-        (steps.have-top f.product f.sum (get_or text e 0) f.no_blank f.no_and f.no_or))
+        (steps.have_top f.product f.sum (get_or text e 0) f.no_blank f.no_and f.no_or))
 
     pub text_whole : (a : Answers) → length buffer ≡ 256 → length text ≤ e → a ≡ delivered_from now m out → a ≡ bytes_of text out
     unfolding answered ending ended
@@ -48,4 +48,4 @@ module _ (text out buffer : List ℕ) where
         let b : length (postfix (or_after f.sum f.product)) ≡ m = omega (arith, f.count) in
         y
         ∙ rw (f.bytes, f.runs [] refl ∙ places.ends text e (have f.product f.sum []) h)
-        (output.from-buffer buffer (postfix (or_after f.sum f.product)) out m l (sym b))
+        (output.from_buffer buffer (postfix (or_after f.sum f.product)) out m l (sym b))

@@ -19,11 +19,11 @@ use Rattle.paper.specs.declared.Answer.TheVariants as answer
 
 module _ (out : List ℕ) (n w x y z : ℕ) (o1 o2 o3 o4 : List ℕ) (a b c d : ℕ) (ha : a ≡ n + 1) (e1 : o1 ≡ set out n w) where
   pub two_puts : b ≡ a + 1 → o2 ≡ set o1 a x → o2 ≡ sets out n (w ∷ x ∷ [])
-  two_puts hb e2 = puts.put-more out o1 o2 n a (w ∷ []) x e1 ha e2
+  two_puts hb e2 = puts.put_more out o1 o2 n a (w ∷ []) x e1 ha e2
 
   pub four_puts : b ≡ a + 1 → c ≡ b + 1 → o2 ≡ set o1 a x → o3 ≡ set o2 b y → o4 ≡ set o3 c z → o4 ≡ sets out n (w ∷ x ∷ y ∷ z ∷ [])
   four_puts hb hc e2 e3 e4 =
-      puts.put-more out o3 o4 n c (w ∷ x ∷ y ∷ []) z (puts.put-more out o2 o3 n b (w ∷ x ∷ []) y (two_puts hb e2) (omega arith) e3) (omega arith) e4
+      puts.put_more out o3 o4 n c (w ∷ x ∷ y ∷ []) z (puts.put_more out o2 o3 n b (w ∷ x ∷ []) y (two_puts hb e2) (omega arith) e3) (omega arith) e4
 
 -- a width is 4 where it is neither 1 nor 2
 pub four_wide : (w : ℕ) → width w ≡ true → (w ≡ 1 → ⊥) → (w ≡ 2 → ⊥) → w ≡ 4

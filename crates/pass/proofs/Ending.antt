@@ -144,7 +144,7 @@ front_of wrote waits more whole n e =
 
 front_none : (wrote waits more whole : List ℕ) → whole ≡ first_line ++ (wrote ++ (waits ++ more)) → Front (first_line ++ wrote) whole
 front_none wrote waits more whole e =
-    places.front-none (first_line ++ wrote) waits more whole (e ∙ sym (append_assoc first_line wrote (waits ++ more)))
+    places.front_none (first_line ++ wrote) waits more whole (e ∙ sym (append_assoc first_line wrote (waits ++ more)))
 
 not_done : (p : Pass) → (flushed_of false p).stage ≡ stage.Done → ⊥
 unfolding flushed_of

@@ -129,7 +129,7 @@ module _ (text : List ℕ) (at n : ℕ) (out₀ : List ℕ) (p m stars : ℕ) (o
   pub was_character : (r x : Character) → r ≡ character_at text p (m - n) stars → r ≡ x → tokens.CharacterRead text p s.content x
   was_character r x e z =
       let k : m - n ≡ length s.content = omega (arith, s.count) in
-      rw (← z, e, k, s.starred) (tokens.character-read text p s.content)
+      rw (← z, e, k, s.starred) (tokens.character_read text p s.content)
 
   pub string_ends : get_or text p 0 ≡ 34 → StringIs text at out₀ n (p + 1) m out
   string_ends h =
@@ -137,11 +137,11 @@ module _ (text : List ℕ) (at n : ℕ) (out₀ : List ℕ) (p m stars : ℕ) (o
         content = s.content;
         short = s.short;
         few = omega (arith, s.few);
-        within = omega (arith, places.byte-in text p 34 h (omega arith));
+        within = omega (arith, places.byte_in text p 34 h (omega arith));
         count = s.count;
         bytes = s.bytes;
-        runs = λ id c l ls. s.runs id c l ls ∙ places.part-whole text p (string id c s.content) (text_relation id c s.content) 34 h (omega arith)
-            (steps.string-end id c s.content) l ls;
+        runs = λ id c l ls. s.runs id c l ls ∙ places.part_whole text p (string id c s.content) (text_relation id c s.content) 34 h (omega arith)
+            (steps.string_end id c s.content) l ls;
       }
 
   pub string_wrong : (q : ℕ) (why : Reason) (now : List ℕ) → tokens.CharacterRead text p s.content (character.Wrong q why) → StringRead text at out₀ n
@@ -159,8 +159,8 @@ module _ (text : List ℕ) (at n : ℕ) (out₀ : List ℕ) (p m stars : ℕ) (o
         few = omega (arith, len, s.few, h.forward);
         within = h.within;
         count = omega (arith, len, s.count);
-        bytes = output.put-more out₀ out now n m s.content b s.bytes s.count hn;
-        starred = ht ∙ rw s.starred (sym (steps.stars-append s.content (b ∷ [])));
+        bytes = output.put_more out₀ out now n m s.content b s.bytes s.count hn;
+        starred = ht ∙ rw s.starred (sym (steps.stars_append s.content (b ∷ [])));
         runs = λ id c l ls. s.runs id c l ls ∙ h.runs id c l ls;
       }
 
@@ -175,7 +175,7 @@ length_last : (code id size : ℕ) (content out mid late now : List ℕ) (n m : 
 length_last code id size content out mid late now n m hm e1 e2 e3 hs =
     let front : List ℕ = code ∷ two id in
     let m3 : mid ≡ set (sets out n front) (n + 3) 0 = e1 ∙ sym (joined out n front (0 ∷ [])) in
-    let moved : set late (n + 3) size ≡ sets (set mid (n + 3) size) m content = rw e2 (output.put-before mid (n + 3) m size content (omega arith)) in
+    let moved : set late (n + 3) size ≡ sets (set mid (n + 3) size) m content = rw e2 (output.put_before mid (n + 3) m size content (omega arith)) in
     let again : set mid (n + 3) size ≡ sets out n (code ∷ (two id ++ (size ∷ []))) = rw m3 (set-set (sets out n front) (n + 3) 0 size) ∙ joined out n front
     (size ∷ []) in
     e3 ∙ moved ∙ head_bytes code id size content out (set mid (n + 3) size) (sets (set mid (n + 3) size) m content) n m hs hm again refl
@@ -212,22 +212,22 @@ module _ (text : List ℕ) (at id : ℕ) (c : Comparison) (out : List ℕ) (n : 
         within = k.within;
         count = k.count;
         bytes = k.bytes;
-        runs = λ l ls. places.part-goes text at (constant id c) (string id c []) 34 (sym hb ∙ h) (omega arith) (steps.wants-string id c i) l ls ∙ k.runs l ls;
+        runs = λ l ls. places.part_goes text at (constant id c) (string id c []) 34 (sym hb ∙ h) (omega arith) (steps.wants_string id c i) l ls ∙ k.runs l ls;
       }
   string_from h i (Wrong p why) now k = λ l ls.
-      places.part-goes text at (constant id c) (string id c []) 34 (sym hb ∙ h) (omega arith) (steps.wants-string id c i) l ls ∙ k l ls
+      places.part_goes text at (constant id c) (string id c []) 34 (sym hb ∙ h) (omega arith) (steps.wants_string id c i) l ls ∙ k l ls
 
   pub string_in : b ≡ 34 → at + 1 ≤ length text
-  string_in h = omega (arith, places.byte-in text at 34 (sym hb ∙ h) (omega arith))
+  string_in h = omega (arith, places.byte_in text at 34 (sym hb ∙ h) (omega arith))
 
   pub no_order : b ≡ 34 → is_equality c ≡ false → (now : List ℕ) → ConstantRead text at id c out n (Wrong at reason.Order) now
-  no_order h i now = places.part-wrong text at (constant id c) reason.Order (rw (← hb, h) (order_part i))
+  no_order h i now = places.part_wrong text at (constant id c) reason.Order (rw (← hb, h) (order_part i))
     where
       order_part : is_equality c ≡ false → part_of (constant id c) 34 ≡ stop reason.Order
       order_part i = unfold part_of wanted is_blank digit in rw i
 
   pub no_constant : digit b ≡ false → (b ≡ 34 → ⊥) → (now : List ℕ) → ConstantRead text at id c out n (Wrong at reason.Constant) now
-  no_constant h i now = places.part-wrong text at (constant id c) reason.Constant
+  no_constant h i now = places.part_wrong text at (constant id c) reason.Constant
       (rw (← hb) (unfold part_of wanted in rw (rw (← hb) at blank, h, ne_eqb b 34 i)))
 
 -- ---- relations
@@ -242,14 +242,14 @@ was_sign text at r x b e z = rw (← z, e) (tokens.sign_read text at b)
 
 module _ (text : List ℕ) (at : ℕ) (out : List ℕ) (n id e : ℕ) (i : ItemIs text at id e) (q : ℕ) (s : Skipped text e q) where
   to_sign : (l : Level) (ls : List Level) → Goes text (want l ls) at (inside (item id) l ls) q
-  to_sign l ls = i.runs l ls ∙ s.runs (inside (item id) l ls) (steps.item-still id l ls)
+  to_sign l ls = i.runs l ls ∙ s.runs (inside (item id) l ls) (steps.item_still id l ls)
 
   pub no_sign : (p : ℕ) (now : List ℕ) → tokens.SignRead text q (sign.Wrong p) → RelationRead text at out n (Wrong p reason.Operator) now
   no_sign p now h l ls = to_sign l ls ∙ h id l ls
 
   module _ (c : Comparison) (k : ℕ) (g : tokens.SignRead text q (sign.Is c k)) (d : ℕ) (t : Skipped text k d) where
     to_constant : (l : Level) (ls : List Level) → Goes text (want l ls) at (inside (constant id c) l ls) d
-    to_constant l ls = to_sign l ls ∙ g.runs id l ls ∙ t.runs (inside (constant id c) l ls) (steps.constant-still id c l ls)
+    to_constant l ls = to_sign l ls ∙ g.runs id l ls ∙ t.runs (inside (constant id c) l ls) (steps.constant_still id c l ls)
 
     pub far : at + 6 ≤ d
     far = omega (arith, i.forward, s.forward, g.forward, t.forward)

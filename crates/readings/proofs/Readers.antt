@@ -34,22 +34,22 @@ sets_joined l i a b = sym (joined l i a b)
 
 module _ (text : List ℕ) (at left q : ℕ) (s : Skipped text at q) (b : ℕ) (hb : b ≡ get_or text q 0) where
   to_factor : (l : Level) (ls : List Level) → Goes text (want l ls) at (want l ls) q
-  to_factor l ls = s.runs (want l ls) (steps.want-still l ls)
+  to_factor l ls = s.runs (want l ls) (steps.want_still l ls)
 
   pub start_deep : b ≡ 40 → left ≡ 0 → StartRead text at left (start.Deep q)
   start_deep h z l ls e =
       to_factor l ls
-      ∙ laws.halts text q (want l ls) reason.Deeper (laws.byte-in text q 40 (sym hb ∙ h) (omega arith)) (rw (← hb, h) (steps.want-deep l ls (omega arith)))
+      ∙ laws.halts text q (want l ls) reason.Deeper (laws.byte_in text q 40 (sym hb ∙ h) (omega arith)) (rw (← hb, h) (steps.want_deep l ls (omega arith)))
 
   pub start_open : b ≡ 40 → (left ≡ 0 → ⊥) → Opens text at left (q + 1)
   start_open h z =
-      let i : q < length text = laws.byte-in text q 40 (sym hb ∙ h) (omega arith) in
+      let i : q < length text = laws.byte_in text q 40 (sym hb ∙ h) (omega arith) in
       let y : 0 < left = omega arith in
       record {
         room = y;
         forward = omega (arith, s.forward);
         within = omega arith;
-        runs = λ l ls e. to_factor l ls ∙ laws.goes text q 40 (want l ls) (want fresh (l ∷ ls)) (sym hb ∙ h) (omega arith) (steps.want-open l ls (omega arith));
+        runs = λ l ls e. to_factor l ls ∙ laws.goes text q 40 (want l ls) (want fresh (l ∷ ls)) (sym hb ∙ h) (omega arith) (steps.want_open l ls (omega arith));
       }
 
   pub start_relation : (b ≡ 40 → ⊥) → Relates text at q
@@ -130,18 +130,18 @@ module _ (text : List ℕ) (at left : ℕ) (out : List ℕ) (n : ℕ) where
           record {
             means = or_after s.sum s.product;
             few = omega (arith, s.few, o.forward);
-            within = omega (arith, laws.byte-in text q 41 h (omega arith));
+            within = omega (arith, laws.byte_in text q 41 h (omega arith));
             count = s.count;
             bytes = s.bytes;
             runs = λ l ls z. to_close l ls z ∙ laws.goes text q 41 (have s.product s.sum (l ∷ ls))
-                (have (and_after l.product (or_after s.sum s.product)) l.sum ls) h (omega arith) (steps.have-close s.product s.sum ls l);
+                (have (and_after l.product (or_after s.sum s.product)) l.sum ls) h (omega arith) (steps.have_close s.product s.sum ls l);
           }
 
       pub factor_open : (get_or text q 0 ≡ 41 → ⊥) → FactorRead text at left out n (Wrong q (cond (ltb q (length text)) reason.Connective reason.Bracket)) now
       factor_open h l ls z =
           to_close l ls z
-          ∙ laws.wrong-either text q (have s.product s.sum (l ∷ ls)) reason.Connective reason.Bracket
-          (steps.have-other s.product s.sum (l ∷ ls) (get_or text q 0) s.no_blank s.no_and s.no_or h) (unfold ending ended in refl)
+          ∙ laws.wrong_either text q (have s.product s.sum (l ∷ ls)) reason.Connective reason.Bracket
+          (steps.have_other s.product s.sum (l ∷ ls) (get_or text q 0) s.no_blank s.no_and s.no_or h) (unfold ending ended in refl)
 
       pub factor_close : (r : Reading) → r ≡ closed_at text q m → FactorRead text at left out n r now
       unfolding closed_at
@@ -189,7 +189,7 @@ grown_none text left p m out h i =
 
 module _ (text : List ℕ) (left p₀ m₀ : ℕ) (out₀ : List ℕ) (p m : ℕ) (out : List ℕ) (g : Grown text left p₀ m₀ out₀ p m out) (q : ℕ) (s : Skipped text p q) where
   to_joiner : (t : Formula) (o : Option Formula) (ls : List Level) → length ls + left ≡ 16 → from (have t o ls) p₀ text ≡ from (have (g.grow t) o ls) q text
-  to_joiner t o ls h = g.runs t o ls h ∙ s.runs (have (g.grow t) o ls) (steps.have-still (g.grow t) o ls)
+  to_joiner t o ls h = g.runs t o ls h ∙ s.runs (have (g.grow t) o ls) (steps.have_still (g.grow t) o ls)
 
   pub product_ends : (at : ℕ) (out-in : List ℕ) (n : ℕ) → FactorIs text at left out-in n p₀ m₀ out₀ → (get_or text q 0 ≡ 38 → ⊥)
       → ProductIs text at left out-in n q m out
@@ -209,18 +209,18 @@ module _ (text : List ℕ) (left p₀ m₀ : ℕ) (out₀ : List ℕ) (p m : ℕ
     to_amp : (t : Formula) (o : Option Formula) (ls : List Level) → length ls + left ≡ 16 → from (have t o ls) p₀ text ≡ from (ampersand (g.grow t) o ls)
         (q + 1) text
     to_amp t o ls h = to_joiner t o ls h ∙ laws.goes text q 38 (have (g.grow t) o ls) (ampersand (g.grow t) o ls) a (omega arith)
-        (steps.have-ampersand (g.grow t) o ls)
+        (steps.have_ampersand (g.grow t) o ls)
 
     pub product_half : (at : ℕ) (out-in : List ℕ) (n : ℕ) (now : List ℕ) → FactorIs text at left out-in n p₀ m₀ out₀ → (get_or text (q + 1) 0 ≡ 38 → ⊥)
         → ProductRead text at left out-in n (Wrong (q + 1) reason.Connective) now
     product_half at out-in n now f h o ls z =
         f.runs (level o none) ls z ∙ to_amp f.means o ls z
         ∙ laws.wrong text (q + 1) (ampersand (g.grow f.means) o ls) reason.Connective
-        (steps.ampersand-other (g.grow f.means) o ls (get_or text (q + 1) 0) h) (unfold ending in refl)
+        (steps.ampersand_other (g.grow f.means) o ls (get_or text (q + 1) 0) h) (unfold ending in refl)
 
     module _ (b : get_or text (q + 1) 0 ≡ 38) where
       pub and_in : q + 2 ≤ length text
-      and_in = omega (arith, laws.byte-in text (q + 1) 38 b (omega arith))
+      and_in = omega (arith, laws.byte_in text (q + 1) 38 b (omega arith))
 
       to_want : (t : Formula) (o : Option Formula) (ls : List Level) → length ls + left ≡ 16 → from (have t o ls) p₀ text ≡ from
           (want (level o (some (g.grow t))) ls) (q + 2) text
@@ -228,7 +228,7 @@ module _ (text : List ℕ) (left p₀ m₀ : ℕ) (out₀ : List ℕ) (p m : ℕ
           let z : q + 1 + 1 ≡ q + 2 = omega arith in
           to_amp t o ls h
           ∙ (rw z at (laws.goes text (q + 1) 38 (ampersand (g.grow t) o ls) (want (level o (some (g.grow t))) ls) b (omega arith)
-          (steps.second-ampersand (g.grow t) o ls)))
+          (steps.second_ampersand (g.grow t) o ls)))
 
       pub product_wrong : (at : ℕ) (out-in : List ℕ) (n : ℕ) (now : List ℕ) (x : ℕ) (why : Reason) → FactorIs text at left out-in n p₀ m₀ out₀ → FactorRead text
           (q + 2) left out m (Wrong x why) now → ProductRead text at left out-in n (Wrong x why) now
@@ -314,18 +314,18 @@ module _ (text : List ℕ) (left p₀ m₀ : ℕ) (out₀ : List ℕ) (p m : ℕ
   module _ (a : get_or text p 0 ≡ 124) where
     to_bar : (t : Formula) (ls : List Level) → length ls + left ≡ 16 → from (have t none ls) p₀ text ≡ from (bar (g.last t) (g.front t) ls) (p + 1) text
     to_bar t ls h = g.runs t ls h ∙ laws.goes text p 124 (have (g.last t) (g.front t) ls) (bar (g.last t) (g.front t) ls) a (omega arith)
-        (steps.have-bar (g.last t) (g.front t) ls)
+        (steps.have_bar (g.last t) (g.front t) ls)
 
     pub sum_half : (at : ℕ) (out-in : List ℕ) (n : ℕ) (now : List ℕ) → ProductIs text at left out-in n p₀ m₀ out₀ → (get_or text (p + 1) 0 ≡ 124 → ⊥)
         → SumRead text at left out-in n (Wrong (p + 1) reason.Connective) now
     sum_half at out-in n now f h ls z =
         f.runs none ls z ∙ to_bar f.means ls z
         ∙ laws.wrong text (p + 1) (bar (g.last f.means) (g.front f.means) ls) reason.Connective
-        (steps.bar-other (g.last f.means) (g.front f.means) ls (get_or text (p + 1) 0) h) (unfold ending in refl)
+        (steps.bar_other (g.last f.means) (g.front f.means) ls (get_or text (p + 1) 0) h) (unfold ending in refl)
 
     module _ (b : get_or text (p + 1) 0 ≡ 124) where
       pub or_in : p + 2 ≤ length text
-      or_in = omega (arith, laws.byte-in text (p + 1) 124 b (omega arith))
+      or_in = omega (arith, laws.byte_in text (p + 1) 124 b (omega arith))
 
       sum_want : (t : Formula) (ls : List Level) → length ls + left ≡ 16 → from (have t none ls) p₀ text ≡ from
           (want (level (some (or_after (g.front t) (g.last t))) none) ls) (p + 2) text
@@ -333,7 +333,7 @@ module _ (text : List ℕ) (left p₀ m₀ : ℕ) (out₀ : List ℕ) (p m : ℕ
           let z : p + 1 + 1 ≡ p + 2 = omega arith in
           to_bar t ls h
           ∙ (rw z at (laws.goes text (p + 1) 124 (bar (g.last t) (g.front t) ls) (want (level (some (or_after (g.front t) (g.last t))) none) ls) b
-          (omega arith) (steps.second-bar (g.last t) (g.front t) ls)))
+          (omega arith) (steps.second_bar (g.last t) (g.front t) ls)))
 
       pub sum_wrong : (at : ℕ) (out-in : List ℕ) (n : ℕ) (now : List ℕ) (x : ℕ) (why : Reason) → ProductIs text at left out-in n p₀ m₀ out₀ → ProductRead text
           (p + 2) left out m (Wrong x why) now → SumRead text at left out-in n (Wrong x why) now

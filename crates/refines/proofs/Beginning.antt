@@ -59,14 +59,14 @@ module _ (c : Here) (size : ℕ) where
   N = sv.last.number
 
   abbrev b : filesUp.Begins
-  b = filesUp.beginOf (map_part sv l) (owner_part sv l) (table_part sv l) N size
+  b = filesUp.begin_of (map_part sv l) (owner_part sv l) (table_part sv l) N size
 
   abbrev m : Mem
   m = mem l.disk b.map b.owner b.table (sel c)
 
   abbrev given : Turn
   given =
-      turn (reply.Go (N + 1) 0) (in_session c.i (model.withUp (model.receiving (N + 1)))
+      turn (reply.Go (N + 1) 0) (in_session c.i (model.with_up (model.receiving (N + 1)))
       (model.model (M c) (N + 1) sv.last.time ((M c).files ++ file (N + 1) size [] 0 ∷ []) (M c).sessions))
 
   -- a new file stands where none was
@@ -74,16 +74,16 @@ module _ (c : Here) (size : ℕ) where
       → turn_view sv l c.i c.part (turned (turn_of (with_up (s0 c) (up.Receiving place 0 0)) (last_of (N + 1) sv.last.time) (reply.Go (N + 1) 0)) m) ≡ given
   started place e =
       moved c m (with_up (s0 c) (up.Receiving place 0 0)) (last_of (N + 1) sv.last.time) (reply.Go (N + 1) 0)
-      ((M c).files ++ file (N + 1) size [] 0 ∷ []) (model.withUp (model.receiving (N + 1)) (k0 c)) c.linked
-      (stores.files-added (parts sv l c.i) m (facts sv l c.well-formed).store.files.numbers x.sound.files.numbers place (x.others l.disk) N x.free
+      ((M c).files ++ file (N + 1) size [] 0 ∷ []) (model.with_up (model.receiving (N + 1)) (k0 c)) c.linked
+      (stores.files_added (parts sv l c.i) m (facts sv l c.well-formed).store.files.numbers x.sound.files.numbers place (x.others l.disk) N x.free
       number
       ∙ ap (λ (f : File). (M c).files ++ f ∷ [])
       (ap₂ (λ (f : table.File) (bs : List ℕ). file f.number f.size bs f.time) x.file (x.bytes l.disk)))
       (link_up c m (up.Receiving place 0 0) refl
       (down_kept c m place x.sound.files.numbers (x.others l.disk) (λ (k : CompleteAt (fs c) place). k.number x.free))
-      ∙ ap (λ (k : ℕ). model.withUp (model.receiving k) (k0 c)) number)
+      ∙ ap (λ (k : ℕ). model.with_up (model.receiving k) (k0 c)) number)
       ∙ ap (turn (reply.Go (N + 1) 0))
-      (sym (set_mk sv l c.well-formed c.i c.inside (model.withUp (model.receiving (N + 1))) (N + 1) sv.last.time ((M c).files ++ file (N + 1) size [] 0 ∷ []) (k0 c)))
+      (sym (set_mk sv l c.well-formed c.i c.inside (model.with_up (model.receiving (N + 1))) (N + 1) sv.last.time ((M c).files ++ file (N + 1) size [] 0 ∷ []) (k0 c)))
     where
       x : BeginLeaves (map_part sv l) (owner_part sv l) (table_part sv l) N sv.last.time size place b
       x = begin_leaves (map_part sv l) (owner_part sv l) (table_part sv l) N sv.last.time (facts sv l c.well-formed).store size place e
@@ -96,8 +96,8 @@ module _ (c : Here) (size : ℕ) where
   outcome (Refused n) = turn (reply.UploadError n) (M c)
   outcome (Started place) = given
 
-  begun : (a : Begun) → b.answer ≡ a → turn_view sv l c.i c.part (turned (upload.begunTurn a (s0 c) sv.last (N + 1)) m) ≡ outcome a
-  unfolding upload.begunTurn
+  begun : (a : Begun) → b.answer ≡ a → turn_view sv l c.i c.part (turned (upload.begun_turn a (s0 c) sv.last (N + 1)) m) ≡ outcome a
+  unfolding upload.begun_turn
   begun (Refused n) e =
       ap (λ (x : filesUp.Begins).
       turn_view sv l c.i c.part (turned (turn_of (s0 c) sv.last (reply.UploadError n)) (mem l.disk x.map x.owner x.table (sel c))))
@@ -106,18 +106,18 @@ module _ (c : Here) (size : ℕ) where
   begun (Started place) e = started place e
 
   module _ (left : eqb N most_given ≡ false) where
-    begin_in_law : b ≡ filesUp.beginIn (free_of (fs c)) (N + 1) size (map_part sv l) (owner_part sv l) (table_part sv l)
-    unfolding filesUp.beginWith
+    begin_in_law : b ≡ filesUp.begin_in (free_of (fs c)) (N + 1) size (map_part sv l) (owner_part sv l) (table_part sv l)
+    unfolding filesUp.begin_with
     begin_in_law = rw left
 
-    in_full : (filesUp.beginIn Nothing (N + 1) size (map_part sv l) (owner_part sv l) (table_part sv l)).answer ≡ Refused 13
-    unfolding filesUp.beginIn
+    in_full : (filesUp.begin_in Nothing (N + 1) size (map_part sv l) (owner_part sv l) (table_part sv l)).answer ≡ Refused 13
+    unfolding filesUp.begin_in
     in_full = refl
 
     in_place : (place : ℕ) → place < 256
-        → (filesUp.beginIn (At place) (N + 1) size (map_part sv l) (owner_part sv l) (table_part sv l)).answer
+        → (filesUp.begin_in (At place) (N + 1) size (map_part sv l) (owner_part sv l) (table_part sv l)).answer
         ≡ cond (leb (blocks_for size) (free_count (map_part sv l))) (Started place) (Refused 13)
-    unfolding filesUp.beginIn filesUp.beginAt
+    unfolding filesUp.begin_in filesUp.begin_at
     in_place place h =
         rw (store_is (map_part sv l) (owner_part sv l) (table_part sv l) N sv.last.time (facts sv l c.well-formed).store (facts sv l c.well-formed).disk.some
         (facts sv l c.well-formed).disk.most place h)
@@ -134,7 +134,7 @@ module _ (c : Here) (size : ℕ) where
     pick true place = refl
     pick false place = refl
 
-    room_does : turn_view sv l c.i c.part (turned (upload.begunTurn b.answer (s0 c) sv.last (N + 1)) m)
+    room_does : turn_view sv l c.i c.part (turned (upload.begun_turn b.answer (s0 c) sv.last (N + 1)) m)
         ≡ cond (ltb (length (M c).files) sv.files) (cond (leb (blocks_for size) (free (M c))) given (turn (reply.UploadError 13) (M c)))
         (turn (reply.UploadError 13) (M c))
     room_does = begun b.answer refl ∙ go (free_of (fs c)) refl
@@ -146,13 +146,13 @@ module _ (c : Here) (size : ℕ) where
         go Nothing e =
             ap outcome
             (ap (λ (x : filesUp.Begins). x.answer)
-            (begin_in_law ∙ ap (λ (r : Found). filesUp.beginIn r (N + 1) size (map_part sv l) (owner_part sv l) (table_part sv l)) e) ∙ in_full)
+            (begin_in_law ∙ ap (λ (r : Found). filesUp.begin_in r (N + 1) size (map_part sv l) (owner_part sv l) (table_part sv l)) e) ∙ in_full)
             ∙ ap (λ (t : Bool). cond t (cond (leb (blocks_for size) (free (M c))) given (turn (reply.UploadError 13) (M c))) (turn (reply.UploadError 13) (M c)))
             (sym (places_full sv l c.well-formed e))
         go (At place) e =
             ap outcome
             (ap (λ (x : filesUp.Begins). x.answer)
-            (begin_in_law ∙ ap (λ (r : Found). filesUp.beginIn r (N + 1) size (map_part sv l) (owner_part sv l) (table_part sv l)) e)
+            (begin_in_law ∙ ap (λ (r : Found). filesUp.begin_in r (N + 1) size (map_part sv l) (owner_part sv l) (table_part sv l)) e)
             ∙ in_place place
             (omega (
               arith,
@@ -164,12 +164,12 @@ module _ (c : Here) (size : ℕ) where
             (sym (places_left sv l c.well-formed place e)) (sym (free_is sv l c.well-formed))
 
   begins : does c (act.Begin size) ≡ upload_new (M c) c.i size
-  unfolding carry_out on_frees upload.beginWith upload.begunAs upload_new
+  unfolding carry_out on_frees upload.begin_with upload.begun_as upload_new
   begins = go (eqb N most_given) refl
     where
       go : (t : Bool) → eqb N most_given ≡ t
           → turn_view sv l c.i c.part
-          (on_frees (parts sv l c.i) (upload.beginWith (cond t UsedUp (Next (N + 1))) (s0 c) sv.last size (map_part sv l) (owner_part sv l) (table_part sv l)))
+          (on_frees (parts sv l c.i) (upload.begin_with (cond t UsedUp (Next (N + 1))) (s0 c) sv.last size (map_part sv l) (owner_part sv l) (table_part sv l)))
           ≡ cond t (turn (reply.UploadError 3) (M c))
           (cond (ltb (length (M c).files) sv.files) (cond (leb (blocks_for size) (free (M c))) given (turn (reply.UploadError 13) (M c)))
           (turn (reply.UploadError 13) (M c)))
@@ -177,13 +177,13 @@ module _ (c : Here) (size : ℕ) where
       go false e = room_does e
 
 module _ (c : Here) where
-  pub upload_does : does c (decide.onUpload c.sv.links (length c.info) (padded c.info) (fs c)) ≡ on_upload_cmd (M c) c.i c.info
-  unfolding decide.onUpload on_upload_cmd
+  pub upload_does : does c (decide.on_upload c.sv.links (length c.info) (padded c.info) (fs c)) ≡ on_upload_cmd (M c) c.i c.info
+  unfolding decide.on_upload on_upload_cmd
   upload_does =
       on c (eqb (length c.info) 8) _ _ _ _
       (λ q.
       let n = eqb-true (length c.info) 8 q in
-      rw (bytes.word-padded c.info 0 (omega arith), bytes.word-padded c.info 4 (omega arith)) (words (word_at c.info 0) (word_at c.info 4)))
+      rw (bytes.word_padded c.info 0 (omega arith), bytes.word_padded c.info 4 (omega arith)) (words (word_at c.info 0) (word_at c.info 4)))
       (λ _. tells c (reply.UploadError 1))
     where
       words : (n size : ℕ)

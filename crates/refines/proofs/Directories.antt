@@ -79,11 +79,11 @@ module _ (c : Here) (long : Bool) where
   -- ---- of one file
 
   one_does : (place n : ℕ) → (F c place).file.number ≡ n
-      → does c (act.List (listed.One place) long s.next) ≡ turn reply.Nothing (in_session c.i (model.withDown (model.listing long (n ∷ []) 0)) (M c))
-  unfolding carry_out download.listTurn running_on
+      → does c (act.List (listed.One place) long s.next) ≡ turn reply.Nothing (in_session c.i (model.with_down (model.listing long (n ∷ []) 0)) (M c))
+  unfolding carry_out download.list_turn running_on
   one_does place n e =
-      moves c (with_down (with_next (s0 c) s.next) (down.Listing (listed.One place) long 0 0)) (model.withDown (model.listing long (n ∷ []) 0)) c.linked
-      (ap (λ (k : ℕ). model.withDown (model.listing long (k ∷ []) 0) (k0 c)) e) reply.Nothing
+      moves c (with_down (with_next (s0 c) s.next) (down.Listing (listed.One place) long 0 0)) (model.with_down (model.listing long (n ∷ []) 0)) c.linked
+      (ap (λ (k : ℕ). model.with_down (model.listing long (k ∷ []) 0) (k0 c)) e) reply.Nothing
 
   found_does : (found : Found) (n : ℕ) → find_of (fs c) n ≡ found
       → does c (list_found found long s.next (fs c)) ≡ directory_of_one (file_in (F c) found) (M c) c.i long n
@@ -106,12 +106,12 @@ module _ (c : Here) (long : Bool) where
   ten_does : s.next < s.count
       → does c (act.List (listed.Selected s.next) long (ten_from s.next s.count))
       ≡ turn reply.Nothing
-      (in_session c.i (λ x. model.withDown (model.listing long (next_ten (k0 c)) 0) (model.with_next (s.next + length (next_ten (k0 c))) x)) (M c))
-  unfolding carry_out download.listTurn running_on
+      (in_session c.i (λ x. model.with_down (model.listing long (next_ten (k0 c)) 0) (model.with_next (s.next + length (next_ten (k0 c))) x)) (M c))
+  unfolding carry_out download.list_turn running_on
   ten_does h =
       moves c (with_down (with_next (s0 c) (ten_from s.next s.count)) (down.Listing (listed.Selected s.next) long 0 0))
-      (λ x. model.withDown (model.listing long (next_ten (k0 c)) 0) (model.with_next (s.next + length (next_ten (k0 c))) x)) c.linked
-      (ap₂ (λ (ns : List ℕ) (k : ℕ). model.withDown (model.listing long ns 0) (model.with_next k (k0 c))) (ten_is h) (passed_is h)) reply.Nothing
+      (λ x. model.with_down (model.listing long (next_ten (k0 c)) 0) (model.with_next (s.next + length (next_ten (k0 c))) x)) c.linked
+      (ap₂ (λ (ns : List ℕ) (k : ℕ). model.with_down (model.listing long ns 0) (model.with_next k (k0 c))) (ten_is h) (passed_is h)) reply.Nothing
 
   -- ---- the command
 
@@ -124,7 +124,7 @@ module _ (c : Here) (long : Bool) where
       does c (cond (ltb s.next s.count) (act.List (listed.Selected s.next) long (ten_from s.next s.count)) (act.Tell (reply.DownloadError 5)))
       ≡ cond (ltb s.next k)
       (turn reply.Nothing
-      (in_session c.i (λ x. model.withDown (model.listing long (next_ten (k0 c)) 0) (model.with_next (s.next + length (next_ten (k0 c))) x)) (M c)))
+      (in_session c.i (λ x. model.with_down (model.listing long (next_ten (k0 c)) 0) (model.with_next (s.next + length (next_ten (k0 c))) x)) (M c)))
       (turn (reply.DownloadError 5) (M c)))
       (sym (count_is c))
       (on c (ltb s.next s.count) _ _ _ _ (λ q. ten_does (ltb-true s.next s.count q)) (λ _. tells c (reply.DownloadError 5))))
@@ -138,5 +138,5 @@ module _ (c : Here) (long : Bool) where
       on c (eqb (length c.info) 4) _ _ _ _
       (λ q.
       let n = eqb-true (length c.info) 4 q in
-      rw (bytes.word-padded c.info 0 (omega arith)) (numbered_does (word_at c.info 0)))
+      rw (bytes.word_padded c.info 0 (omega arith)) (numbered_does (word_at c.info 0)))
       (λ _. tells c (reply.DownloadError 1))

@@ -57,14 +57,14 @@ module _ (c : Here) where
 
   -- ---- DL_NAK_CMD
 
-  pub nak_does : (d : Downlink) → does c (decide.onNak d) ≡ on_dl_nak_cmd (down_of (F c) (N c) (sel c) s.next d) (M c) c.i
-  unfolding carry_out decide.onNak on_dl_nak_cmd
+  pub nak_does : (d : Downlink) → does c (decide.on_nak d) ≡ on_dl_nak_cmd (down_of (F c) (N c) (sel c) s.next d) (M c) c.i
+  unfolding carry_out decide.on_nak on_dl_nak_cmd
   nak_does down.Idle = ignores c
   nak_does (down.Sending place offset sent) =
-      moves c (with_down (s0 c) (down.Aborting place)) (model.withDown (down_of (F c) (N c) (sel c) s.next (down.Aborting place))) c.linked refl reply.DataEnd
-  nak_does (down.Ended place) = moves c (with_down (s0 c) down.Idle) (model.withDown model.no_download) c.linked refl reply.Aborted
+      moves c (with_down (s0 c) (down.Aborting place)) (model.with_down (down_of (F c) (N c) (sel c) s.next (down.Aborting place))) c.linked refl reply.DataEnd
+  nak_does (down.Ended place) = moves c (with_down (s0 c) down.Idle) (model.with_down model.no_download) c.linked refl reply.Aborted
   nak_does (down.Aborting place) = closes_all c
-  nak_does (down.Listing l long done sent) = moves c (with_down (s0 c) down.Idle) (model.withDown model.no_download) c.linked refl reply.DataEnd
+  nak_does (down.Listing l long done sent) = moves c (with_down (s0 c) down.Idle) (model.with_down model.no_download) c.linked refl reply.DataEnd
 
   -- ---- DL_ACK_CMD
 
@@ -72,13 +72,13 @@ module _ (c : Here) where
       → ltb (destinations_at l.disk (owner_part sv l) (table_part sv l) place) n ≡ fewer_destinations (find (F c place).file.number (M c).files) n
   unfolding fewer_destinations
   fewer_read place n file =
-      ap (λ (k : ℕ). ltb k n) (bytes.destinations-read sv l (facts sv l c.good) place file)
+      ap (λ (k : ℕ). ltb k n) (bytes.destinations_read sv l (facts sv l c.good) place file)
       ∙ ap (λ (f : Option File). fewer_destinations f n) (sym (found_at sv l c.good place file))
 
   confirm_does : (place n : ℕ) → ((F c place).file.number ≡ 0 → ⊥)
       → does c (act.Confirm place n)
-      ≡ turn (cond (fewer_destinations (find (F c place).file.number (M c).files) n) reply.Aborted reply.Completed) (in_session c.i (model.withDown model.no_download) (M c))
-  unfolding carry_out download.confirmTurn
+      ≡ turn (cond (fewer_destinations (find (F c place).file.number (M c).files) n) reply.Aborted reply.Completed) (in_session c.i (model.with_down model.no_download) (M c))
+  unfolding carry_out download.confirm_turn
   confirm_does place n file =
       ap (λ (b : Bool). turn_view sv l c.i c.part (turned (cond b (ended reply.Aborted) (ended reply.Completed)) (parts sv l c.i))) (fewer_read place n file)
       ∙ go (fewer_destinations (find (F c place).file.number (M c).files) n)
@@ -87,12 +87,12 @@ module _ (c : Here) where
       ended r = turn_of (with_down (s0 c) down.Idle) sv.last r
 
       go : (b : Bool) → turn_view sv l c.i c.part (turned (cond b (ended reply.Aborted) (ended reply.Completed)) (parts sv l c.i))
-          ≡ turn (cond b reply.Aborted reply.Completed) (in_session c.i (model.withDown model.no_download) (M c))
-      go true = moves c (with_down (s0 c) down.Idle) (model.withDown model.no_download) c.linked refl reply.Aborted
-      go false = moves c (with_down (s0 c) down.Idle) (model.withDown model.no_download) c.linked refl reply.Completed
+          ≡ turn (cond b reply.Aborted reply.Completed) (in_session c.i (model.with_down model.no_download) (M c))
+      go true = moves c (with_down (s0 c) down.Idle) (model.with_down model.no_download) c.linked refl reply.Aborted
+      go false = moves c (with_down (s0 c) down.Idle) (model.with_down model.no_download) c.linked refl reply.Completed
 
-  pub ack_does : (d : Downlink) → s.down ≡ d → does c (decide.onAck d (length c.info) (get_or (padded c.info) 0 0)) ≡ on_dl_ack_cmd (down_of (F c) (N c) (sel c) s.next d) (M c) c.i c.info
-  unfolding carry_out decide.onAck on_dl_ack_cmd
+  pub ack_does : (d : Downlink) → s.down ≡ d → does c (decide.on_ack d (length c.info) (get_or (padded c.info) 0 0)) ≡ on_dl_ack_cmd (down_of (F c) (N c) (sel c) s.next d) (M c) c.i c.info
+  unfolding carry_out decide.on_ack on_dl_ack_cmd
   ack_does down.Idle e = closes_all c
   ack_does (down.Sending place offset sent) e = closes_all c
   ack_does (down.Ended place) e = go (eqb (length c.info) 1) refl
@@ -100,12 +100,12 @@ module _ (c : Here) where
       go : (b : Bool) → eqb (length c.info) 1 ≡ b
           → does c (cond b (act.Confirm place (get_or (padded c.info) 0 0)) (act.End reply.Aborted))
           ≡ turn (cond b (cond (fewer_destinations (find (F c place).file.number (M c).files) (get_or c.info 0 0)) reply.Aborted reply.Completed) reply.Aborted)
-          (in_session c.i (model.withDown model.no_download) (M c))
+          (in_session c.i (model.with_down model.no_download) (M c))
       go true q =
           let n = eqb-true (length c.info) 1 q in
-          ap (λ (k : ℕ). does c (act.Confirm place k)) (bytes.byte-padded c.info 0 (omega arith))
+          ap (λ (k : ℕ). does c (act.Confirm place k)) (bytes.byte_padded c.info 0 (omega arith))
           ∙ confirm_does place (get_or c.info 0 0) (own.ended place e).number
-      go false q = moves c (with_down (s0 c) down.Idle) (model.withDown model.no_download) c.linked refl reply.Aborted
+      go false q = moves c (with_down (s0 c) down.Idle) (model.with_down model.no_download) c.linked refl reply.Aborted
   ack_does (down.Aborting place) e = closes_all c
   ack_does (down.Listing l long done sent) e = closes_all c
 
@@ -114,11 +114,11 @@ module _ (c : Here) where
   send_does : (place n offset lock passed : ℕ) → ((F c place).file.number ≡ 0 → ⊥) → (F c place).file.number ≡ n
       → does c (act.Send place offset lock passed)
       ≡ cond (ltb (destinations_in (F c place).bytes) lock) (turn (reply.DownloadError 10) (M c))
-      (turn reply.Nothing (in_session c.i (λ k. model.withDown (sending n offset) (model.with_next passed k)) (M c)))
-  unfolding carry_out download.beginTurn
+      (turn reply.Nothing (in_session c.i (λ k. model.with_down (sending n offset) (model.with_next passed k)) (M c)))
+  unfolding carry_out download.begin_turn
   send_does place n offset lock passed file e =
       ap (λ (k : ℕ). turn_view sv l c.i c.part (turned (cond (ltb k lock) refused begun) (parts sv l c.i)))
-      (bytes.destinations-read sv l (facts sv l c.good) place file)
+      (bytes.destinations_read sv l (facts sv l c.good) place file)
       ∙ go (ltb (destinations_in (F c place).bytes) lock)
     where
       refused : carry.Turn
@@ -131,11 +131,11 @@ module _ (c : Here) where
       from = ap₂ sending e (omega arith)
 
       go : (b : Bool) → turn_view sv l c.i c.part (turned (cond b refused begun) (parts sv l c.i))
-          ≡ cond b (turn (reply.DownloadError 10) (M c)) (turn reply.Nothing (in_session c.i (λ k. model.withDown (sending n offset) (model.with_next passed k)) (M c)))
+          ≡ cond b (turn (reply.DownloadError 10) (M c)) (turn reply.Nothing (in_session c.i (λ k. model.with_down (sending n offset) (model.with_next passed k)) (M c)))
       go true = stays c (reply.DownloadError 10)
       go false =
-          moves c (with_down (with_next (s0 c) passed) (down.Sending place offset 0)) (λ k. model.withDown (sending n offset) (model.with_next passed k)) c.linked
-          (ap (λ (d : model.Downlink). model.withDown d (model.with_next passed (k0 c))) from) reply.Nothing
+          moves c (with_down (with_next (s0 c) passed) (down.Sending place offset 0)) (λ k. model.with_down (sending n offset) (model.with_next passed k)) c.linked
+          (ap (λ (d : model.Downlink). model.with_down d (model.with_next passed (k0 c))) from) reply.Nothing
 
   found_does : (found : Found) (n offset lock passed : ℕ) → find_of (fs c) n ≡ found
       → does c (on_found found offset lock passed (fs c)) ≡ download_of (file_in (F c) found) (M c) c.i n offset lock passed
@@ -147,7 +147,7 @@ module _ (c : Here) where
       subst (λ (k : ℕ). does c (cond (ltb (file_at (fs c) place).size offset) (act.Tell (reply.DownloadError 2)) (act.Send place offset lock passed))
       ≡ cond (ltb k offset) (turn (reply.DownloadError 2) (M c))
       (cond (ltb (destinations_in (F c place).bytes) lock) (turn (reply.DownloadError 10) (M c))
-      (turn reply.Nothing (in_session c.i (λ k. model.withDown (sending n offset) (model.with_next passed k)) (M c)))))
+      (turn reply.Nothing (in_session c.i (λ k. model.with_down (sending n offset) (model.with_next passed k)) (M c)))))
       (sym (bytes.bytes_whole sv l (facts sv l c.good) place file (eqb-false (file_at (fs c) place).time 0 q)))
       (on c (ltb (file_at (fs c) place).size offset) _ _ _ _ (λ _. tells c (reply.DownloadError 2))
       (λ _. send_does place n offset lock passed file (find_number_law (fs c) n place e))))
@@ -190,12 +190,12 @@ module _ (c : Here) where
       (λ _. tells c (reply.DownloadError 5))))
       (λ _. file_does n offset lock s.next)
 
-  pub download_does : does c (decide.onDownload s.count s.next (length c.info) (padded c.info) (fs c) (sel c)) ≡ on_download_cmd (M c) c.i (k0 c) c.info
-  unfolding decide.onDownload on_download_cmd
+  pub download_does : does c (decide.on_download s.count s.next (length c.info) (padded c.info) (fs c) (sel c)) ≡ on_download_cmd (M c) c.i (k0 c) c.info
+  unfolding decide.on_download on_download_cmd
   download_does =
       on c (eqb (length c.info) 9) _ _ _ _
       (λ q.
       let n = eqb-true (length c.info) 9 q in
-      rw (bytes.word-padded c.info 0 (omega arith), bytes.word-padded c.info 4 (omega arith), bytes.byte-padded c.info 8 (omega arith))
+      rw (bytes.word_padded c.info 0 (omega arith), bytes.word_padded c.info 4 (omega arith), bytes.byte_padded c.info 8 (omega arith))
       (numbered_does (word_at c.info 0) (word_at c.info 4) (get_or c.info 8 0)))
       (λ _. tells c (reply.DownloadError 1))

@@ -91,8 +91,8 @@ module _ (c : Here) where
   abbrev pub M : Model
   M = mk sv l i sv.last.number sv.last.time (view sv l).files k0
 
-  pub M_is : in_session i (model.withHeld []) (view sv l) ≡ M
-  M_is = ap (λ (k : model.Session). model.withSession (view sv l) i (model.withHeld [] k)) (open_view sv l g i inside linked)
+  pub M_is : in_session i (model.with_held []) (view sv l) ≡ M
+  M_is = ap (λ (k : model.Session). model.with_session (view sv l) i (model.with_held [] k)) (open_view sv l g i inside linked)
 
   -- what an act says and leaves
   abbrev pub does : Act → Turn
@@ -122,5 +122,5 @@ module _ (c : Here) where
   ignores = stays reply.Nothing
 
   pub closes_all : does act.Close ≡ closing M i
-  unfolding carry_out on_chooses download.closeTurn
-  closes_all = ap (turn reply.Closing) (sym (with_mk sv l g i inside sv.last.number sv.last.time (view sv l).files k0 model.closedSession))
+  unfolding carry_out on_chooses download.close_turn
+  closes_all = ap (turn reply.Closing) (sym (with_mk sv l g i inside sv.last.number sv.last.time (view sv l).files k0 model.closed_session))

@@ -54,7 +54,7 @@ module _ (sv : Server) (l : Lent) (g : Good sv l) where
   logged_in out clock k = stepped (told (on_login k sv out clock).done.answer (on_login k sv out clock).out) (view (on_login k sv out clock).done.server l)
 
   login_goes : (session clock : ℕ) (out : List ℕ) → Through sv session false (length out)
-      → logged_in out clock (Go (session - 1)) ≡ stepped (tell (reply.Login clock) 0 out) (model.withSession (view sv l) (session - 1) model.freshSession)
+      → logged_in out clock (Go (session - 1)) ≡ stepped (tell (reply.Login clock) 0 out) (model.with_session (view sv l) (session - 1) model.fresh_session)
   unfolding on_login
   login_goes session clock out t =
       ap₂ stepped (ap (λ (r : Told). told r.answer r.out) (told_room (reply.Login clock) 0 out t.room))

@@ -100,7 +100,7 @@ module _ (c : Here) (kind : ℕ) where
     where
       go : (x y z : Bool)
           → cond x (takes_data s.up) (cond y (cond (eqb size 0) (takes_data s.up) false) (cond z (takes_upload s.up) false)) ≡ true
-          → does c (cond x (uplink.onData s.up size (fs c)) (cond y (uplink.onEnd s.up) (uplink.onUpload c.sv.links size (padded c.info) (fs c))))
+          → does c (cond x (uplink.on_data s.up size (fs c)) (cond y (uplink.on_end s.up) (uplink.on_upload c.sv.links size (padded c.info) (fs c))))
           ≡ cond x (on_data (k0 c).up (M c) c.i c.info) (cond y (on_data_end (k0 c).up (M c) c.i c.clock) (cond z (on_upload_cmd (M c) c.i c.info) below))
       go true y z e = data_does c s.up refl
       go false true z e = end_does c s.up refl
@@ -180,8 +180,8 @@ module _ (c : Here) (kind : ℕ) where
       (on_select_cmd (M c) c.i c.info) (closing (M c) c.i)
       (F c) (N c) (sel c) s.next s.up s.down (data_closes s.up) (end_closes s.up) (ack_closes s.down) (nak_closes s.down)
 
-  pub packet_does : does c (decide.onPacket (s0 c) c.sv.links kind size (padded c.info) (fs c) (sel c)) ≡ on_packet (M c) c.i c.clock kind c.info
-  unfolding decide.onPacket
+  pub packet_does : does c (decide.on_packet (s0 c) c.sv.links kind size (padded c.info) (fs c) (sel c)) ≡ on_packet (M c) c.i c.clock kind c.info
+  unfolding decide.on_packet
   packet_does =
       on c (expected s.up s.down kind size) _ _ _ _ expected_does (λ _. closes_all c) ∙ sym machine_is
 
@@ -231,8 +231,8 @@ module _ (sv : Server) (l : Lent) (g : Good sv l) (i : ℕ) (inside : i < sv.ses
   held_length = length-take-le count was (omega (arith, held_few, size_was))
 
   -- the framing's answer is the byte machine's
-  framed_is : (input : List ℕ) → frame.receiveOf was count input ≡ answer_of (call byte (held_as count was) input)
-  unfolding frame.receiveOf
+  framed_is : (input : List ℕ) → frame.receive_of was count input ≡ answer_of (call byte (held_as count was) input)
+  unfolding frame.receive_of
   framed_is input = rw (eq-eqb (length was) 258 size_was, lt-ltb count 258 held_few)
 
   hear_is : (input : List ℕ) (r : Heard) → answer_of (call byte (held_as count was) input) ≡ r
@@ -240,7 +240,7 @@ module _ (sv : Server) (l : Lent) (g : Good sv l) (i : ℕ) (inside : i < sv.ses
   unfolding hear_of
   hear_is input r e = ap (λ (x : Heard). heard_in x.answer (with_part (i * 258) 258 x.part l.held)) (framed_is input ∙ e)
 
-  held_is : (model.sessionAt (view sv l) i).held ≡ take count was
+  held_is : (model.session_at (view sv l) i).held ≡ take count was
   held_is = ap (λ (k : model.Session). k.held) (open_view sv l g i inside linked)
 
   -- ---- the bytes end nothing
@@ -258,7 +258,7 @@ module _ (sv : Server) (l : Lent) (g : Good sv l) (i : ℕ) (inside : i < sv.ses
 
   waits_view : (input : List ℕ) (w : Waits count was input)
       → seen (heard_by sv i clock l out (hear_of l.held i count input))
-      ≡ stepped (tell reply.Nothing (length input) out) (in_session i (model.withHeld (take count was ++ input)) (view sv l))
+      ≡ stepped (tell reply.Nothing (length input) out) (in_session i (model.with_held (take count was ++ input)) (view sv l))
   waits_view input w =
       ap (λ (h : HeardIn). seen (heard_by sv i clock l out h)) (hear_is input _ (ap answer_of w.came ∙ answer_open (length input) w.state))
       ∙ heard_view now (packet_stays sv.sessions i w.state.part l.held inside lent_room w.size) target
@@ -270,20 +270,20 @@ module _ (sv : Server) (l : Lent) (g : Good sv l) (i : ℕ) (inside : i < sv.ses
           (with_part (i * 258) 258 w.state.part l.held)
 
       target : Turn
-      target = turn reply.Nothing (in_session i (model.withHeld (take count was ++ input)) (view sv l))
+      target = turn reply.Nothing (in_session i (model.with_held (take count was ++ input)) (view sv l))
 
       bytes : take w.state.count (packet_of now.held i) ≡ take count was ++ input
       bytes = ap (take w.state.count) (packet_own sv.sessions i w.state.part l.held inside lent_room w.size) ∙ w.bytes
 
       state_is : mk sv l i sv.last.number sv.last.time (view sv l).files
           (session_from (files_of sv l) (numbered sv l) (part (i * sv.most) sv.most l.selected) (packet_of now.held i) (with_held (link_of sv i) w.state.count))
-          ≡ in_session i (model.withHeld (take count was ++ input)) (view sv l)
+          ≡ in_session i (model.with_held (take count was ++ input)) (view sv l)
       state_is =
-          ap (model.withSession (view sv l) i)
+          ap (model.with_session (view sv l) i)
           (open_from_law (files_of sv l) (numbered sv l) (part (i * sv.most) sv.most l.selected) (packet_of now.held i) (with_held (link_of sv i) w.state.count) linked
           ∙ ap (λ (bs : List ℕ).
-          model.withHeld bs (open_from (files_of sv l) (numbered sv l) (part (i * sv.most) sv.most l.selected) was (link_of sv i))) bytes
-          ∙ ap (model.withHeld (take count was ++ input)) (sym (open_view sv l g i inside linked)))
+          model.with_held bs (open_from (files_of sv l) (numbered sv l) (part (i * sv.most) sv.most l.selected) was (link_of sv i))) bytes
+          ∙ ap (model.with_held (take count was ++ input)) (sym (open_view sv l g i inside linked)))
 
   -- ---- they end in a packet, or in an announced length that is too long
 
@@ -304,7 +304,7 @@ module _ (sv : Server) (l : Lent) (g : Good sv l) (i : ℕ) (inside : i < sv.ses
 
   long_turn : turn_view sv l i (packet_of (with_part (i * 258) 258 (replicate 258 0) l.held) i) (turned sv l g i inside linked 0 clock TooLong (padded []))
       ≡ closing (view sv l) i
-  unfolding decide_of on_frame carry_out on_chooses download.closeTurn
+  unfolding decide_of on_frame carry_out on_chooses download.close_turn
   long_turn = refl
 
   abbrev here : (info : List ℕ) → length info ≤ 256 → Here
@@ -325,7 +325,7 @@ module _ (sv : Server) (l : Lent) (g : Good sv l) (i : ℕ) (inside : i < sv.ses
   whole_turn : (kind : ℕ) (info : List ℕ) (short : length info ≤ 256)
       → turn_view sv l i (packet_of (with_part (i * 258) 258 (replicate 258 0) l.held) i)
       (turned sv l g i inside linked 0 clock (Whole kind (length info)) (padded info))
-      ≡ on_packet (in_session i (model.withHeld []) (view sv l)) i clock kind info
+      ≡ on_packet (in_session i (model.with_held []) (view sv l)) i clock kind info
   unfolding decide_of on_frame size_in
   whole_turn kind info short =
       rw (eq-eqb (length (padded info)) 256 (padded_length info short))
@@ -340,8 +340,8 @@ module _ (sv : Server) (l : Lent) (g : Good sv l) (i : ℕ) (inside : i < sv.ses
       ap (λ (h : HeardIn). seen (heard_by sv i clock l out h)) (hear_is input _ (ap answer_of came ∙ answer_whole taken kind info))
       ∙ heard_view (heard_in (record { taken = taken; held = 0; frame = Whole kind (length info); info = padded info }) (with_part (i * 258) 258 (replicate 258 0) l.held))
       zeros_stay _ (whole_turn kind info short)
-      ∙ ap (λ (k : ℕ). stepped (tell (on_packet (in_session i (model.withHeld []) (view sv l)) i clock kind info).reply k out)
-      (on_packet (in_session i (model.withHeld []) (view sv l)) i clock kind info).after)
+      ∙ ap (λ (k : ℕ). stepped (tell (on_packet (in_session i (model.with_held []) (view sv l)) i clock kind info).reply k out)
+      (on_packet (in_session i (model.with_held []) (view sv l)) i clock kind info).after)
       (let h = held_length in omega arith)
   ends_view input taken too_long came used short =
       ap (λ (h : HeardIn). seen (heard_by sv i clock l out h)) (hear_is input _ (ap answer_of came ∙ answer_long taken))
@@ -360,7 +360,7 @@ module _ (sv : Server) (l : Lent) (g : Good sv l) (i : ℕ) (inside : i < sv.ses
 
   pub step_view : (input : List ℕ)
       → seen (step_of sv i clock input l out)
-      ≡ on_event (ends_in ((model.sessionAt (view sv l) i).held ++ input)) (view sv l) i clock (model.sessionAt (view sv l) i).held input out
+      ≡ on_event (ends_in ((model.session_at (view sv l) i).held ++ input)) (view sv l) i clock (model.session_at (view sv l) i).held input out
   unfolding step_of
   step_view input =
       hears_view input (hears input count was size_was own.packet)

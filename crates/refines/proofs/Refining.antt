@@ -32,7 +32,7 @@ every_call sv l g (history.lose session) = lose_refines sv l g session
 
 -- ---- the empty store
 
-each_none : (n : ℕ) (f : ℕ → model.Session) → ((i : ℕ) → f i ≡ model.closedSession) → each n f ≡ replicate n model.closedSession
+each_none : (n : ℕ) (f : ℕ → model.Session) → ((i : ℕ) → f i ≡ model.closed_session) → each n f ≡ replicate n model.closed_session
 unfolding each
 each_none zero f h = refl
 each_none (suc n) f h = ap₂ (λ (x : model.Session) (xs : List model.Session). x ∷ xs) (h 0) (each_none n (λ i. f (suc i)) (λ i. h (suc i)))

@@ -61,7 +61,7 @@ module _ (sv : Server) (l : Lent) (g : Good sv l) (i : ℕ) (inside : i < sv.ses
   abbrev s : Session
   s = link_of sv i
 
-  pub own : LinkFacts (files (table_part sv l)) sv.most (selection_of sv.most l.selected i) (links.packetOf l.held i) s
+  pub own : LinkFacts (files (table_part sv l)) sv.most (selection_of sv.most l.selected i) (links.packet_of l.held i) s
   own = (facts sv l g).sessions.each i inside linked
 
   abbrev selected : List ℕ
@@ -71,15 +71,15 @@ module _ (sv : Server) (l : Lent) (g : Good sv l) (i : ℕ) (inside : i < sv.ses
   read d = down_of F (numbered sv l) selected s.next d
 
   -- the downlink moves
-  pub down_moved : (d : Downlink) → view (with_link sv i (with_down s d)) l ≡ in_session i (model.withDown (read d)) (view sv l)
-  down_moved d = state_moved sv l g i inside linked (with_down s d) (model.withDown (read d)) linked refl
+  pub down_moved : (d : Downlink) → view (with_link sv i (with_down s d)) l ≡ in_session i (model.with_down (read d)) (view sv l)
+  down_moved d = state_moved sv l g i inside linked (with_down s d) (model.with_down (read d)) linked refl
 
   -- what is due, as a call tells it and leaves it
   abbrev due : Due → Stepped
   due d = stepped (told d.asked.answer d.out) (view (with_link sv i d.asked.session) l)
 
   module _ (out : List ℕ) (room : 258 ≤ length out) where
-    told_due : (r : Reply) (d : Downlink) → due (sending.told (with_down s d) (answered r 0 out)) ≡ stepped (tell r 0 out) (in_session i (model.withDown (read d)) (view sv l))
+    told_due : (r : Reply) (d : Downlink) → due (sending.told (with_down s d) (answered r 0 out)) ≡ stepped (tell r 0 out) (in_session i (model.with_down (read d)) (view sv l))
     told_due r d = ap₂ stepped (ap (λ (t : Told). told t.answer t.out) (told_room r 0 out room)) (down_moved d)
 
     module _ (place offset sent : ℕ) (c : SendingAt (files (table_part sv l)) place (offset + sent)) where
@@ -93,21 +93,21 @@ module _ (sv : Server) (l : Lent) (g : Good sv l) (i : ℕ) (inside : i < sv.ses
       onward h n e =
           let b = bytes.countable sv l (facts sv l g) place c.complete in
           let k : length info ≤ length (drop at (F place).bytes) =
-          omega (arith, bytes.least-length (drop at (F place).bytes), bytes.least-le (length (drop at (F place).bytes))) in
+          omega (arith, bytes.least_length (drop at (F place).bytes), bytes.least_le (length (drop at (F place).bytes))) in
           let d = length-drop at (F place).bytes in
           ap (λ (z : ℕ). offset + z) (mod-eq_of_lt (omega arith)) ∙ omega arith
 
       data_due_law : at < length (F place).bytes
           → due (data_of s place offset sent (least_of ((F place).file.size - at)) l.disk (owner_part sv l) out)
-          ≡ stepped (sent_info 0 info 0 out) (in_session i (model.withDown (model.sending (F place).file.number (at + length info))) (view sv l))
+          ≡ stepped (sent_info 0 info 0 out) (in_session i (model.with_down (model.sending (F place).file.number (at + length info))) (view sv l))
       unfolding data_of
       data_due_law h =
           ap₂ stepped
           (ap₂ (λ (n : ℕ) (xs : List ℕ). told (answer.Sent 0 (2 + n)) (packet_of 0 xs ++ drop (2 + n) out))
-          (bytes.data-length sv l (facts sv l g) place c.complete at) (bytes.data-read sv l (facts sv l g) place c.complete at h))
+          (bytes.data_length sv l (facts sv l g) place c.complete at) (bytes.data_read sv l (facts sv l g) place c.complete at h))
           (down_moved (down.Sending place offset ((sent + least_of ((F place).file.size - at)) % 4294967296))
-          ∙ ap (λ (z : ℕ). in_session i (model.withDown (model.sending (F place).file.number z)) (view sv l))
-          (onward h (least_of ((F place).file.size - at)) (bytes.data-length sv l (facts sv l g) place c.complete at)))
+          ∙ ap (λ (z : ℕ). in_session i (model.with_down (model.sending (F place).file.number z)) (view sv l))
+          (onward h (least_of ((F place).file.size - at)) (bytes.data_length sv l (facts sv l g) place c.complete at)))
 
       sending_due : due (sending_of s place offset sent l.disk (owner_part sv l) (files (table_part sv l)) out)
           ≡ data_due (some (file_of (F place))) (view sv l) i (F place).file.number at out
@@ -124,8 +124,8 @@ module _ (sv : Server) (l : Lent) (g : Good sv l) (i : ℕ) (inside : i < sv.ses
 
           go : (t : Bool) → ltb at (length (F place).bytes) ≡ t
               → due (cond t more ends)
-              ≡ cond t (stepped (sent_info 0 info 0 out) (in_session i (model.withDown (model.sending (F place).file.number (at + length info))) (view sv l)))
-              (stepped (tell reply.DataEnd 0 out) (in_session i (model.withDown (model.ended (F place).file.number)) (view sv l)))
+              ≡ cond t (stepped (sent_info 0 info 0 out) (in_session i (model.with_down (model.sending (F place).file.number (at + length info))) (view sv l)))
+              (stepped (tell reply.DataEnd 0 out) (in_session i (model.with_down (model.ended (F place).file.number)) (view sv l)))
           go true e = data_due_law (ltb-true at (length (F place).bytes) e)
           go false e = told_due reply.DataEnd (down.Ended place)
 
@@ -187,12 +187,12 @@ module _ (sv : Server) (l : Lent) (g : Good sv l) (i : ℕ) (inside : i < sv.ses
       data_listed : (filled.size ≡ 0 → ⊥)
           → due (asked (asked_of (with_down s (down.Listing listed long filled.done filled.sent)) (answer.Sent 0 (2 + filled.size)))
           (packet_of 0 (next_bytes es done sent) ++ drop (2 + filled.size) out))
-          ≡ stepped (sent_info 0 next 0 out) (in_session i (model.withDown (model.listing long ns (behind + length next))) (view sv l))
+          ≡ stepped (sent_info 0 next 0 out) (in_session i (model.with_down (model.listing long ns (behind + length next))) (view sv l))
       data_listed n =
           ap₂ stepped
           (ap₂ (λ (k : ℕ) (xs : List ℕ). told (answer.Sent 0 (2 + k)) (packet_of 0 xs ++ drop (2 + k) out)) size_is (next_of_all es done sent))
           (down_moved (down.Listing listed long filled.done filled.sent)
-          ∙ ap (λ (d : model.Downlink). in_session i (model.withDown d) (view sv l)) (moved_is n))
+          ∙ ap (λ (d : model.Downlink). in_session i (model.with_down d) (view sv l)) (moved_is n))
 
       listing_due_law : due (listing_of s listed long done sent l.disk (owner_part sv l) (files (table_part sv l)) selected out)
           ≡ on_request (read (down.Listing listed long done sent)) (view sv l) i out
@@ -231,17 +231,17 @@ module _ (sv : Server) (l : Lent) (g : Good sv l) (i : ℕ) (inside : i < sv.ses
 
 module _ (sv : Server) (l : Lent) (g : Good sv l) where
   abbrev asks : List ℕ → Check → Stepped
-  asks out k = stepped (told (server.onRequest k sv l out).done.answer (server.onRequest k sv l out).out) (view (server.onRequest k sv l out).done.server l)
+  asks out k = stepped (told (server.on_request k sv l out).done.answer (server.on_request k sv l out).out) (view (server.on_request k sv l out).done.server l)
 
   request_goes : (session : ℕ) (out : List ℕ) → Through sv session true (length out)
-      → asks out (Go (session - 1)) ≡ on_request (model.sessionAt (view sv l) (session - 1)).down (view sv l) (session - 1) out
-  unfolding server.onRequest due_as
+      → asks out (Go (session - 1)) ≡ on_request (model.session_at (view sv l) (session - 1)).down (view sv l) (session - 1) out
+  unfolding server.on_request due_as
   request_goes session out t =
       due_is sv l g (session - 1) t.inside t.linked out t.room (link_of sv (session - 1)).down refl
       ∙ ap (λ (k : model.Session). on_request k.down (view sv l) (session - 1) out) (sym (open_view sv l g (session - 1) t.inside t.linked))
 
   pub request_refines : (session : ℕ) (out : List ℕ) → Refines sv l (history.request session out)
-  unfolding request_of request_by server.onRequest step
+  unfolding request_of request_by server.on_request step
   request_refines session out =
       refined sv l (history.request session out)
       (ap (asks out) (check_is sv l g session true (length out))

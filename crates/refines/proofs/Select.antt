@@ -170,25 +170,25 @@ module _ (c : Here) where
 
   here_rises : order.Rising 0 (map g (passing test all))
   here_rises =
-      order.chosen-rising g test ts all (λ p m. sym (time_at_law p (live_in p m))) (in_order_rises 0 (fs c))
+      order.chosen_rising g test ts all (λ p m. sym (time_at_law p (live_in p m))) (in_order_rises 0 (fs c))
 
   there_rises : order.Rising 0 (by_time (matching c.info (M c).files))
   there_rises =
-      order.byTime-rising (matching c.info (M c).files)
-      (order.matching-apart c.info (M c).files (order.listed-timed (numbered sv l) (numbered_own sv l) same_time sv.last.number))
-      (λ f m. let k = (order.matching-in c.info (M c).files f m).1.complete in omega arith)
+      order.by_time_rising (matching c.info (M c).files)
+      (order.matching_apart c.info (M c).files (order.listed_timed (numbered sv l) (numbered_own sv l) same_time sv.last.number))
+      (λ f m. let k = (order.matching_in c.info (M c).files f m).1.complete in omega arith)
 
   here_there : (f : File) → order.In f (map g (passing test all)) → order.In f (by_time (matching c.info (M c).files))
   here_there f m =
-      let i = order.map-in g (passing test all) f m in
-      let q = order.passing-in test all i.place i.member in
+      let i = order.map_in g (passing test all) f m in
+      let q = order.passing_in test all i.place i.member in
       subst (λ (x : File). order.In x (by_time (matching c.info (M c).files))) (sym i.is) (go i.place q.0 q.1)
     where
       go : (p : ℕ) → Memᴰ p all → test p ≡ true → order.In (g p) (by_time (matching c.info (M c).files))
       go p n t =
           let live = live_in p n in
-          order.byTime-back (matching c.info (M c).files) (g p)
-          (order.matching-back c.info (M c).files (g p) (order.listed_back (numbered sv l) (numbered_own sv l) sv.last.number (g p) (stands p live))
+          order.by_time_back (matching c.info (M c).files) (g p)
+          (order.matching_back c.info (M c).files (g p) (order.listed_back (numbered sv l) (numbered_own sv l) sv.last.number (g p) (stands p live))
           (record {
             complete = λ z. let k = complete_in p n in let w = uploaded_time (file_at (fs c) p) live in omega arith;
             true_on_law = sym (test_is p live) ∙ t;
@@ -196,7 +196,7 @@ module _ (c : Here) where
 
   there_here : (f : File) → order.In f (by_time (matching c.info (M c).files)) → order.In f (map g (passing test all))
   there_here f m =
-      let k = order.matching-in c.info (M c).files f (order.byTime-in (matching c.info (M c).files) f m) in
+      let k = order.matching_in c.info (M c).files f (order.by_time_in (matching c.info (M c).files) f m) in
       go (lies f sv.last.number (order.listed_in (numbered sv l) (numbered_own sv l) sv.last.number f k.0)) k.1
     where
       go : Lies f → order.Matches c.info f → order.In f (map g (passing test all))
@@ -206,7 +206,7 @@ module _ (c : Here) where
           let n = k.complete in
           subst (λ (x : File). order.In x (map g (passing test all))) (sym a.is)
           (order.map_back g (passing test all) a.place
-          (order.passing-back test all a.place
+          (order.passing_back test all a.place
           (in_order_all 0 (fs c) (facts sv l c.good).store.files.times a.place (above t w n))
           (test_is a.place a.live ∙ ap (λ (x : File). equation.selects c.info (fields_of x.bytes)) (sym a.is) ∙ k.true_on_law)))
         where
@@ -217,8 +217,8 @@ module _ (c : Here) where
   chosen_is : numbers_at (table_part sv l) (chosen sv.most c.info l.disk (owner_part sv l) (table_part sv l))
       ≡ selection sv.most c.info (M c).files
   chosen_is =
-      sym (order.map-twice (λ f. f.number) g (take sv.most (passing test all)))
-      ∙ ap (map (λ (f : File). f.number)) (sym (order.take-map g sv.most (passing test all)))
+      sym (order.map_twice (λ f. f.number) g (take sv.most (passing test all)))
+      ∙ ap (map (λ (f : File). f.number)) (sym (order.take_map g sv.most (passing test all)))
       ∙ ap (λ (xs : List File). map (λ (f : File). f.number) (take sv.most xs))
       (order.unique (map g (passing test all)) (by_time (matching c.info (M c).files)) 0 here_rises there_rises here_there there_here)
 
@@ -263,32 +263,32 @@ module _ (c : Here) where
   selects_does : takes_command (s0 c).down ≡ true
       → turn_view sv l c.i c.part (turned (turn_of (with_selection (s0 c) count) sv.last (reply.Selected count)) m)
       ≡ turn (reply.Selected (length (selection sv.most c.info (M c).files)))
-      (in_session c.i (model.withSelection (selection sv.most c.info (M c).files)) (M c))
+      (in_session c.i (model.with_selection (selection sv.most c.info (M c).files)) (M c))
   selects_does idle =
       ap₂ (λ (k : ℕ) (x : model.Session). turn (reply.Selected k) (mk sv l c.i sv.last.number sv.last.time (view sv l).files x))
       (sym count_is ∙ ap length chosen_is)
       (open_from_law (F c) (N c) (listed sv.most ns (sel c)) c.part (with_selection (s0 c) count) c.linked
-      ∙ ap₂ (λ (d : model.Downlink) (xs : List ℕ). model.withDown d (model.withSelection xs (k0 c)))
+      ∙ ap₂ (λ (d : model.Downlink) (xs : List ℕ). model.with_down d (model.with_selection xs (k0 c)))
       (idle_same (s0 c).down idle (listed sv.most ns (sel c)) (sel c) 0 (s0 c).next) page)
       ∙ ap (turn (reply.Selected (length (selection sv.most c.info (M c).files))))
-      (sym (set_mk sv l c.good c.i c.inside (model.withSelection (selection sv.most c.info (M c).files)) sv.last.number sv.last.time
+      (sym (set_mk sv l c.good c.i c.inside (model.with_selection (selection sv.most c.info (M c).files)) sv.last.number sv.last.time
       (view sv l).files (k0 c)))
 
   chooses_does : takes_command (s0 c).down ≡ true
       → turn_view sv l c.i c.part
       (on_chooses (parts sv l c.i)
-      (download.selectedAs (s0 c) sv.last (select_of c.info l.disk (owner_part sv l) (table_part sv l) (sel c) sv.most)))
+      (download.selected_as (s0 c) sv.last (select_of c.info l.disk (owner_part sv l) (table_part sv l) (sel c) sv.most)))
       ≡ on_select_cmd (M c) c.i c.info
-  unfolding on_chooses download.selectedAs select_of on_select_cmd
+  unfolding on_chooses download.selected_as select_of on_select_cmd
   chooses_does idle = rw number_is (go (eqb (validity_of c.info) 0) refl)
     where
       go : (t : Bool) → eqb (validity_of c.info) 0 ≡ t
           → turn_view sv l c.i c.part
           (on_chooses (parts sv l c.i)
-          (download.selectedAs (s0 c) sv.last
+          (download.selected_as (s0 c) sv.last
           (cond t (selects (record { refused = 0; count = count }) (listed sv.most ns (sel c))) (selects (record { refused = validity_of c.info; count = 0 }) (sel c)))))
           ≡ cond t (turn (reply.Selected (length (selection sv.most c.info (M c).files)))
-          (in_session c.i (model.withSelection (selection sv.most c.info (M c).files)) (M c)))
+          (in_session c.i (model.with_selection (selection sv.most c.info (M c).files)) (M c)))
           (turn (reply.DownloadError 8) (M c))
       go true q = selects_does idle
       go false q =
@@ -297,7 +297,7 @@ module _ (c : Here) where
           ∙ ap (λ (k : ℕ). turn (reply.DownloadError k) (M c)) (refused_8 c.info c.short (eqb-false (validity_of c.info) 0 q)))
 
   pub select_does : takes_command (s0 c).down ≡ true → does c act.Select ≡ on_select_cmd (M c) c.i c.info
-  unfolding carry_out download.selectTurn
+  unfolding carry_out download.select_turn
   select_does idle =
-      rw (le-ltb (length (padded c.info)) (length c.info) (omega (arith, padded_length c.info c.short, c.short)), bytes.take-padded c.info)
+      rw (le-ltb (length (padded c.info)) (length c.info) (omega (arith, padded_length c.info c.short, c.short)), bytes.take_padded c.info)
       (chooses_does idle)

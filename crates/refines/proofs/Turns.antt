@@ -67,7 +67,7 @@ module _ (F G : Files) (N O : ℕ → Option File) (selected : List ℕ) where
     where
       go : (b : Bool)
           → (b ≡ true → (up_of G s.up ≡ up_of F s.up) × (down_of G O selected s.next s.down ≡ down_of F N selected s.next s.down))
-          → cond b (open_from G O selected held s) model.closedSession ≡ cond b (open_from F N selected held s) model.closedSession
+          → cond b (open_from G O selected held s) model.closed_session ≡ cond b (open_from F N selected held s) model.closed_session
       go true h =
           ap₂ (λ (u : model.Uplink) (d : model.Downlink).
           record { linked = true; up = u; down = d; selected = take s.count selected; next = s.next; held = take s.held held }) (h refl).0 (h refl).1
@@ -108,16 +108,16 @@ module _ (sv : Server) (l : Lent) (g : Good sv l) (i : ℕ) (inside : i < sv.ses
   listed_four = rw (each_length sv.sessions (session_of sv l)) inside
 
   -- session i of the view so changed
-  pub link_mk : (number time : ℕ) (fs : List File) (k : model.Session) → model.sessionAt (mk sv l i number time fs k) i ≡ k
-  link_mk number time fs k = get_or-set_same (each sv.sessions (session_of sv l)) i k model.closedSession listed_four
+  pub link_mk : (number time : ℕ) (fs : List File) (k : model.Session) → model.session_at (mk sv l i number time fs k) i ≡ k
+  link_mk number time fs k = get_or-set_same (each sv.sessions (session_of sv l)) i k model.closed_session listed_four
 
-  pub with_mk : (number time : ℕ) (fs : List File) (k h : model.Session) → model.withSession (mk sv l i number time fs k) i h ≡ mk sv l i number time fs h
+  pub with_mk : (number time : ℕ) (fs : List File) (k h : model.Session) → model.with_session (mk sv l i number time fs k) i h ≡ mk sv l i number time fs h
   with_mk number time fs k h =
       ap (λ (ks : List model.Session). model.model (view sv l) number time fs ks) (set-set (each sv.sessions (session_of sv l)) i k h)
 
   pub set_mk : (h : model.Session → model.Session) (number time : ℕ) (fs : List File) (k : model.Session) → in_session i h (mk sv l i number time fs k) ≡ mk sv l i number time fs (h k)
   set_mk h number time fs k =
-      with_mk number time fs k (h (model.sessionAt (mk sv l i number time fs k) i)) ∙ ap (λ (z : model.Session). mk sv l i number time fs (h z)) (link_mk number time fs k)
+      with_mk number time fs k (h (model.session_at (mk sv l i number time fs k) i)) ∙ ap (λ (z : model.Session). mk sv l i number time fs (h z)) (link_mk number time fs k)
 
   module _ (linked : (link_of sv i).linked ≡ true) (n clock : ℕ) (frame : Frame) (info : List ℕ) where
     abbrev pub acting : Session

@@ -89,10 +89,10 @@ module _ (c : Here) where
 
   -- the session with another uplink
   pub link_up : (m : Mem) (u : Uplink) → m.selected ≡ sel c → down_of (files_in m) (by_number m) (sel c) s.next s.down ≡ (k0 c).down
-      → open_from (files_in m) (by_number m) m.selected c.part (with_up (s0 c) u) ≡ model.withUp (up_of (files_in m) u) (k0 c)
+      → open_from (files_in m) (by_number m) m.selected c.part (with_up (s0 c) u) ≡ model.with_up (up_of (files_in m) u) (k0 c)
   link_up m u e d =
       ap (λ (xs : List ℕ). open_from (files_in m) (by_number m) xs c.part (with_up (s0 c) u)) e
-      ∙ ap (λ (x : model.Downlink). model.withDown x (model.withUp (up_of (files_in m) u) (k0 c))) d
+      ∙ ap (λ (x : model.Downlink). model.with_down x (model.with_up (up_of (files_in m) u) (k0 c))) d
 
   -- ---- the partial file that the session receives
 
@@ -126,11 +126,11 @@ module _ (c : Here) where
     discard_does : (u : Uplink) (U : model.Uplink) → up_of (files_in d) u ≡ U → (r : Reply)
         → turn_view sv l c.i c.part (turned (turn_of (with_up (s0 c) u) sv.last r) d) ≡ turn r (discarded c.i n U (M c))
     discard_does u U h r =
-        moved d (with_up (s0 c) u) sv.last r (without n (M c).files) (model.withUp U (k0 c)) c.linked
-        (stores.files-without P d one dropped.sound.files.numbers place (dropped.others l.disk) partial.number
+        moved d (with_up (s0 c) u) sv.last r (without n (M c).files) (model.with_up U (k0 c)) c.linked
+        (stores.files_without P d one dropped.sound.files.numbers place (dropped.others l.disk) partial.number
         (ap (λ (f : table.File). f.number) dropped.file) sv.last.number)
-        (link_up d u refl (down_kept d place dropped.sound.files.numbers (dropped.others l.disk) incomplete) ∙ ap (λ (x : model.Uplink). model.withUp x (k0 c)) h)
-        ∙ ap (turn r) (sym (set_mk sv l c.well-formed c.i c.inside (model.withUp U) sv.last.number sv.last.time (without n (M c).files) (k0 c)))
+        (link_up d u refl (down_kept d place dropped.sound.files.numbers (dropped.others l.disk) incomplete) ∙ ap (λ (x : model.Uplink). model.with_up x (k0 c)) h)
+        ∙ ap (turn r) (sym (set_mk sv l c.well-formed c.i c.inside (model.with_up U) sv.last.number sv.last.time (without n (M c).files) (k0 c)))
 
     -- ---- DATA
 
@@ -142,11 +142,11 @@ module _ (c : Here) where
     store_is : (record_at (table_part sv l) place).received + length c.info ≤ (record_at (table_part sv l) place).size
         → carry_out (act.Store place offset received) (s0 c) sv.last c.clock sv.most (length c.info) (padded c.info) P
         ≡ turned (turn_of (with_up (s0 c) (up.Receiving place offset (upload.grown received (length c.info)))) sv.last reply.Nothing) w
-    unfolding carry_out on_writes upload.storeTurn upload.appendedAs upload.storedAs
+    unfolding carry_out on_writes upload.store_turn upload.appended_as upload.stored_as
     store_is h =
         rw (
           le-ltb (length (padded c.info)) (length c.info) (omega (arith, padded_length c.info c.short, c.short)),
-          bytes.take-padded c.info,
+          bytes.take_padded c.info,
           append_done (map_part sv l) l.disk (owner_part sv l) (table_part sv l) sv.last.number sv.last.time (facts sv l c.well-formed).store
               (facts sv l c.well-formed).disk place partial.number c.info h,
         )
@@ -157,10 +157,10 @@ module _ (c : Here) where
         ap (turn_view sv l c.i c.part) (store_is h)
         ∙ moved w (with_up (s0 c) (up.Receiving place offset (upload.grown received (length c.info)))) sv.last reply.Nothing
         (changed n (grown c.info) (M c).files) (k0 c) c.linked
-        (stores.files-changed P w one a.sound.files.numbers place a.others partial.number (grown c.info) number
+        (stores.files_changed P w one a.sound.files.numbers place a.others partial.number (grown c.info) number
         (ap₂ (λ (f : table.File) (b : List ℕ). file f.number f.size b f.time) a.file a.bytes) sv.last.number)
         (link_up w (up.Receiving place offset (upload.grown received (length c.info))) refl (down_kept w place a.sound.files.numbers a.others incomplete)
-        ∙ ap (λ (u : model.Uplink). model.withUp u (k0 c)) (ap model.receiving number ∙ sym (ap (up_of (F c)) e)))
+        ∙ ap (λ (u : model.Uplink). model.with_up u (k0 c)) (ap model.receiving number ∙ sym (ap (up_of (F c)) e)))
       where
         a : AppendLeaves (map_part sv l) l.disk (owner_part sv l) (table_part sv l) sv.last.number sv.last.time place c.info
             (append_of l.disk (owner_part sv l) (table_part sv l) place c.info)
@@ -174,26 +174,26 @@ module _ (c : Here) where
         number = ap (λ (f : table.File). f.number) a.file
 
     overrun_does : does c (act.Overrun place) ≡ turn (reply.Nak 16) (discarded c.i n model.ignoring (M c))
-    unfolding carry_out on_frees upload.discardTurn
+    unfolding carry_out on_frees upload.discard_turn
     overrun_does = discard_does up.Ignoring model.ignoring refl (reply.Nak 16)
 
-    receiving_does : does c (decide.onData (up.Receiving place offset received) (length c.info) (fs c)) ≡ data_to (some (file_of (F c place))) (M c) c.i n c.info
-    unfolding decide.onData data_to
+    receiving_does : does c (decide.on_data (up.Receiving place offset received) (length c.info) (fs c)) ≡ data_to (some (file_of (F c place))) (M c) c.i n c.info
+    unfolding decide.on_data data_to
     receiving_does =
         subst (λ (k : ℕ).
         does c (cond (ltb (F c place).file.size ((F c place).file.received + length c.info)) (act.Overrun place) (act.Store place offset received))
         ≡ cond (ltb (F c place).file.size (k + length c.info)) (turn (reply.Nak 16) (discarded c.i n model.ignoring (M c)))
         (turn reply.Nothing (with_files (M c) (changed n (grown c.info) (M c).files))))
-        (sym (bytes.bytes-received sv l (facts sv l c.well-formed) place partial.number))
+        (sym (bytes.bytes_received sv l (facts sv l c.well-formed) place partial.number))
         (on c (ltb (F c place).file.size ((F c place).file.received + length c.info)) _ _ _ _ (λ _. overrun_does) (λ q. store_does (ltb-false _ _ q)))
 
     -- ---- DATA_END
 
     reject_does : (number : ℕ)
         → turn_view sv l c.i c.part
-        (on_moves P (upload.withDisk l.disk (upload.discardTurn (s0 c) sv.last place up.Idle number (map_part sv l) (owner_part sv l) (table_part sv l))))
+        (on_moves P (upload.with_disk l.disk (upload.discard_turn (s0 c) sv.last place up.Idle number (map_part sv l) (owner_part sv l) (table_part sv l))))
         ≡ turn (reply.Nak number) (discarded c.i n model.no_upload (M c))
-    unfolding on_moves upload.withDisk upload.discardTurn
+    unfolding on_moves upload.with_disk upload.discard_turn
     reject_does number = discard_does up.Idle model.no_upload refl (reply.Nak number)
 
     module _ (time : ℕ) (later : sv.last.time < time) (z : check_of l.disk (owner_part sv l) (table_part sv l) place ≡ 0) where
@@ -207,9 +207,9 @@ module _ (c : Here) where
           complete_done (map_part sv l) l.disk (owner_part sv l) (table_part sv l) sv.last.number sv.last.time (facts sv l c.well-formed).store
           (facts sv l c.well-formed).disk place partial.number z time
 
-      accept_is : on_moves P (upload.finishAs (upload.timed (Next time)) (s0 c) sv.last place l.disk (map_part sv l) (owner_part sv l) (table_part sv l))
+      accept_is : on_moves P (upload.finish_as (upload.timed (Next time)) (s0 c) sv.last place l.disk (map_part sv l) (owner_part sv l) (table_part sv l))
           ≡ turned (turn_of (with_up (s0 c) up.Idle) (last_of sv.last.number time) reply.Ack) x
-      unfolding on_moves upload.finishAs upload.timed upload.with_blocks upload.acceptTurn upload.acceptedAs
+      unfolding on_moves upload.finish_as upload.timed upload.with_blocks upload.accept_turn upload.accepted_as
       accept_is = rw done
 
       k : CompleteLeaves (map_part sv l) l.disk (owner_part sv l) (table_part sv l) sv.last.number sv.last.time place time
@@ -226,19 +226,19 @@ module _ (c : Here) where
           ).files.numbers
 
       accept_does : turn_view sv l c.i c.part
-          (on_moves P (upload.finishAs (upload.timed (Next time)) (s0 c) sv.last place l.disk (map_part sv l) (owner_part sv l) (table_part sv l)))
-          ≡ turn reply.Ack (in_session c.i (model.withUp model.no_upload)
+          (on_moves P (upload.finish_as (upload.timed (Next time)) (s0 c) sv.last place l.disk (map_part sv l) (owner_part sv l) (table_part sv l)))
+          ≡ turn reply.Ack (in_session c.i (model.with_up model.no_upload)
           (model.model (M c) sv.last.number time (changed n (completed time) (M c).files) (M c).sessions))
       accept_does =
           ap (turn_view sv l c.i c.part) accept_is
-          ∙ moved x (with_up (s0 c) up.Idle) (last_of sv.last.number time) reply.Ack (changed n (completed time) (M c).files) (model.withUp model.no_upload (k0 c))
+          ∙ moved x (with_up (s0 c) up.Idle) (last_of sv.last.number time) reply.Ack (changed n (completed time) (M c).files) (model.with_up model.no_upload (k0 c))
           c.linked
-          (stores.files-changed P x one sound_after place k.others partial.number (completed time)
+          (stores.files_changed P x one sound_after place k.others partial.number (completed time)
           (ap (λ (f : table.File). f.number) k.file)
           (ap₂ (λ (f : table.File) (b : List ℕ). file f.number f.size b f.time) k.file k.bytes) sv.last.number)
           (link_up x up.Idle refl (down_kept x place sound_after k.others incomplete))
           ∙ ap (turn reply.Ack)
-          (sym (set_mk sv l c.well-formed c.i c.inside (model.withUp model.no_upload) sv.last.number time (changed n (completed time) (M c).files) (k0 c)))
+          (sym (set_mk sv l c.well-formed c.i c.inside (model.with_up model.no_upload) sv.last.number time (changed n (completed time) (M c).files) (k0 c)))
 
     abbrev checked : ℕ
     checked = check_of l.disk (owner_part sv l) (table_part sv l) place
@@ -248,7 +248,7 @@ module _ (c : Here) where
 
     abbrev acked : Turn
     acked =
-        turn reply.Ack (in_session c.i (model.withUp model.no_upload)
+        turn reply.Ack (in_session c.i (model.with_up model.no_upload)
         (model.model (M c) sv.last.number (time_at c.clock sv.last.time) (changed n (completed (time_at c.clock sv.last.time)) (M c).files)
         (M c).sessions))
 
@@ -257,30 +257,30 @@ module _ (c : Here) where
 
     timed_does : checked ≡ 0
         → turn_view sv l c.i c.part
-        (on_moves P (upload.finishAs (upload.timed (upload_time c.clock sv.last.time)) (s0 c) sv.last place l.disk (map_part sv l) (owner_part sv l)
+        (on_moves P (upload.finish_as (upload.timed (upload_time c.clock sv.last.time)) (s0 c) sv.last place l.disk (map_part sv l) (owner_part sv l)
         (table_part sv l)))
         ≡ ended
-    unfolding upload.timed upload.finishAs
+    unfolding upload.timed upload.finish_as
     timed_does z = go (eqb sv.last.time most_given) refl
       where
         go : (b : Bool) → eqb sv.last.time most_given ≡ b
             → turn_view sv l c.i c.part
-            (on_moves P (upload.finishAs (upload.timed (cond b UsedUp (Next (time_at c.clock sv.last.time)))) (s0 c) sv.last place l.disk (map_part sv l)
+            (on_moves P (upload.finish_as (upload.timed (cond b UsedUp (Next (time_at c.clock sv.last.time)))) (s0 c) sv.last place l.disk (map_part sv l)
             (owner_part sv l) (table_part sv l)))
             ≡ cond b (turn (reply.Nak 3) (discarded c.i n model.no_upload (M c))) acked
         go true f = reject_does 3
         go false f = accept_does (time_at c.clock sv.last.time) (later f) z
 
     finish_checked : checked ≡ 0
-        → upload.finishTurn (s0 c) sv.last place c.clock l.disk (map_part sv l) (owner_part sv l) (table_part sv l)
-        ≡ upload.finishAs (upload.timed (upload_time c.clock sv.last.time)) (s0 c) sv.last place l.disk (map_part sv l) (owner_part sv l) (table_part sv l)
-    unfolding upload.judgedAt
+        → upload.finish_turn (s0 c) sv.last place c.clock l.disk (map_part sv l) (owner_part sv l) (table_part sv l)
+        ≡ upload.finish_as (upload.timed (upload_time c.clock sv.last.time)) (s0 c) sv.last place l.disk (map_part sv l) (owner_part sv l) (table_part sv l)
+    unfolding upload.judged_at
     finish_checked e = rw (eq-eqb checked 0 e)
 
     finish_rejected : (checked ≡ 0 → ⊥)
-        → upload.finishTurn (s0 c) sv.last place c.clock l.disk (map_part sv l) (owner_part sv l) (table_part sv l)
-        ≡ upload.withDisk l.disk (upload.discardTurn (s0 c) sv.last place up.Idle checked (map_part sv l) (owner_part sv l) (table_part sv l))
-    unfolding upload.judgedAt upload.finishAs
+        → upload.finish_turn (s0 c) sv.last place c.clock l.disk (map_part sv l) (owner_part sv l) (table_part sv l)
+        ≡ upload.with_disk l.disk (upload.discard_turn (s0 c) sv.last place up.Idle checked (map_part sv l) (owner_part sv l) (table_part sv l))
+    unfolding upload.judged_at upload.finish_as
     finish_rejected e = rw (ne_eqb checked 0 e)
 
     check_reads : checked ≡ verdict (F c place).bytes (F c place).file.size
@@ -300,18 +300,18 @@ module _ (c : Here) where
         go false e =
             ap (λ (r : Moves). turn_view sv l c.i c.part (on_moves P r)) (finish_rejected (eqb-false checked 0 e)) ∙ reject_does checked
 
-  pub data_does : (u : Uplink) → s.up ≡ u → does c (decide.onData u (length c.info) (fs c)) ≡ on_data (up_of (F c) u) (M c) c.i c.info
-  unfolding decide.onData on_data
+  pub data_does : (u : Uplink) → s.up ≡ u → does c (decide.on_data u (length c.info) (fs c)) ≡ on_data (up_of (F c) u) (M c) c.i c.info
+  unfolding decide.on_data on_data
   data_does up.Idle e = closes_all c
   data_does (up.Receiving place offset received) e =
       receiving_does place offset received e
       ∙ ap (λ (f : Option File). data_to f (M c) c.i (F c place).file.number c.info) (sym (found place offset received e))
   data_does up.Ignoring e = ignores c
 
-  pub end_does : (u : Uplink) → s.up ≡ u → does c (decide.onEnd u) ≡ on_data_end (up_of (F c) u) (M c) c.i c.clock
-  unfolding decide.onEnd on_data_end carry_out
+  pub end_does : (u : Uplink) → s.up ≡ u → does c (decide.on_end u) ≡ on_data_end (up_of (F c) u) (M c) c.i c.clock
+  unfolding decide.on_end on_data_end carry_out
   end_does up.Idle e = closes_all c
   end_does (up.Receiving place offset received) e =
       finish_does place offset received e
       ∙ ap (λ (f : Option File). data_end_to f (M c) c.i (F c place).file.number c.clock) (sym (found place offset received e))
-  end_does up.Ignoring e = moves c (with_up (s0 c) up.Idle) (model.withUp model.no_upload) c.linked refl reply.Nothing
+  end_does up.Ignoring e = moves c (with_up (s0 c) up.Idle) (model.with_up model.no_upload) c.linked refl reply.Nothing

@@ -75,7 +75,7 @@ unfolding any uploading each
 each_any zero f k = refl
 each_any (suc n) f k = ap (cond (receives (f 0).up k) true) (each_any n (λ j. f (suc j)) k)
 
-uploading_set : (ks : List model.Session) (i : ℕ) (x : model.Session) (k : ℕ) → (get_or ks i model.closedSession).up ≡ x.up → uploading (set ks i x) k ≡ uploading ks k
+uploading_set : (ks : List model.Session) (i : ℕ) (x : model.Session) (k : ℕ) → (get_or ks i model.closed_session).up ≡ x.up → uploading (set ks i x) k ≡ uploading ks k
 unfolding uploading
 uploading_set [] i x k e = refl
 uploading_set (y ∷ ks) zero x k e = ap (λ (u : model.Uplink). cond (receives u k) true (uploading ks k)) (sym e)
@@ -116,7 +116,7 @@ module _ (c : Here) where
     link_same a b s h = go s.linked h
       where
         go : (t : Bool) → (t ≡ true → (q o r : ℕ) → s.up ≡ up.Receiving q o r → (F c q).file.number ≡ 0 → ⊥)
-            → receives (cond t (open_from (F c) (N c) a b s) model.closedSession).up n ≡ cond t (uploads_in s.up place) false
+            → receives (cond t (open_from (F c) (N c) a b s) model.closed_session).up n ≡ cond t (uploads_in s.up place) false
         go true h = receives_same s.up (h refl)
         go false h = refl
 
@@ -136,13 +136,13 @@ module _ (c : Here) where
 
   resumes : (place n : ℕ) → ((F c place).file.number ≡ 0 → ⊥) → (F c place).file.number ≡ n
       → does c (act.Resume place n (file_at (fs c) place).received)
-      ≡ turn (reply.Go n (length (F c place).bytes)) (in_session c.i (model.withUp (model.receiving n)) (M c))
+      ≡ turn (reply.Go n (length (F c place).bytes)) (in_session c.i (model.with_up (model.receiving n)) (M c))
   unfolding carry_out
   resumes place n file is =
-      moves c (with_up (s0 c) (up.Receiving place (file_at (fs c) place).received 0)) (model.withUp (model.receiving n)) c.linked
-      (ap (λ (k : ℕ). model.withUp (model.receiving k) (k0 c)) is) (reply.Go n (file_at (fs c) place).received)
-      ∙ ap (λ (k : ℕ). turn (reply.Go n k) (in_session c.i (model.withUp (model.receiving n)) (M c)))
-      (sym (bytes.bytes-received sv l (facts sv l c.good) place file))
+      moves c (with_up (s0 c) (up.Receiving place (file_at (fs c) place).received 0)) (model.with_up (model.receiving n)) c.linked
+      (ap (λ (k : ℕ). model.with_up (model.receiving k) (k0 c)) is) (reply.Go n (file_at (fs c) place).received)
+      ∙ ap (λ (k : ℕ). turn (reply.Go n k) (in_session c.i (model.with_up (model.receiving n)) (M c)))
+      (sym (bytes.bytes_received sv l (facts sv l c.good) place file))
 
   continued_does : (found : Found) (n size : ℕ) → find_of (fs c) n ≡ found → (n ≡ 0 → ⊥)
       → does c (on_continued found n size sv.links (fs c)) ≡ upload_continued (file_in (F c) found) (M c) c.i n size
@@ -155,7 +155,7 @@ module _ (c : Here) where
       (λ _.
       subst (λ (b : Bool).
       does c (cond b (act.Tell (reply.UploadError 2)) (act.Resume place n (file_at (fs c) place).received))
-      ≡ cond (uploading (M c).sessions n) (turn (reply.UploadError 2) (M c)) (turn (reply.Go n (length (F c place).bytes)) (in_session c.i (model.withUp (model.receiving n)) (M c))))
+      ≡ cond (uploading (M c).sessions n) (turn (reply.UploadError 2) (M c)) (turn (reply.Go n (length (F c place).bytes)) (in_session c.i (model.with_up (model.receiving n)) (M c))))
       (uploading_is place n file is)
       (on c (uploading (M c).sessions n) _ _ _ _ (λ _. tells c (reply.UploadError 2)) (λ _. resumes place n file is)))
       (λ _. tells c (reply.UploadError 2)))

@@ -99,7 +99,7 @@ begins_length : (w line : List ℕ) → begins_with w line ≡ true → length w
 unfolding begins_with
 begins_length [] line h = omega arith
 begins_length (b ∷ w) [] h = absurd (tests.clash false h refl)
-begins_length (b ∷ w) (c ∷ line) h = omega (arith, begins_length w line (tests.second-true (eqb b c) _ h))
+begins_length (b ∷ w) (c ∷ line) h = omega (arith, begins_length w line (tests.second_true (eqb b c) _ h))
 
 module _ (line text : List ℕ) where
   pub text_first : begins_with (bytes_of "text\t") line ≡ true → (rest later : List ℕ) (r : ℕ) → rest ≡ drop 5 line → printed r later

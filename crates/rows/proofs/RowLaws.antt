@@ -299,7 +299,7 @@ come_in k v answer day l bytes number right input = after_line k v answer (endin
 
 -- the line is at its end
 none_printed : less_session [] ≡ []
-unfolding less_session less.lessFirst
+unfolding less_session less.less_first
 none_printed = refl
 
 pub come_end : (k : Kind) (v : Verdict) (answer : List ℕ) (day : Day) (l : Lent) (bytes : List ℕ) (number right : ℕ) (input : List ℕ)

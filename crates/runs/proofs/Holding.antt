@@ -120,7 +120,7 @@ row_part : (a t : List ℕ) (w : Verdict) → in_row w ≡ true → in_row (part
 unfolding in_row part_verdict
 row_part a t verdict.Rest e = e
 row_part a t verdict.Told e = e
-row_part a t (verdict.Open matched) e = go (marking.agreesAt matched a t)
+row_part a t (verdict.Open matched) e = go (marking.agrees_at matched a t)
   where
     go : (b : Bool) → in_row (cond b (verdict.Open (matched + length t)) verdict.Told) ≡ true
     go true = refl

@@ -212,13 +212,13 @@ module _ (k : Kind) (s : Start) (read wrote : List ℕ) (p : Sitting) (m : Memor
 
     line_begun_is : line_begun p (script_to p n m.input) (line_to p n) (command_of script) m.input m.text
         ≡ begun_to p (script_to p n m.input) (line_to p n) (command_of script) m.text
-        (marking.judgedTo (begin_verdict k) (put_text p m putting))
+        (marking.judged_to (begin_verdict k) (put_text p m putting))
     unfolding line_begun
     line_begun_is =
         ap (λ (j : Kind). begun_to p (script_to p n m.input) (line_to p n) (command_of script) m.text
-        (marking.begunOf j (bytes_from p.from (line_to p n) m.input) p.filled m.text)) h.kind
+        (marking.begun_of j (bytes_from p.from (line_to p n) m.input) p.filled m.text)) h.kind
         ∙ ap (λ (l : List ℕ). begun_to p (script_to p n m.input) (line_to p n) (command_of script) m.text
-        (marking.begunOf k l p.filled m.text)) is
+        (marking.begun_of k l p.filled m.text)) is
         ∙ ap (λ (j : Judges). begun_to p (script_to p n m.input) (line_to p n) (command_of script) m.text j)
         (begun_is k line m.text p.filled)
 
@@ -345,5 +345,5 @@ module _ (k : Kind) (s : Start) (read wrote : List ℕ) (p : Sitting) (m : Memor
               ∙ ap (λ (x : List ℕ). wrote ++ (waiting_text p m.text ++ x)) (on_more rest);
         }
       where
-        no_row : (v : Verdict) → in_row v ≡ false → Within v (marks.partIn p.mark.answer (filled_to p m n brought).memory.input)
+        no_row : (v : Verdict) → in_row v ≡ false → Within v (marks.part_in p.mark.answer (filled_to p m n brought).memory.input)
         no_row v x = within_rest v _ x

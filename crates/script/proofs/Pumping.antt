@@ -87,10 +87,10 @@ sound_both false b e = let z : ◌≡◌ {A = ℕ} 0 1 = cc in absurd (omega ari
 -- an open session of a sound state has its facts
 pub link_facts : (sv : Server) (l : Lent) (i : ℕ) → sound_parts sv l.map l.owner l.table l.selected l.held ≡ true
     → i < sv.sessions → (link_of sv i).linked ≡ true
-    → LinkTested (files (table_part sv l)) sv.most (links.selectionOf sv.most l.selected i) (links.packetOf l.held i) (link_of sv i)
+    → LinkTested (files (table_part sv l)) sv.most (links.selection_of sv.most l.selected i) (links.packet_of l.held i) (link_of sv i)
 unfolding sound_parts
 link_facts sv l i e p q =
-    (links.sound-facts (files (table_part sv l)) sv.sessions sv.most l.selected l.held sv.links
+    (links.sound_facts (files (table_part sv l)) sv.sessions sv.most l.selected l.held sv.links
     (sound_both (sound_test (take (words sv.blocks) l.map) (take sv.blocks l.owner) (take (4 * sv.files) l.table) sv.last.number
     sv.last.time) (links_sound (files (table_part sv l)) sv.sessions sv.most l.selected l.held sv.links) e).1).each i p q
 

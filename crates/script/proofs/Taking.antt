@@ -46,8 +46,8 @@ answer_taken taken h none = refl
 answer_taken taken h (some too_long) = refl
 answer_taken taken h (some (packet kind info)) = refl
 
-frame_takes : (p : List ℕ) (held b : ℕ) (bs : List ℕ) → length p ≡ 258 → held < 258 → 1 ≤ (frame.receiveOf p held (b ∷ bs)).answer.taken
-unfolding frame.receiveOf answer_of
+frame_takes : (p : List ℕ) (held b : ℕ) (bs : List ℕ) → length p ≡ 258 → held < 258 → 1 ≤ (frame.receive_of p held (b ∷ bs)).answer.taken
+unfolding frame.receive_of answer_of
 frame_takes p held b bs e q =
     rw (
       eq-eqb (length p) 258 e,

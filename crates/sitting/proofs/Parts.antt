@@ -39,7 +39,7 @@ step_joins p r l left input bytes text after s e f =
 
 pub finish_joins : (p r : Sitting) (input text after : List ℕ) (start end : ℕ) (f : Finished)
     → end ≡ least_of p.mark.answer.to (length input) → start ≡ least_of p.mark.answer.from end
-    → finishes f after ≡ judging.finishedOf p.mark.verdict (take (end - start) (drop start input)) p.filled text
+    → finishes f after ≡ judging.finished_of p.mark.verdict (take (end - start) (drop start input)) p.filled text
     → r ≡ finished_by p f (length text)
     → put r after ≡ finish_of p input text
 unfolding finish_of
@@ -47,7 +47,7 @@ finish_joins p r input text after start end f e g h i =
     rw i
     (ap (λ (k : Finishes). finished_to p text k)
     (h
-    ∙ ap (λ (a : List ℕ). judging.finishedOf p.mark.verdict a p.filled text)
+    ∙ ap (λ (a : List ℕ). judging.finished_of p.mark.verdict a p.filled text)
     (bytes_part input p.mark.answer.from p.mark.answer.to end start e g)))
 
 -- ---- the last lines
@@ -81,14 +81,14 @@ script_at k input from to start end n r e f g h =
 
 pub begun_joins : (p r : Sitting) (answer to : ℕ) (c : Command) (input text after : List ℕ) (start end : ℕ) (j : Judged)
     → end ≡ least_of to (length input) → start ≡ least_of p.from end
-    → judges j after ≡ judging.begunOf p.mark.kind (take (end - start) (drop start input)) p.filled text
+    → judges j after ≡ judging.begun_of p.mark.kind (take (end - start) (drop start input)) p.filled text
     → r ≡ begun_by p answer to c j (length text)
     → put r after ≡ line_begun p answer to c input text
 unfolding line_begun
 begun_joins p r answer to c input text after start end j e f g h =
     rw h
     (ap (λ (k : Judges). begun_to p answer to c text k)
-    (g ∙ ap (λ (l : List ℕ). judging.begunOf p.mark.kind l p.filled text) (bytes_part input p.from to end start e f)))
+    (g ∙ ap (λ (l : List ℕ). judging.begun_of p.mark.kind l p.filled text) (bytes_part input p.from to end start e f)))
 
 readable : (p : Sitting) (answer to : ℕ) (c : Command) (input text : List ℕ) → readable_of c ≡ true
     → begun_as p answer to c input text ≡ line_begun p answer to c input text

@@ -158,7 +158,7 @@ abbrev pub finished_to : Sitting → List ℕ → Finishes → Put
 finished_to p text f = put (finished_by p f.finished (length text)) f.text
 
 unfoldable pub finish_of : Sitting → List ℕ → List ℕ → Put
-finish_of p input text = finished_to p text (judging.finishedOf p.mark.verdict (part_in p.mark.answer input) p.filled text)
+finish_of p input text = finished_to p text (judging.finished_of p.mark.verdict (part_in p.mark.answer input) p.filled text)
 
 abbrev pub put_to : Stage → Sitting → List ℕ → Printed → Put
 put_to s p text w = put (with_more p p.day p.mark (least_of p.filled (length text)) w.size s) w.text
@@ -177,7 +177,7 @@ error_put p text = last_put (stop_put p text).sitting (stop_put p text).text
 -- it is passed over with its newline, and begun
 abbrev pub begun_by : Sitting → ℕ → ℕ → Command → Judged → ℕ → Sitting
 begun_by p answer to c j size =
-    sitting_of (script.beginOf p.day c) (mark_with p.mark.kind j.verdict p.mark.right (part_of answer to))
+    sitting_of (script.begin_of p.day c) (mark_with p.mark.kind j.verdict p.mark.right (part_of answer to))
     (least_of (wrapped (to + 1)) p.end) p.end p.ended (wrapped (p.lines + 1)) (wrapped (least_of p.filled size + j.written)) p.stage
 
 abbrev pub begun_to : Sitting → ℕ → ℕ → Command → List ℕ → Judges → Put
@@ -185,7 +185,7 @@ begun_to p answer to c text j = put (begun_by p answer to c j.judged (length tex
 
 unfoldable pub line_begun : Sitting → ℕ → ℕ → Command → List ℕ → List ℕ → Put
 line_begun p answer to c input text =
-    begun_to p answer to c text (judging.begunOf p.mark.kind (bytes_from p.from to input) p.filled text)
+    begun_to p answer to c text (judging.begun_of p.mark.kind (bytes_from p.from to input) p.filled text)
 
 unfoldable pub begun_as : Sitting → ℕ → ℕ → Command → List ℕ → List ℕ → Put
 begun_as p answer to command.Unreadable input text = error_put p text

@@ -140,7 +140,7 @@ module _ (text : List ℕ) (at : ℕ) (within : at ≤ length text) (blank : is_
         let y : at + 0 ≡ at = omega arith in
         let g : at < length text → starts_name ([] ++ lower (get_or text at 0) ∷ []) ≡ false = (λ h. rw (e, y) at (no_more_law (omega arith))) in
         rw z (stops_at l ls (want l ls) [] at (unfold ending in refl)
-        (λ b q. steps.want-name l ls b (rw q blank) (λ y. no_open (sym q ∙ y)) (λ y. no-hash (sym q ∙ y))) g)
+        (λ b q. steps.want_name l ls b (rw q blank) (λ y. no_open (sym q ∙ y)) (λ y. no-hash (sym q ∙ y))) g)
 
     unknown_later : 0 < n → (cs : List ℕ) → names.walks [] cs ≡ true → shared cs (drop at text) ≡ n → n < length cs → from (want l ls) at text ≡ refused
         (at + n) reason.Item
@@ -188,7 +188,7 @@ module _ (text : List ℕ) (at : ℕ) where
   unfolding item_at named_at
   item_end h =
       let z : at + 0 ≡ at = omega arith in
-      rw (places.no-rest text at h, places.end-byte text at (places.no-rest text at h), nothing_found, z)
+      rw (places.no_rest text at h, places.end_byte text at (places.no_rest text at h), nothing_found, z)
 
   module _ (b : ℕ) (hb : b ≡ get_or text at 0) where
     pub item_hash : b ≡ 35 → (r : Item) → r ≡ hash_from 4 0 (at + 1) (drop (at + 1) text) → r ≡ item_at text at
@@ -224,10 +224,10 @@ module _ (text : List ℕ) (at : ℕ) (within : at ≤ length text) (blank : is_
       record {
         forward = omega (arith, k.0);
         within = k.1;
-        runs = λ l ls. places.goes text at 35 (want l ls) (inside (hash 0 0) l ls) h (omega arith) (steps.want-hash l ls) ∙ k.2 l ls;
+        runs = λ l ls. places.goes text at 35 (want l ls) (inside (hash 0 0) l ls) h (omega arith) (steps.want_hash l ls) ∙ k.2 l ls;
       }
   hash_item h (item-read.Wrong p) k = λ l ls.
-      places.goes text at 35 (want l ls) (inside (hash 0 0) l ls) h (omega arith) (steps.want-hash l ls) ∙ k l ls
+      places.goes text at 35 (want l ls) (inside (hash 0 0) l ls) h (omega arith) (steps.want_hash l ls) ∙ k l ls
 
   named_item : (get_or text at 0 ≡ 35 → ⊥) → (f : Found) → found (drop at text) ≡ f → ItemRead text at (named_at at f)
   unfolding named_at

@@ -93,10 +93,10 @@ module _ (text : List ℕ) (p : ℕ) where
 
   pub number_ends : (id : ℕ) (c : Comparison) (v : ℕ) → digit (get_or text p 0) ≡ false → (get_or text p 0 ≡ 58 → ⊥)
       → (l : Level) (ls : List Level) → Goes text (inside (digits id c v) l ls) p (behind l ls (number_relation id c (width_of id v) v)) p
-  number_ends id c v h i l ls = steps.number-ends id c l ls v p (drop p text) (rw first_byte h, λ z. i (sym first_byte ∙ z))
+  number_ends id c v h i l ls = steps.number_ends id c l ls v p (drop p text) (rw first_byte h, λ z. i (sym first_byte ∙ z))
 
   pub order_ends : (id : ℕ) (c : Comparison) → (get_or text p 0 ≡ 61 → ⊥) → GoesIn text (order id c) p (constant id c) p
-  order_ends id c h l ls = steps.order-ends id c l ls p (drop p text) (λ z. h (sym first_byte ∙ z))
+  order_ends id c h l ls = steps.order_ends id c l ls p (drop p text) (λ z. h (sym first_byte ∙ z))
 
 -- ---- blanks
 

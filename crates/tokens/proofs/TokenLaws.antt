@@ -74,7 +74,7 @@ module _ (text : List ℕ) (at n v : ℕ) (h : Hashing text at n v) (b d : ℕ) 
   no_hex i = le-ltb (hex_of b) 16 (omega (arith, hd))
 
   pub hashing_in : d < 16 → at + n < length text
-  hashing_in i = places.byte-in text (at + n) b (sym hb) (tests.hex-high b (is_hex_law i))
+  hashing_in i = places.byte_in text (at + n) b (sym hb) (tests.hex_high b (is_hex_law i))
 
   pub hashing_more : d < 16 → Hashing text at (n + 1) (16 * v + d)
   unfolding hash_from
@@ -104,7 +104,7 @@ module _ (text : List ℕ) (at n v : ℕ) (h : Hashing text at n v) (b d : ℕ) 
 
       by : (t : Bool) → ltb (at + n) (length text) ≡ t → item-read.Wrong (at + n) ≡ hash_from (suc (4 - (n + 1))) v (at + n) (drop (at + n) text)
       by true z = unfold hash_from in rw (places.rest_of text (at + n) b (sym hb) (ltb-true (at + n) (length text) z), no_hex i)
-      by false z = unfold hash_from in rw (places.no-rest text (at + n) (ltb-false (at + n) (length text) z))
+      by false z = unfold hash_from in rw (places.no_rest text (at + n) (ltb-false (at + n) (length text) z))
 
       wrong : item-read.Wrong (at + n) ≡ hash_from (4 - n) v (at + n) (drop (at + n) text)
       wrong = rw m (by (ltb (at + n) (length text)) refl)
@@ -126,7 +126,7 @@ hash_later text m k v at w i g (item-read.Wrong p) h = λ l ls. g l ls ∙ h l l
 
 hash_goes : (text : List ℕ) (m k v : ℕ) (bs : List ℕ) (at : ℕ) → k + suc m ≡ 4 → drop at text ≡ bs → HashGoes text m k v at (hash_from (suc m) v at bs)
 unfolding hash_from HashGoes
-hash_goes text m k v [] at h e = places.part-wrong text at (hash k v) reason.Item (rw (places.end-byte text at e) (unfold part_of lower hex_value in refl))
+hash_goes text m k v [] at h e = places.part_wrong text at (hash k v) reason.Item (rw (places.end_byte text at e) (unfold part_of lower hex_value in refl))
 hash_goes text m k v (b ∷ bs) at h e = by (places.next text at b bs e) (λ m j d. hash_goes text m (suc k) (16 * v + hex_of b) bs (at + 1) j d)
     (is_hex_digit b) refl
   where
@@ -141,12 +141,12 @@ hash_goes text m k v (b ∷ bs) at h e = by (places.next text at b bs e) (λ m j
     more n ih z zero h = (
       omega arith,
       omega (arith, n.inside),
-      λ l ls. rw (← add-one at) (places.part-goes text at (hash k v) (item (16 * v + hex_of b)) b n.byte (tests.hex-high b z)
+      λ l ls. rw (← add-one at) (places.part_goes text at (hash k v) (item (16 * v + hex_of b)) b n.byte (tests.hex_high b z)
           (hex-part z ∙ rw (eq-eqb k 3 (omega arith))) l ls),
     )
     more n ih z (suc m) h =
         hash_later text m k v at (16 * v + hex_of b) n.inside
-        (places.part-goes text at (hash k v) (hash (suc k) (16 * v + hex_of b)) b n.byte (tests.hex-high b z)
+        (places.part_goes text at (hash k v) (hash (suc k) (16 * v + hex_of b)) b n.byte (tests.hex_high b z)
         (hex-part z ∙ rw (ne_eqb k 3 (λ y. omega arith))))
         (hash_from (suc m) (16 * v + hex_of b) (suc at) bs)
         (rw (← add-one at) (ih m (omega arith) n.rest))
@@ -154,7 +154,7 @@ hash_goes text m k v (b ∷ bs) at h e = by (places.next text at b bs e) (λ m j
     by : places.Next text at b bs → Later → (t : Bool) → is_hex_digit b ≡ t → HashGoes text m k v at
         (cond t (hash_from m (16 * v + hex_of b) (suc at) bs) (item-read.Wrong at))
     by n ih true z = more n ih z m h
-    by n ih false z = places.part-wrong text at (hash k v) reason.Item (rw n.byte (unfold part_of in rw z))
+    by n ih false z = places.part_wrong text at (hash k v) reason.Item (rw n.byte (unfold part_of in rw z))
 
 abbrev pub HashRead : List ℕ → ℕ → Item → Type 0
 HashRead text at (item-read.Is id e) = (at + 4 ≡ e) × (e ≤ length text) × GoesIn text (hash 0 0) at (item id) e
@@ -180,7 +180,7 @@ SignRead text at (sign.Wrong p) = (id : ℕ) → StopsIn text (item id) at p rea
 
 module _ (text : List ℕ) (at b : ℕ) (hb : get_or text at 0 ≡ b) (high : 0 < b) where
   inside_text : at + 1 ≤ length text
-  inside_text = omega (arith, places.byte-in text at b hb high)
+  inside_text = omega (arith, places.byte_in text at b hb high)
 
   order_read : (c : Comparison) → ((id : ℕ) → part_of (item id) b ≡ on (order id c)) → (t : Bool) → eqb (get_or text (at + 1) 0) 61 ≡ t
       → SignRead text at (cond t (sign.Is (or_equal c) (at + 1 + 1)) (sign.Is c (at + 1)))
@@ -188,16 +188,16 @@ module _ (text : List ℕ) (at b : ℕ) (hb : get_or text at 0 ≡ b) (high : 0 
       let y : get_or text (at + 1) 0 ≡ 61 = eqb-true (get_or text (at + 1) 0) 61 z in
       record {
         forward = omega arith;
-        within = omega (arith, places.byte-in text (at + 1) 61 y (omega arith));
-        runs = λ id l ls. places.part-goes text at (item id) (order id c) b hb high (h id) l ls
-            ∙ places.part-goes text (at + 1) (order id c) (constant id (or_equal c)) 61 y (omega arith) (unfold part_of in refl) l ls;
+        within = omega (arith, places.byte_in text (at + 1) 61 y (omega arith));
+        runs = λ id l ls. places.part_goes text at (item id) (order id c) b hb high (h id) l ls
+            ∙ places.part_goes text (at + 1) (order id c) (constant id (or_equal c)) 61 y (omega arith) (unfold part_of in refl) l ls;
       }
   order_read c h false z =
       record {
         forward = omega arith;
         within = inside_text;
-        runs = λ id l ls. places.part-goes text at (item id) (order id c) b hb high (h id) l ls
-            ∙ places.order-ends text (at + 1) id c (eqb-false (get_or text (at + 1) 0) 61 z) l ls;
+        runs = λ id l ls. places.part_goes text at (item id) (order id c) b hb high (h id) l ls
+            ∙ places.order_ends text (at + 1) id c (eqb-false (get_or text (at + 1) 0) 61 z) l ls;
       }
 
   second_read : (c : Comparison) → ((id : ℕ) → part_of (item id) b ≡ on (half id c)) → (t : Bool) → eqb (get_or text (at + 1) 0) 61 ≡ t
@@ -206,13 +206,13 @@ module _ (text : List ℕ) (at b : ℕ) (hb : get_or text at 0 ≡ b) (high : 0 
       let y : get_or text (at + 1) 0 ≡ 61 = eqb-true (get_or text (at + 1) 0) 61 z in
       record {
         forward = omega arith;
-        within = omega (arith, places.byte-in text (at + 1) 61 y (omega arith));
-        runs = λ id l ls. places.part-goes text at (item id) (half id c) b hb high (h id) l ls
-            ∙ places.part-goes text (at + 1) (half id c) (constant id c) 61 y (omega arith) (unfold part_of in refl) l ls;
+        within = omega (arith, places.byte_in text (at + 1) 61 y (omega arith));
+        runs = λ id l ls. places.part_goes text at (item id) (half id c) b hb high (h id) l ls
+            ∙ places.part_goes text (at + 1) (half id c) (constant id c) 61 y (omega arith) (unfold part_of in refl) l ls;
       }
   second_read c h false z = λ id l ls.
-      places.part-goes text at (item id) (half id c) b hb high (h id) l ls
-      ∙ places.part-wrong text (at + 1) (half id c) reason.Operator
+      places.part_goes text at (item id) (half id c) b hb high (h id) l ls
+      ∙ places.part_wrong text (at + 1) (half id c) reason.Operator
       (unfold part_of in rw (ne_eqb (get_or text (at + 1) 0) 61 (eqb-false (get_or text (at + 1) 0) 61 z))) l ls
 
 pub sign_read : (text : List ℕ) (at : ℕ) → is_blank (get_or text at 0) ≡ false → SignRead text at (sign_at text at)
@@ -224,7 +224,7 @@ sign_read text at blank = by1 (eqb (get_or text at 0) 60) refl
     by4 x y z true e =
         second_read text at 33 (eqb-true (get_or text at 0) 33 e) (omega arith) NotEqual (λ id. unfold part_of is_blank in refl)
         (eqb (get_or text (at + 1) 0) 61) refl
-    by4 x y z false e = λ id l ls. places.part-wrong text at (item id) reason.Operator (unfold part_of in rw (blank, x, y, z, e)) l ls
+    by4 x y z false e = λ id l ls. places.part_wrong text at (item id) reason.Operator (unfold part_of in rw (blank, x, y, z, e)) l ls
 
     by3 : eqb (get_or text at 0) 60 ≡ false → eqb (get_or text at 0) 62 ≡ false → (t : Bool) → eqb (get_or text at 0) 61 ≡ t
         → SignRead text at (cond t (cond (eqb (get_or text (at + 1) 0) 61) (sign.Is Equal (at + 1 + 1)) (sign.Wrong (at + 1)))
@@ -265,7 +265,7 @@ module _ (text : List ℕ) (at first : ℕ) where
   module _ (e v : ℕ) (r : Counting text at first e v) (b : ℕ) (hb : b ≡ get_or text e 0) where
     module _ (d : digit b ≡ true) where
       pub counting_in : e < length text
-      counting_in = places.byte-in text e b (sym hb) (omega (arith, tests.digit-least b d))
+      counting_in = places.byte_in text e b (sym hb) (omega (arith, tests.digit_least b d))
 
       pub counting_more : 10 * v + (b - 48) ≤ 4294967295 → Counting text at first (e + 1) (10 * v + (b - 48))
       unfolding amount_from
@@ -283,7 +283,7 @@ module _ (text : List ℕ) (at first : ℕ) where
       where
         by : (t : Bool) → ltb e (length text) ≡ t → amount.Is v e ≡ amount_from v e (drop e text)
         by true z = unfold amount_from in rw (places.rest_of text e b (sym hb) (ltb-true e (length text) z), d)
-        by false z = unfold amount_from in rw (places.no-rest text e (ltb-false e (length text) z))
+        by false z = unfold amount_from in rw (places.no_rest text e (ltb-false e (length text) z))
 
 pub record AmountIs (text : List ℕ) (at first v e : ℕ) : Type 0 where
   pub forward : at ≤ e
@@ -304,7 +304,7 @@ amount_later text at v w g (amount.Large p) h = λ id c l ls. g id c l ls ∙ h 
 pub amount_read : (text : List ℕ) (bs : List ℕ) (v at : ℕ) → drop at text ≡ bs → at ≤ length text → AmountRead text at v (amount_from v at bs)
 unfolding amount_from
 amount_read text [] v at e h =
-    record { forward = omega arith; within = h; stops = rw (places.end-byte text at e) (unfold digit in refl); runs = λ id c l ls. refl }
+    record { forward = omega arith; within = h; stops = rw (places.end_byte text at e) (unfold digit in refl); runs = λ id c l ls. refl }
 amount_read text (b ∷ bs) v at e h =
     by (places.next text at b bs e) (λ d i. amount_read text bs (10 * v + (b - 48)) (at + 1) d i) (digit b) refl
   where
@@ -314,11 +314,11 @@ amount_read text (b ∷ bs) v at e h =
     more : places.Next text at b bs → Later → digit b ≡ true → (t : Bool) → leb (10 * v + (b - 48)) 4294967295 ≡ t
         → AmountRead text at v (cond t (amount_from (10 * v + (b - 48)) (suc at) bs) (amount.Large at))
     more n ih d true z =
-        amount_later text at v (10 * v + (b - 48)) (λ id c. places.part-goes text at (digits id c v) (digits id c (10 * v + (b - 48))) b n.byte
-        (omega (arith, tests.digit-least b d)) (steps.digit-more id c v b d (leb-true (10 * v + (b - 48)) 4294967295 z)))
+        amount_later text at v (10 * v + (b - 48)) (λ id c. places.part_goes text at (digits id c v) (digits id c (10 * v + (b - 48))) b n.byte
+        (omega (arith, tests.digit_least b d)) (steps.digit_more id c v b d (leb-true (10 * v + (b - 48)) 4294967295 z)))
         (amount_from (10 * v + (b - 48)) (suc at) bs) (rw (← add-one at) (ih n.rest (omega (arith, n.inside))))
-    more n ih d false z = λ id c. places.part-wrong text at (digits id c v) reason.Large
-        (rw n.byte (steps.digit-large id c v b d (leb-false (10 * v + (b - 48)) 4294967295 z)))
+    more n ih d false z = λ id c. places.part_wrong text at (digits id c v) reason.Large
+        (rw n.byte (steps.digit_large id c v b d (leb-false (10 * v + (b - 48)) 4294967295 z)))
 
     by : places.Next text at b bs → Later → (t : Bool) → digit b ≡ t
         → AmountRead text at v (cond t (cond (leb (10 * v + (b - 48)) 4294967295) (amount_from (10 * v + (b - 48)) (suc at) bs) (amount.Large at))
@@ -361,15 +361,15 @@ size_read text at id v within h = by (eqb (get_or text at 0) 58) refl
         let u : 0 < get_or text (at + 1) 0 = omega (arith, width_least (get_or text (at + 1) 0) v z) in
         record {
           forward = omega arith;
-          within = omega (arith, places.byte-in text (at + 1) (get_or text (at + 1) 0) refl u);
+          within = omega (arith, places.byte_in text (at + 1) (get_or text (at + 1) 0) refl u);
           good = digit_width (get_or text (at + 1) 0) v z;
-          runs = λ c l ls. places.part-goes text at (digits id c v) (colon id c v) 58 e (omega arith) (steps.digits-colon id c v) l ls
-              ∙ (rw y at (places.part-whole text (at + 1) (colon id c v) (number_relation id c (get_or text (at + 1) 0 - 48) v) (get_or text (at + 1) 0) refl u
-              (steps.colon-width id c v (get_or text (at + 1) 0) z) l ls));
+          runs = λ c l ls. places.part_goes text at (digits id c v) (colon id c v) 58 e (omega arith) (steps.digits_colon id c v) l ls
+              ∙ (rw y at (places.part_whole text (at + 1) (colon id c v) (number_relation id c (get_or text (at + 1) 0 - 48) v) (get_or text (at + 1) 0) refl u
+              (steps.colon_width id c v (get_or text (at + 1) 0) z) l ls));
         }
     colon-read e false z = λ c l ls.
-        places.part-goes text at (digits id c v) (colon id c v) 58 e (omega arith) (steps.digits-colon id c v) l ls
-        ∙ places.part-wrong text (at + 1) (colon id c v) reason.Width (unfold part_of in rw z) l ls
+        places.part_goes text at (digits id c v) (colon id c v) 58 e (omega arith) (steps.digits_colon id c v) l ls
+        ∙ places.part_wrong text (at + 1) (colon id c v) reason.Width (unfold part_of in rw z) l ls
 
     by : (t : Bool) → eqb (get_or text at 0) 58 ≡ t
         → SizeRead text at id v (cond t (cond (is_width (get_or text (at + 1) 0) v) (size.Is (get_or text (at + 1) 0 - 48) (at + 2)) (size.Wrong (at + 1)))
@@ -380,7 +380,7 @@ size_read text at id v within h = by (eqb (get_or text at 0) 58) refl
           forward = omega arith;
           within = within;
           good = width_good id v;
-          runs = λ c l ls. places.number-ends text at id c v h (eqb-false (get_or text at 0) 58 e) l ls;
+          runs = λ c l ls. places.number_ends text at id c v h (eqb-false (get_or text at 0) 58 e) l ls;
         }
 
 -- a whole number
@@ -397,14 +397,14 @@ NumberRead text at id (number.Wrong p why) = (c : Comparison) → StopsIn text (
 
 module _ (text : List ℕ) (at id : ℕ) (d : digit (get_or text at 0) ≡ true) where
   high : 0 < get_or text at 0
-  high = omega (arith, tests.digit-least (get_or text at 0) d)
+  high = omega (arith, tests.digit_least (get_or text at 0) d)
 
   pub digit_in : at + 1 ≤ length text
-  digit_in = omega (arith, places.byte-in text at (get_or text at 0) refl high)
+  digit_in = omega (arith, places.byte_in text at (get_or text at 0) refl high)
 
   to_digits : (c : Comparison) → GoesIn text (constant id c) at (digits id c (get_or text at 0 - 48)) (at + 1)
   to_digits c =
-      places.part-goes text at (constant id c) (digits id c (get_or text at 0 - 48)) (get_or text at 0) refl high (steps.wants-digit id c (get_or text at 0) d)
+      places.part_goes text at (constant id c) (digits id c (get_or text at 0 - 48)) (get_or text at 0) refl high (steps.wants_digit id c (get_or text at 0) d)
 
   by_size : (v e : ℕ) → AmountIs text (at + 1) (get_or text at 0 - 48) v e → (s : Size) → SizeRead text e id v s → NumberRead text at id (number_of v s)
   unfolding number_of
@@ -484,15 +484,15 @@ module _ (text : List ℕ) (at : ℕ) (bytes : List ℕ) (p : ℕ) (phase : ℕ 
   added_yes h g =
       record {
         forward = omega arith;
-        within = omega (arith, places.byte-in text p (get_or text p 0) refl high);
+        within = omega (arith, places.byte_in text p (get_or text p 0) refl high);
         room = h;
         runs = λ id c l ls. runs id c l ls
-            ∙ places.part-goes text p (phase id c) (string id c (bytes ++ d ∷ [])) (get_or text p 0) refl high (parts id c ∙ g id c) l ls;
+            ∙ places.part_goes text p (phase id c) (string id c (bytes ++ d ∷ [])) (get_or text p 0) refl high (parts id c ∙ g id c) l ls;
       }
 
   added_no : (why : Reason) → ((id : ℕ) (c : Comparison) → added id c bytes d ≡ stop why) → (id : ℕ) (c : Comparison) → StopsIn text
       (string id c bytes) at p why
-  added_no why g id c l ls = runs id c l ls ∙ places.part-wrong text p (phase id c) why (parts id c ∙ g id c) l ls
+  added_no why g id c l ls = runs id c l ls ∙ places.part_wrong text p (phase id c) why (parts id c ∙ g id c) l ls
 
   added_read : CharacterRead text at bytes (added_at p d (length bytes) (stars_in bytes))
   unfolding added_at added
@@ -512,33 +512,33 @@ module _ (text : List ℕ) (at : ℕ) (bytes : List ℕ) (p : ℕ) (phase : ℕ 
 module _ (text : List ℕ) (at : ℕ) (bytes : List ℕ) where
   module _ (e : get_or text at 0 ≡ 92) (room : length bytes < 255) where
     to_escape : (id : ℕ) (c : Comparison) → GoesIn text (string id c bytes) at (escape id c bytes) (at + 1)
-    to_escape id c = places.part-goes text at (string id c bytes) (escape id c bytes) 92 e (omega arith) (steps.string-escape id c bytes room)
+    to_escape id c = places.part_goes text at (string id c bytes) (escape id c bytes) 92 e (omega arith) (steps.string_escape id c bytes room)
 
     quoted : (b : ℕ) → get_or text (at + 1) 0 ≡ b → 0 < b → ((id : ℕ) (c : Comparison) → part_of (escape id c bytes) b ≡ on (string id c (bytes ++ b ∷ [])))
         → CharacterIs text at bytes b (at + 1 + 1)
     quoted b h i g =
         record {
           forward = omega arith;
-          within = omega (arith, places.byte-in text (at + 1) b h i);
+          within = omega (arith, places.byte_in text (at + 1) b h i);
           room = room;
-          runs = λ id c l ls. to_escape id c l ls ∙ places.part-goes text (at + 1) (escape id c bytes) (string id c (bytes ++ b ∷ [])) b h i (g id c) l ls;
+          runs = λ id c l ls. to_escape id c l ls ∙ places.part_goes text (at + 1) (escape id c bytes) (string id c (bytes ++ b ∷ [])) b h i (g id c) l ls;
         }
 
     escape_wrong : (b : ℕ) → get_or text (at + 1) 0 ≡ b → ((id : ℕ) (c : Comparison) → part_of (escape id c bytes) b ≡ stop reason.String)
         → CharacterRead text at bytes (character.Wrong (at + 1) reason.String)
-    escape_wrong b h g id c l ls = to_escape id c l ls ∙ places.part-wrong text (at + 1) (escape id c bytes) reason.String (rw h (g id c)) l ls
+    escape_wrong b h g id c l ls = to_escape id c l ls ∙ places.part_wrong text (at + 1) (escape id c bytes) reason.String (rw h (g id c)) l ls
 
     module _ (x : get_or text (at + 1) 0 ≡ 120) where
       to_coded : (id : ℕ) (c : Comparison) → GoesIn text (string id c bytes) at (coded id c bytes) (at + 1 + 1)
       to_coded id c l ls =
-          to_escape id c l ls ∙ places.part-goes text (at + 1) (escape id c bytes) (coded id c bytes) 120 x (omega arith) (unfold part_of in refl) l ls
+          to_escape id c l ls ∙ places.part_goes text (at + 1) (escape id c bytes) (coded id c bytes) 120 x (omega arith) (unfold part_of in refl) l ls
 
       first_hex : is_hex_digit (get_or text (at + 1 + 1) 0) ≡ true → (id : ℕ) (c : Comparison)
           → GoesIn text (string id c bytes) at (code id c bytes (hex_of (get_or text (at + 1 + 1) 0))) (at + 1 + 1 + 1)
       first_hex h id c l ls =
           to_coded id c l ls
-          ∙ places.part-goes text (at + 1 + 1) (coded id c bytes) (code id c bytes (hex_of (get_or text (at + 1 + 1) 0))) (get_or text (at + 1 + 1) 0) refl
-          (tests.hex-high (get_or text (at + 1 + 1) 0) h) (unfold part_of in rw h) l ls
+          ∙ places.part_goes text (at + 1 + 1) (coded id c bytes) (code id c bytes (hex_of (get_or text (at + 1 + 1) 0))) (get_or text (at + 1 + 1) 0) refl
+          (tests.hex_high (get_or text (at + 1 + 1) 0) h) (unfold part_of in rw h) l ls
 
       code_read : CharacterRead text at bytes (code_at text (at + 1 + 1) (length bytes) (stars_in bytes))
       unfolding code_at
@@ -551,10 +551,10 @@ module _ (text : List ℕ) (at : ℕ) (bytes : List ℕ) where
           second h true z =
               added_read text at bytes (at + 1 + 1 + 1) (λ id c. code id c bytes (hex_of (get_or text (at + 1 + 1) 0)))
               (16 * hex_of (get_or text (at + 1 + 1) 0) + hex_of (get_or text (at + 1 + 1 + 1) 0)) (omega arith) (first_hex h) (λ id c. unfold part_of in rw z)
-              (tests.hex-high (get_or text (at + 1 + 1 + 1) 0) z)
+              (tests.hex_high (get_or text (at + 1 + 1 + 1) 0) z)
           second h false z = λ id c l ls.
               first_hex h id c l ls
-              ∙ places.part-wrong text (at + 1 + 1 + 1) (code id c bytes (hex_of (get_or text (at + 1 + 1) 0))) reason.String (unfold part_of in rw z) l ls
+              ∙ places.part_wrong text (at + 1 + 1 + 1) (code id c bytes (hex_of (get_or text (at + 1 + 1) 0))) reason.String (unfold part_of in rw z) l ls
 
           by : (t : Bool) → is_hex_digit (get_or text (at + 1 + 1) 0) ≡ t
               → CharacterRead text at bytes (cond t
@@ -563,7 +563,7 @@ module _ (text : List ℕ) (at : ℕ) (bytes : List ℕ) where
               (character.Wrong (at + 1 + 1 + 1) reason.String))
               (character.Wrong (at + 1 + 1) reason.String))
           by true z = second z (is_hex_digit (get_or text (at + 1 + 1 + 1) 0)) refl
-          by false z = λ id c l ls. to_coded id c l ls ∙ places.part-wrong text (at + 1 + 1) (coded id c bytes) reason.String (unfold part_of in rw z) l ls
+          by false z = λ id c l ls. to_coded id c l ls ∙ places.part_wrong text (at + 1 + 1) (coded id c bytes) reason.String (unfold part_of in rw z) l ls
 
     escape_read : CharacterRead text at bytes (escape_at text (at + 1) (length bytes) (stars_in bytes))
     unfolding escape_at
@@ -594,13 +594,13 @@ module _ (text : List ℕ) (at : ℕ) (bytes : List ℕ) where
           → CharacterRead text at bytes (cond t (added_at at (get_or text at 0) (length bytes) (stars_in bytes)) (character.Wrong at reason.String))
       by3 x y true z =
           added_read text at bytes at (λ id c. string id c bytes) (get_or text at 0) (omega arith) (λ id c l ls. refl) (λ id c. unfold part_of in rw (x, y, z))
-          (omega (arith, tests.printed-least (get_or text at 0) z))
-      by3 x y false z = λ id c. places.part-wrong text at (string id c bytes) reason.String (unfold part_of in rw (x, y, z))
+          (omega (arith, tests.printed_least (get_or text at 0) z))
+      by3 x y false z = λ id c. places.part_wrong text at (string id c bytes) reason.String (unfold part_of in rw (x, y, z))
 
       escape_or_long : get_or text at 0 ≡ 92 → (t : Bool) → ltb (length bytes) 255 ≡ t
           → CharacterRead text at bytes (cond t (escape_at text (at + 1) (length bytes) (stars_in bytes)) (character.Wrong at reason.Long))
       escape_or_long e true z = escape_read e (ltb-true (length bytes) 255 z)
-      escape_or_long e false z = λ id c. places.part-wrong text at (string id c bytes) reason.Long (unfold part_of in rw (e, z))
+      escape_or_long e false z = λ id c. places.part_wrong text at (string id c bytes) reason.Long (unfold part_of in rw (e, z))
 
       by2 : eqb (get_or text at 0) 34 ≡ false → (t : Bool) → eqb (get_or text at 0) 92 ≡ t
           → CharacterRead text at bytes (cond t (cond (ltb (length bytes) 255) (escape_at text (at + 1) (length bytes) (stars_in bytes))

@@ -145,7 +145,7 @@ module _ (sv : Server) (l : Lent) (g : Good sv l) where
       let s : q + 1 ≡ suc q = omega arith in
       by_equal (file_at fs q).number 0
       (λ z. within_free fs one (λ f. blocks_for f.size) sv.last.number q z
-      ∙ sym (soundness.free-blocks (map_part sv l) (owner_part sv l) (table_part sv l) sv.last.number sv.last.time (facts sv l g).store q z)
+      ∙ sym (soundness.free_blocks (map_part sv l) (owner_part sv l) (table_part sv l) sv.last.number sv.last.time (facts sv l g).store q z)
       ∙ ap (λ (k : ℕ). blocks k (owner_part sv l)) s)
       (λ z. within_file fs one (λ f. blocks_for f.size) sv.last.number q (known q) z
       ∙ sym (file_blocks (map_part sv l) (owner_part sv l) (table_part sv l) sv.last.number sv.last.time (facts sv l g).store q z)

@@ -64,33 +64,33 @@ module _ (m : Mem) (once : Distinct (numbers (files m.table))) (selected : List 
 
   module _ (last : Last) (st : Stored m last) (long : Bool) where
     placed_entry : (place : ℕ) → CompleteAt fs place
-        → listing.entryIn long m.disk m.owner fs (At place) ≡ entry_in long (file_in (files_in m) (At place))
-    unfolding listing.entryIn entry_at
+        → listing.entry_in long m.disk m.owner fs (At place) ≡ entry_in long (file_in (files_in m) (At place))
+    unfolding listing.entry_in entry_at
     placed_entry place c =
         rw (disk_is m.disk m.owner st.sizes place
         (place_most m.map m.owner m.table last.number last.time st.sound place c.number))
 
-    entry_is : (n : ℕ) → Selectable fs n → listing.entryIn long m.disk m.owner fs (find_of fs n) ≡ entry_by m long n
+    entry_is : (n : ℕ) → Selectable fs n → listing.entry_in long m.disk m.owner fs (find_of fs n) ≡ entry_by m long n
     entry_is n h =
-        ap (listing.entryIn long m.disk m.owner fs) h.found ∙ placed_entry h.place h.complete
+        ap (listing.entry_in long m.disk m.owner fs) h.found ∙ placed_entry h.place h.complete
         ∙ ap (λ (x : Found). entry_in long (file_in (files_in m) x)) (sym h.found)
 
     all_entries : (ns : List ℕ) → AllNamed fs ns
-        → map (listing.entryIn long m.disk m.owner fs) (map (find_of fs) ns) ≡ map (entry_by m long) ns
+        → map (listing.entry_in long m.disk m.owner fs) (map (find_of fs) ns) ≡ map (entry_by m long) ns
     all_entries [] f = refl
     all_entries (n ∷ ns) f =
         ap₂ (λ (x : List ℕ) (xs : List (List ℕ)). x ∷ xs) (entry_is n (f 0 (omega arith))) (all_entries ns (λ k h. f (suc k) (omega arith)))
 
     -- those that a filling takes are those of the machine
     pub entries_are : (l : Listed) → One l
-        → listing.entriesOf l long next m.disk m.owner fs selected ≡ map (entry_by m long) (names_of (files_in m) selected next l)
+        → listing.entries_of l long next m.disk m.owner fs selected ≡ map (entry_by m long) (names_of (files_in m) selected next l)
     entries_are l one =
-        ap (map (listing.entryIn long m.disk m.owner fs)) (found_names l one)
+        ap (map (listing.entry_in long m.disk m.owner fs)) (found_names l one)
         ∙ all_entries (names_of (files_in m) selected next l) (names_named l one)
 
     pub behind_is : (l : Listed) → One l → (done sent : ℕ)
         → bytes_behind (by_number m) long (names_of (files_in m) selected next l) done sent
-        ≡ length (running_on (take done (listing.entriesOf l long next m.disk m.owner fs selected))) + sent
+        ≡ length (running_on (take done (listing.entries_of l long next m.disk m.owner fs selected))) + sent
     behind_is l one done sent =
         ap (λ (es : List (List ℕ)). length (running_on es) + sent)
         (sym (ap (take done) (entries_are l one) ∙ take_map (entry_by m long) done (names_of (files_in m) selected next l)))

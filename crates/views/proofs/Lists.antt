@@ -20,7 +20,7 @@ unfolding each
 each_length zero f = refl
 each_length (suc n) f = ap suc (each_length n (λ i. f (suc i)))
 
-pub each_at : (n : ℕ) (f : ℕ → model.Session) (i : ℕ) → i < n → get_or (each n f) i model.closedSession ≡ f i
+pub each_at : (n : ℕ) (f : ℕ → model.Session) (i : ℕ) → i < n → get_or (each n f) i model.closed_session ≡ f i
 unfolding each
 each_at zero f i h = absurd (omega arith)
 each_at (suc n) f zero h = refl

@@ -88,18 +88,18 @@ module _ (sv : Server) (l : Lent) (g : Good sv l) where
 
   -- ---- sessions
 
-  pub link_view : (i : ℕ) → i < sv.sessions → model.sessionAt (view sv l) i ≡ session_of sv l i
+  pub link_view : (i : ℕ) → i < sv.sessions → model.session_at (view sv l) i ≡ session_of sv l i
   link_view i h = each_at sv.sessions (session_of sv l) i h
 
 pub linked_from : (F : Files) (N : ℕ → Option File) (selected held : List ℕ) (s : Session) → (session_from F N selected held s).linked ≡ s.linked
 linked_from F N selected held s = go s.linked
   where
-    go : (b : Bool) → (cond b (open_from F N selected held s) model.closedSession).linked ≡ b
+    go : (b : Bool) → (cond b (open_from F N selected held s) model.closed_session).linked ≡ b
     go true = refl
     go false = refl
 
 pub open_from_law : (F : Files) (N : ℕ → Option File) (selected held : List ℕ) (s : Session) → s.linked ≡ true → session_from F N selected held s ≡ open_from F N selected held s
-open_from_law F N selected held s e = ap (λ (b : Bool). cond b (open_from F N selected held s) model.closedSession) e
+open_from_law F N selected held s e = ap (λ (b : Bool). cond b (open_from F N selected held s) model.closed_session) e
 
 -- ---- the check
 
@@ -128,7 +128,7 @@ module _ (sv : Server) (l : Lent) (g : Good sv l) (session : ℕ) (wanted : Bool
   i = session - 1
 
   abbrev there : Bool
-  there = (model.sessionAt (view sv l) i).linked
+  there = (model.session_at (view sv l) i).linked
 
   linked_is : i < sv.sessions → there ≡ (link_of sv i).linked
   linked_is h = ap (λ (k : model.Session). k.linked) (link_view sv l g i h) ∙ linked_from _ _ _ _ (link_of sv i)
@@ -189,7 +189,7 @@ module _ (sv : Server) (l : Lent) (g : Good sv l) (i : ℕ) (inside : i < sv.ses
       → ((j : ℕ) → (j ≡ i → ⊥) → part (j * sv.most) sv.most selected ≡ part (j * sv.most) sv.most l.selected)
       → ((j : ℕ) → (j ≡ i → ⊥) → part (j * 258) 258 held ≡ part (j * 258) 258 l.held)
       → view (with_link sv i s) (lent l.disk l.map l.owner l.table selected held)
-      ≡ model.withSession (view sv l) i
+      ≡ model.with_session (view sv l) i
       (session_from (files_of sv l) (numbered sv l) (part (i * sv.most) sv.most selected) (part (i * 258) 258 held) s)
   link_moved s selected held p q =
       ap (λ (ks : List model.Session). model.model (view sv l) sv.last.number sv.last.time (view sv l).files ks)
@@ -212,7 +212,7 @@ module _ (sv : Server) (l : Lent) (g : Good sv l) (i : ℕ) (inside : i < sv.ses
   -- ---- an open session, changed
 
   module _ (linked : (link_of sv i).linked ≡ true) where
-    pub open_view : model.sessionAt (view sv l) i
+    pub open_view : model.session_at (view sv l) i
         ≡ open_from (files_of sv l) (numbered sv l) (part (i * sv.most) sv.most l.selected) (part (i * 258) 258 l.held) (link_of sv i)
     open_view =
         link_view sv l g i inside
@@ -225,15 +225,15 @@ module _ (sv : Server) (l : Lent) (g : Good sv l) (i : ℕ) (inside : i < sv.ses
         → view (with_link sv i s) l ≡ in_session i h (view sv l)
     state_moved s h o e =
         link_moved s l.selected l.held (λ j n. refl) (λ j n. refl)
-        ∙ ap (model.withSession (view sv l) i)
+        ∙ ap (model.with_session (view sv l) i)
         (open_from_law (files_of sv l) (numbered sv l) (part (i * sv.most) sv.most l.selected) (part (i * 258) 258 l.held) s o ∙ e ∙ ap h (sym open_view))
 
-  pub link_stays : model.withSession (view sv l) i (model.sessionAt (view sv l) i) ≡ view sv l
+  pub link_stays : model.with_session (view sv l) i (model.session_at (view sv l) i) ≡ view sv l
   link_stays =
       ap (λ (ks : List model.Session). model.model (view sv l) sv.last.number sv.last.time (view sv l).files ks)
-      (set-get_or (each sv.sessions (session_of sv l)) i model.closedSession)
+      (set-get_or (each sv.sessions (session_of sv l)) i model.closed_session)
 
   pub view_stays : view (with_link sv i (link_of sv i)) l ≡ view sv l
   view_stays =
       link_moved (link_of sv i) l.selected l.held (λ j n. refl) (λ j n. refl)
-      ∙ ap (model.withSession (view sv l) i) (sym (link_view sv l g i inside)) ∙ link_stays
+      ∙ ap (model.with_session (view sv l) i) (sym (link_view sv l g i inside)) ∙ link_stays

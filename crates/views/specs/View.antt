@@ -80,7 +80,7 @@ open_from F N selected held s =
     }
 
 abbrev pub session_from : Files → (ℕ → Option File) → List ℕ → List ℕ → Session → model.Session
-session_from F N selected held s = cond s.linked (open_from F N selected held s) model.closedSession
+session_from F N selected held s = cond s.linked (open_from F N selected held s) model.closed_session
 
 -- session i, counted from 0
 abbrev pub session_of : Server → Lent → ℕ → model.Session

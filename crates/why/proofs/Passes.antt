@@ -77,7 +77,7 @@ module _ (steps ms : List ℕ) (bits : List Bool) (from row : List ℕ) (d n i k
   pub pass_end : length steps ≤ i → Tells (result_by steps ms) (record { matched = get_or bits 0 false; count = n }) row
   pass_end l =
       tells (tree.result (stack_of bits from d (take n row))) _ row (unfold rest run in rw (drop_of_length-le steps {i = i} l))
-      (stacks.tells-end bits from row d n h.begun (omega (arith, row_room, h.row_size)))
+      (stacks.tells_end bits from row d n h.begun (omega (arith, row_room, h.row_size)))
 
   module _ (l : i < length steps) where
     pub pass_bad : (r : Decided) → 2049 < get_or steps i 0 → Tells (result_by steps ms) r row
@@ -107,7 +107,7 @@ module _ (steps ms : List ℕ) (bits : List Bool) (from row : List ℕ) (d n i k
 
       pub pass_few : (r : Decided) → d < 2 → Tells (result_by steps ms) r row
       unfolding bind
-      pass_few r g = tells none r row (joins none (stacks.join-few (join_of (eqb (get_or steps i 0) 2048)) bits from d (take n row) g)) tt
+      pass_few r g = tells none r row (joins none (stacks.join_few (join_of (eqb (get_or steps i 0) 2048)) bits from d (take n row) g)) tt
 
       pub pass_join : (p q v : Bool) (r : ℕ) (row' : List ℕ)
           → 2 ≤ d
@@ -131,11 +131,11 @@ module _ (steps ms : List ℕ) (bits : List Bool) (from row : List ℕ) (d n i k
             row_size = s ∙ h.row_size;
             filled = omega (arith, y.0, h.filled);
             numbered = rw (add-one i) (omega (arith, fewer, h.numbered));
-            begun = stacks.join-begin bits from (take n row) d n (eqb (get_or steps i 0) 2048) p q v g (omega (arith, h.bits_size, h.in_stack)) m
+            begun = stacks.join_begin bits from (take n row) d n (eqb (get_or steps i 0) 2048) p q v g (omega (arith, h.bits_size, h.in_stack)) m
                 h.begun hp hq hv r c;
             same =
                 h.same
-                ∙ joins _ (stacks.join-two bits from (take n row) d n (eqb (get_or steps i 0) 2048) p q v g (omega (arith, h.bits_size, h.in_stack)) m
+                ∙ joins _ (stacks.join_two bits from (take n row) d n (eqb (get_or steps i 0) 2048) p q v g (omega (arith, h.bits_size, h.in_stack)) m
                 h.begun hp hq hv)
                 ∙ rw (add-one i, t);
           }
@@ -156,7 +156,7 @@ module _ (steps ms : List ℕ) (bits : List Bool) (from row : List ℕ) (d n i k
 
       pub pass_full : (r : Decided) → 100 ≤ d → Tells (result_by steps ms) r row
       unfolding bind
-      pass_full r f = tells none r row (pushes none (stacks.push-full bits from (take n row) d _ f)) tt
+      pass_full r f = tells none r row (pushes none (stacks.push_full bits from (take n row) d _ f)) tt
 
       pub pass_rel : d < 100 → Passing steps ms (set bits d (marked_true ms k)) (set from d n) (set row n (k + 1)) (d + 1) (n + 1) (i + 1) (k + 1)
       unfolding bind
@@ -174,9 +174,9 @@ module _ (steps ms : List ℕ) (bits : List Bool) (from row : List ℕ) (d n i k
             row_size = length-set row n (k + 1) ∙ h.row_size;
             filled = omega (arith, h.filled);
             numbered = rw (add-one i) (omega (arith, one_more, h.numbered));
-            begun = stacks.push-begin bits from (take n row) d n (marked_true ms k) (k + 1) a b m h.begun;
+            begun = stacks.push_begin bits from (take n row) d n (marked_true ms k) (k + 1) a b m h.begun;
             same =
                 h.same
-                ∙ pushes _ (stacks.push-room bits from (take n row) d n (marked_true ms k) (k + 1) a b m f)
+                ∙ pushes _ (stacks.push_room bits from (take n row) d n (marked_true ms k) (k + 1) a b m f)
                 ∙ rw (t, add-one k, add-one i);
           }

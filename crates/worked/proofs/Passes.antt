@@ -153,7 +153,7 @@ complete80 =
     0 ∷ 2 ∷ 0 ∷ 0 ∷ 10 ∷ 0 ∷ 2 ∷ 167 ∷ 3 ∷ 11 ∷ 0 ∷ 2 ∷ 80 ∷ 0 ∷ 18 ∷ 0 ∷ 4 ∷ 4 ∷ 0 ∷ 0 ∷ 0 ∷ 0 ∷ 0 ∷ 0 ∷ []
 
 pub small_legal : legal small ≡ true
-unfolding small server-check.sizesFit server-check.roomFits
+unfolding small server-check.sizes_fit server-check.room_fits
 small_legal = refl
 
 -- ---- two links at once
@@ -211,7 +211,7 @@ unchopped =
     start ▸ login 1 5 output ▸ login 2 5 output ▸ of 2 6 (upload 0) ▸ request 1 output ▸ of 1 8 (upload 0) ▸ of 2 8 (80 ∷ 0 ∷ [])
 
 pub pair_legal : legal pair ≡ true
-unfolding pair server-check.sizesFit server-check.roomFits
+unfolding pair server-check.sizes_fit server-check.room_fits
 pair_legal = refl
 
 -- ---- the small server after a history, and what is lent to it
@@ -254,41 +254,41 @@ crowded_model =
 
 unfoldable pub computing : ℕ
 unfolding
-    small opened halfway torn before_upload continued lost_once too_early pair uploads both smallest ones count_trailing_zeros links_sound_law.downlinkSound
-    packet-frame.judged packet-frame.byte packet-frame.withoutPacket packet-frame.answerBy packet-frame.answer_of packet-frame.receiveOf
-    packet-machine.called packet-machine.call byte-numbers.number packet-packet.packetOf session-expected.expectedUp session-expected.expected
-    session-reply.tell session-reply.answered table-table.files table-table.putTable table-table.firstFrom table-fit.fileFits table-fit.recordFits
-    table-fit.recordsFitFrom table-fit.among table-fit.apart table-fit.distinctOf blocks-freemap.freeCount blocks-freemap.lowest
-    blocks-freemap.reservedMap blocks-owners.blocks blocks-owners.countsFrom blocks-owners.nth blocks-owners.reservedOwner blocks-owners.releasedOwner
-    blocks-owners.releasedMap blocks-owners.word_of blocks-owners.mapOf blocks-contents.held blocks-contents.stored blocks-check.within
-    blocks-check.mapIs blocks-check.agreesTest blocks-answers.makeOwner blocks-answers.makeMap blocks-answers.reserveMap blocks-answers.reserveOwner
-    blocks-answers.releaseMap blocks-answers.releaseOwner blocks-answers.writeDisk stored-answers.checkAt stored-answers.setNumber
-    stored-answers.setDisk header-items.head_of header-items.after header-items.walk header-items.marked header-items.fields_of header-header.listed
-    header-header.every header-header.countIf header-header.bytes_of header-header.lengthIn header-header.lengthFits header-header.ordered
-    header-header.proper header-header.complete header-header.sum_of header-header.checkItems header-header.checkValues header-header.verdict
-    header-header.placeFrom header-fields.withFields header-fields.with_sum header-fields.fieldsSet hex.hexDigit files-uploads.beginAt files-uploads.beginIn
-    files-uploads.beginWith files-uploads.placeNumber files-uploads.roomNumber files-uploads.appendNumber files-uploads.appendOf
-    files-uploads.discardNumber files-uploads.discardOf files-completion.checkOf files-completion.completeNumber files-completion.completeOf
-    files-sound.soundTest decide-uplink.onContinued decide-uplink.onUpload decide-uplink.onData decide-uplink.onEnd decide-uplink.onUplink
-    decide-decide.onPacket decide-decide.onFrame decide-decide.decideOf carry-upload.begunTurn carry-upload.begunAs carry-upload.beginWith
-    carry-upload.storedAs carry-upload.appendedAs carry-upload.storeTurn carry-upload.discardTurn carry-upload.timed carry-upload.judgedAt
-    carry-upload.acceptedAs carry-upload.acceptTurn carry-upload.withDisk carry-upload.with_blocks carry-upload.finishAs carry-carry.onFrees
-    carry-carry.onWrites carry-carry.onMoves carry-carry.carryOut links_sound_law.uplinkSound links_sound_law.namesSound links_sound_law.selectionSound
-    links_sound_law.packetSound links_sound_law.linkSound links_sound_law.link_in links_sound_law.linksSound
-    server-check.sizesFit server-check.roomFits server-check.soundParts server-check.inState server-check.sessionCheck server-check.checkBy
-    server-calls.answeredBy server-calls.heardBy server-calls.step_of server-calls.onCheck server-calls.receiveOf server-calls.receiveBy server-calls.onLogin
-    server-calls.loginOf server-calls.loginBy server-calls.onLose server-calls.loseOf server-calls.loseBy server-turns.hearOf server-turns.sizeIn server-turns.put_back server-turns.actOf
-    server-making.emptyOf server-making.makeOf history-calls.made history-calls.after promises-cut.seenIn promises-cut.seen promises-feeding.onward
-    promises-feeding.feed promises-feeding.feedPieces chopped unchopped promises-uncut.onBytes promises-uncut.unlessRefused promises-uncut.uncutOf
-    session-expected.expectedDown decide-downlink.onFound decide-downlink.onNumbered decide-downlink.onDownload decide-downlink.onDownlink
-    carry-download.closeTurn carry-download.selectedAs carry-download.selectTurn carry-carry.onChooses files-selection.selectNumber
-    files-selection.selectOf equation-symbols.starsIn equation-symbols.goodText equation-symbols.goodNumber equation-symbols.good
-    equation-symbols.connectiveOf equation-symbols.relationAt equation-symbols.tokenOf equation-symbols.follow equation-symbols.symbolsPast
+    small opened halfway torn before_upload continued lost_once too_early pair uploads both smallest ones count_trailing_zeros links_sound_law.downlink_sound
+    packet-frame.judged packet-frame.byte packet-frame.without_packet packet-frame.answer_by packet-frame.answer_of packet-frame.receive_of
+    packet-machine.called packet-machine.call byte-numbers.number packet-packet.packet_of session-expected.expected_up session-expected.expected
+    session-reply.tell session-reply.answered table-table.files table-table.put_table table-table.first_from table-fit.file_fits table-fit.record_fits
+    table-fit.records_fit_from table-fit.among table-fit.apart table-fit.distinct_of blocks-freemap.free_count blocks-freemap.lowest
+    blocks-freemap.reserved_map blocks-owners.blocks blocks-owners.counts_from blocks-owners.nth blocks-owners.reserved_owner blocks-owners.released_owner
+    blocks-owners.released_map blocks-owners.word_of blocks-owners.map_of blocks-contents.held blocks-contents.stored blocks-check.within
+    blocks-check.map_is blocks-check.agrees_test blocks-answers.make_owner blocks-answers.make_map blocks-answers.reserve_map blocks-answers.reserve_owner
+    blocks-answers.release_map blocks-answers.release_owner blocks-answers.write_disk stored-answers.check_at stored-answers.set_number
+    stored-answers.set_disk header-items.head_of header-items.after header-items.walk header-items.marked header-items.fields_of header-header.listed
+    header-header.every header-header.count_if header-header.bytes_of header-header.length_in header-header.length_fits header-header.ordered
+    header-header.proper header-header.complete header-header.sum_of header-header.check_items header-header.check_values header-header.verdict
+    header-header.place_from header-fields.with_fields header-fields.with_sum header-fields.fields_set hex.hex_digit files-uploads.begin_at files-uploads.begin_in
+    files-uploads.begin_with files-uploads.place_number files-uploads.room_number files-uploads.append_number files-uploads.append_of
+    files-uploads.discard_number files-uploads.discard_of files-completion.check_of files-completion.complete_number files-completion.complete_of
+    files-sound.sound_test decide-uplink.on_continued decide-uplink.on_upload decide-uplink.on_data decide-uplink.on_end decide-uplink.on_uplink
+    decide-decide.on_packet decide-decide.on_frame decide-decide.decide_of carry-upload.begun_turn carry-upload.begun_as carry-upload.begin_with
+    carry-upload.stored_as carry-upload.appended_as carry-upload.store_turn carry-upload.discard_turn carry-upload.timed carry-upload.judged_at
+    carry-upload.accepted_as carry-upload.accept_turn carry-upload.with_disk carry-upload.with_blocks carry-upload.finish_as carry-carry.on_frees
+    carry-carry.on_writes carry-carry.on_moves carry-carry.carry_out links_sound_law.uplink_sound links_sound_law.names_sound links_sound_law.selection_sound
+    links_sound_law.packet_sound links_sound_law.link_sound links_sound_law.link_in links_sound_law.links_sound
+    server-check.sizes_fit server-check.room_fits server-check.sound_parts server-check.in_state server-check.session_check server-check.check_by
+    server-calls.answered_by server-calls.heard_by server-calls.step_of server-calls.on_check server-calls.receive_of server-calls.receive_by server-calls.on_login
+    server-calls.login_of server-calls.login_by server-calls.on_lose server-calls.lose_of server-calls.lose_by server-turns.hear_of server-turns.size_in server-turns.put_back server-turns.act_of
+    server-making.empty_of server-making.make_of history-calls.made history-calls.after promises-cut.seen_in promises-cut.seen promises-feeding.onward
+    promises-feeding.feed promises-feeding.feed_pieces chopped unchopped promises-uncut.on_bytes promises-uncut.unless_refused promises-uncut.uncut_of
+    session-expected.expected_down decide-downlink.on_found decide-downlink.on_numbered decide-downlink.on_download decide-downlink.on_downlink
+    carry-download.close_turn carry-download.selected_as carry-download.select_turn carry-carry.on_chooses files-selection.select_number
+    files-selection.select_of equation-symbols.stars_in equation-symbols.good_text equation-symbols.good_number equation-symbols.good
+    equation-symbols.connective_of equation-symbols.relation_at equation-symbols.token_of equation-symbols.follow equation-symbols.symbols_past
     equation-tree.pushed equation-tree.joined equation-tree.result equation-tree.bind equation-tree.run equation-tree.parse equation-answer.refusal
-    equation-answer.validityOf equation-relation.width picked downloading sent_all table-order.leastAbove table-order.nextAbove table-order.placesAbove
-    stored-answers.truthAt stored-answers.headerAt header-header.headerOf files-selection.is_yes files-selection.passing equation-answer.said
-    equation-answer.answer equation-answer.is_yes equation-relation.compare equation-relation.numberMeets equation-relation.meets equation-holds.holds
-    equation-holds.bytes_of equation-tree.truth files-completion.destinationsAt carry-download.beginTurn blocks-answers.readOut links_sound_law.named_at
-    server-sending.leastOf server-sending.data_of server-sending.sendingOf server-sending.dueOf server-calls.dueAs server-calls.onRequest
-    server-calls.requestOf server-calls.requestBy downloading40 complete80 handed decide-downlink.onNak promises-requests.isDue
+    equation-answer.validity_of equation-relation.width picked downloading sent_all table-order.least_above table-order.next_above table-order.places_above
+    stored-answers.truth_at stored-answers.header_at header-header.header_of files-selection.is_yes files-selection.passing equation-answer.said
+    equation-answer.answer equation-answer.is_yes equation-relation.compare equation-relation.number_meets equation-relation.meets equation-holds.holds
+    equation-holds.bytes_of equation-tree.truth files-completion.destinations_at carry-download.begin_turn blocks-answers.read_out links_sound_law.named_at
+    server-sending.least_of server-sending.data_of server-sending.sending_of server-sending.due_of server-calls.due_as server-calls.on_request
+    server-calls.request_of server-calls.request_by downloading40 complete80 handed decide-downlink.on_nak promises-requests.is_due
 computing = 0

@@ -45,13 +45,13 @@ short_names_law = refl
 named_short : (xs : List Named) (id : ℕ) (letters : List ℕ) → short_names xs ≡ true → name_in xs id ≡ some letters → length letters ≤ 23
 unfolding short_names name_in
 named_short [] id letters h e = let z : ◌≡◌ {A = ℕ} 0 1 = cc in absurd (omega arith)
-named_short (x ∷ xs) id letters h e = by (named_short xs id letters (tests.second-true (leb (length (bytes_of x.name)) 23) _ h)) (eqb x.id id) e
+named_short (x ∷ xs) id letters h e = by (named_short xs id letters (tests.second_true (leb (length (bytes_of x.name)) 23) _ h)) (eqb x.id id) e
   where
     by : (name_in xs id ≡ some letters → length letters ≤ 23) → (t : Bool) → cond t (some (bytes_of x.name)) (name_in xs id) ≡ some letters
         → length letters ≤ 23
     by ih true e =
         let z : bytes_of x.name ≡ letters = cc in
-        omega (arith, ap length z, leb-true (length (bytes_of x.name)) 23 (tests.first-true (leb (length (bytes_of x.name)) 23) _ h))
+        omega (arith, ap length z, leb-true (length (bytes_of x.name)) 23 (tests.first_true (leb (length (bytes_of x.name)) 23) _ h))
     by ih false e = ih e
 
 item_short : (id : ℕ) (o : Option (List ℕ)) → name_of id ≡ o → length (item_text (item_by o id)) ≤ 23

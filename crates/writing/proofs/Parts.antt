@@ -153,7 +153,7 @@ module _ (code id : ℕ) (s : List ℕ) where
   number_wide h g = by (eqb (kind_of code) 0) (rw (ne_eqb (kind_of code) 3 h) at g)
     where
       by : (t : Bool) → cond t (good_number (operator_of code) (length s)) false ≡ true → width (length s) ≡ true
-      by true z = unfold good_number in tests.second-true (leb (operator_of code) 5) (width (length s)) z
+      by true z = unfold good_number in tests.second_true (leb (operator_of code) 5) (width (length s)) z
       by false z = absurd (tests.clash false z refl)
 
 -- ---- operators

@@ -110,11 +110,11 @@ pub record Quoting (s : List ℕ) (n : ℕ) (start out : List ℕ) (i k : ℕ) :
   pub piece : Piece (quoted (drop i s)) n start k out
 
 pub quote_start : (s : List ℕ) (n : ℕ) (out : List ℕ) → length (quoted s) ≤ n → Quoting s n out out (length s) n
-quote_start s n out h = record { within = omega arith; fits = h; piece = rw (drop-length s, parts.quoted-nil) (no_piece n out) }
+quote_start s n out h = record { within = omega arith; fits = h; piece = rw (drop-length s, parts.quoted_nil) (no_piece n out) }
 
 module _ (s : List ℕ) (n : ℕ) (start out : List ℕ) (i k : ℕ) (p : Quoting s n start out i k) (h : 0 < i) where
   quoted_last : quoted (drop (i - 1) s) ≡ character_text (character_for (get_or s (i - 1) 0)) ++ quoted (drop i s)
-  quoted_last = rw (from_last s i h p.within) (parts.quoted-cons (get_or s (i - 1) 0) (drop i s))
+  quoted_last = rw (from_last s i h p.within) (parts.quoted_cons (get_or s (i - 1) 0) (drop i s))
 
   pub quote_room : length (character_text (character_for (get_or s (i - 1) 0))) ≤ k
   quote_room =
@@ -122,7 +122,7 @@ module _ (s : List ℕ) (n : ℕ) (start out : List ℕ) (i k : ℕ) (p : Quotin
         arith,
         p.fits,
         p.piece.place,
-        parts.quoted-drop (i - 1) s,
+        parts.quoted_drop (i - 1) s,
         ap length quoted_last,
         length-append (character_text (character_for (get_or s (i - 1) 0))) (quoted (drop i s)),
       )
@@ -146,7 +146,7 @@ module _ (id w v m t : ℕ) (hv : v ≡ m) (ht : t ≡ width_of id v) where
       → Piece (decimal_of v) j m2 r now
       → Piece (constant_text (number_for id w m)) n out r now
   sized_piece h n k j r out m1 m2 now p q x =
-      rw (parts.number-sized id w v m t hv ht h)
+      rw (parts.number_sized id w v m t hv ht h)
       (before (decimal_of v) (58 ∷ (48 + w) ∷ []) n j r out m2 now (before (58 ∷ []) ((48 + w) ∷ []) n k j out m1 m2 p q) x)
 
 -- ---- items
@@ -157,7 +157,7 @@ module _ (id : ℕ) (r : Row) (e : r ≡ row_of id) where
       → Piece (35 ∷ []) j m2 i now
       → Piece (item_text (item_for id)) n out i now
   coded_piece l h n k j i out m1 m2 now p q x =
-      rw (parts.item-coded id r e l h)
+      rw (parts.item_coded id r e l h)
       (before (35 ∷ []) (hex_digit (id / 256 / 16) ∷ hex_digit (id / 256 % 16) ∷ hex_digit (id % 256 / 16) ∷ hex_digit (id % 256 % 16) ∷ []) n j i out m2 now
       (before (hex_digit (id / 256 / 16) ∷ hex_digit (id / 256 % 16) ∷ []) (hex_digit (id % 256 / 16) ∷ hex_digit (id % 256 % 16) ∷ []) n k j out m1 m2 p q) x)
 
@@ -173,7 +173,7 @@ module _ (r : Relation) where
       let q2 = before (32 ∷ []) c n k j out m1 m2 p1 p2 in
       let q3 = before o (32 ∷ c) n j i out m2 m3 q2 p3 in
       let q4 = before (32 ∷ []) (o ++ (32 ∷ c)) n i h out m3 m4 q3 p4 in
-      rw (parts.relation-is r) (before (item_text (item_for r.id)) (32 ∷ (o ++ (32 ∷ c))) n h m out m4 now q4 p5)
+      rw (parts.relation_is r) (before (item_text (item_for r.id)) (32 ∷ (o ++ (32 ∷ c))) n h m out m4 now q4 p5)
 
 -- the relation at a place of an equation, as the code reads it
 module _ (bytes : List ℕ) (at id n : ℕ) (st : Stands bytes at) (hid : id ≡ number (get_or bytes (at + 1) 0 ∷ get_or bytes (at + 2) 0 ∷ []))
@@ -189,26 +189,26 @@ module _ (bytes : List ℕ) (at id n : ℕ) (st : Stands bytes at) (hid : id ≡
 
   pub constant_asked : (good (get_or bytes at 0) here ≡ true) × (length (constant_text (constant_for (relation_of (get_or bytes at 0) id here))) ≤ n)
   constant_asked =
-      (rw (constant_whole bytes at (get_or bytes (at + 3) 0)) st.good, rw relation_read (omega (arith, room, parts.relation-length (relation_from bytes at))))
+      (rw (constant_whole bytes at (get_or bytes (at + 3) 0)) st.good, rw relation_read (omega (arith, room, parts.relation_length (relation_from bytes at))))
 
   module _ (out : List ℕ) (k : ℕ) (m1 : List ℕ) (p1 : Piece (constant_text (constant_for (relation_of (get_or bytes at 0) id here))) n out k m1) where
     constant_put : Piece (constant_text (constant_for (relation_from bytes at))) n out k m1
     constant_put = rw (← relation_read) p1
 
     pub blank_asked : 1 ≤ k
-    blank_asked = omega (arith, room, parts.relation-length (relation_from bytes at), constant_put.place)
+    blank_asked = omega (arith, room, parts.relation_length (relation_from bytes at), constant_put.place)
 
     module _ (j : ℕ) (m2 : List ℕ) (p2 : Piece (32 ∷ []) k m1 j m2) where
       pub operator_asked : length (operator_text (comparison_for (operator_of (get_or bytes at 0)))) ≤ j
-      operator_asked = omega (arith, room, parts.relation-length (relation_from bytes at), constant_put.place, p2.place)
+      operator_asked = omega (arith, room, parts.relation_length (relation_from bytes at), constant_put.place, p2.place)
 
       module _ (i : ℕ) (m3 : List ℕ) (p3 : Piece (operator_text (comparison_for (operator_of (get_or bytes at 0)))) j m2 i m3) where
         pub blank_asked_2 : 1 ≤ i
-        blank_asked_2 = omega (arith, room, parts.relation-length (relation_from bytes at), constant_put.place, p2.place, p3.place)
+        blank_asked_2 = omega (arith, room, parts.relation_length (relation_from bytes at), constant_put.place, p2.place, p3.place)
 
         module _ (h : ℕ) (m4 : List ℕ) (p4 : Piece (32 ∷ []) i m3 h m4) where
           pub item_asked : length (item_text (item_for id)) ≤ h
-          item_asked = rw id_read (omega (arith, room, parts.relation-length (relation_from bytes at), constant_put.place, p2.place, p3.place, p4.place))
+          item_asked = rw id_read (omega (arith, room, parts.relation_length (relation_from bytes at), constant_put.place, p2.place, p3.place, p4.place))
 
           pub relation_put : (m : ℕ) (now : List ℕ) → Piece (item_text (item_for id)) h m4 m now → Piece (relation_text (relation_from bytes at)) n out m now
           relation_put m now p5 =

@@ -78,10 +78,10 @@ names_back_law = refl
 name_back : (xs : List Named) (id : ℕ) (letters : List ℕ) → names_back xs ≡ true → name_in xs id ≡ some letters → id_named (map lower letters) ≡ some id
 unfolding names_back name_in
 name_back [] id letters a h = let z : ◌≡◌ {A = ℕ} 0 1 = cc in absurd (omega arith)
-name_back (x ∷ xs) id letters a h = by (name_back xs id letters (tests.second-true (is_id (id_named (small x)) x.id) _ a)) (eqb x.id id) refl h
+name_back (x ∷ xs) id letters a h = by (name_back xs id letters (tests.second_true (is_id (id_named (small x)) x.id) _ a)) (eqb x.id id) refl h
   where
     first : id_named (small x) ≡ some x.id
-    first = is_id_law (id_named (small x)) x.id (tests.first-true (is_id (id_named (small x)) x.id) _ a)
+    first = is_id_law (id_named (small x)) x.id (tests.first_true (is_id (id_named (small x)) x.id) _ a)
 
     by : (name_in xs id ≡ some letters → id_named (map lower letters) ≡ some id)
         → (t : Bool) → eqb x.id id ≡ t → cond t (some (bytes_of x.name)) (name_in xs id) ≡ some letters → id_named (map lower letters) ≡ some id
@@ -127,7 +127,7 @@ more_back : (n : ℕ) (ds : List ℕ) → DigitsBack (n / 10) ds → DigitsBack 
 more_back n ds b =
     record {
       are = tests.every_append digit ds ((48 + n % 10) ∷ []) b.are (tests.every_one digit (48 + n % 10) (digit_is (n % 10) (omega arith)));
-      value = tests.value-snoc 0 ds (48 + n % 10) ∙ rw b.value (omega arith);
+      value = tests.value_snoc 0 ds (48 + n % 10) ∙ rw b.value (omega arith);
     }
 
 decimal_within : (m n : ℕ) → n ≤ m → DigitsBack n (decimal_of n)
@@ -249,7 +249,7 @@ unfolding good_text
 text_told op bs h = by (eqb op 0) refl h
   where
     stars : cond (leb (stars_in bs) 4) true false ≡ true → stars_in bs ≤ 4
-    stars z = leb-true (stars_in bs) 4 (tests.first-true (leb (stars_in bs) 4) true z)
+    stars z = leb-true (stars_in bs) 4 (tests.first_true (leb (stars_in bs) 4) true z)
 
     by2 : (t : Bool) → eqb op 3 ≡ t → cond t (leb (stars_in bs) 4) false ≡ true
         → (is_equality (comparison_for op) ≡ true) × (operator_number (comparison_for op) ≡ op) × (stars_in bs ≤ 4)
@@ -263,7 +263,7 @@ text_told op bs h = by (eqb op 0) refl h
 
 number_told : (op n : ℕ) → good_number op n ≡ true → (op ≤ 5) × (width n ≡ true)
 unfolding good_number
-number_told op n h = (leb-true op 5 (tests.first-true (leb op 5) _ h), tests.second-true (leb op 5) _ h)
+number_told op n h = (leb-true op 5 (tests.first_true (leb op 5) _ h), tests.second_true (leb op 5) _ h)
 
 module _ (r : Relation) (w : Whole r) where
   text_back : kind_of r.code ≡ 3 → good r.code r.constant ≡ true

@@ -29,7 +29,7 @@ abbrev depth-calls : ℕ → depth-lts.Claims
 depth-calls t = (binding-reads.Asked, binding-reads.Learnt, depth_below t, depth.Post, greater-reads.Asked, greater-reads.Learnt)
 
 depth-sub-i : (t : ℕ) → depth-lts.Need-overflow-sub-i (depth-calls t) (depth-at t) depth.Post
-depth-sub-i t c = omega (arith, formulas.some-step c.before.requires.1.0 c.before.args.steps.now c.before.args.e c.before.requires.1.1)
+depth-sub-i t c = omega (arith, formulas.some_step c.before.requires.1.0 c.before.args.steps.now c.before.args.e c.before.requires.1.1)
 
 depth-mul-s : (t : ℕ) → depth-lts.Need-overflow-mul-s (depth-calls t) (depth-at t) depth.Post
 depth-mul-s t c = omega (arith, formulas.step_in c.before.requires.1.0 c.before.args.steps.now c.before.args.e c.before.requires.1.1)
@@ -43,7 +43,7 @@ depth-shared-slice-read-s t c =
 
 depth-returns : (t : ℕ) → depth-lts.Need-returns (depth-calls t) (depth-at t) depth.Post
 depth-returns t c =
-    λ bytes w. formulas.relation-deep bytes c.before.before.before.args.steps.now c.before.before.before.args.e w
+    λ bytes w. formulas.relation_deep bytes c.before.before.before.args.steps.now c.before.before.before.args.e w
     (get_or c.before.before.before.args.steps.now (c.before.before.before.args.e - 1) 0) refl c.if1.true
     c.before.before.before.args.level
 
@@ -58,7 +58,7 @@ depth-depth-requires t c κs = (
   omega (
     arith,
     c.before.before.before.before.requires.0,
-    formulas.some-step c.before.before.before.before.requires.1.0 c.before.before.before.before.args.steps.now
+    formulas.some_step c.before.before.before.before.requires.1.0 c.before.before.before.before.args.steps.now
         c.before.before.before.before.args.e c.before.before.before.before.requires.1.1,
   ),
   (
@@ -78,12 +78,12 @@ depth-depth-requires-2 t c κs =
       omega (
         arith,
         the-pre.0,
-        formulas.left-fall the-pre.1.0 a.steps.now a.e the-pre.1.1 (get_or a.steps.now
+        formulas.left_fall the-pre.1.0 a.steps.now a.e the-pre.1.1 (get_or a.steps.now
             (a.e - 1) 0) refl c.before.before.if1.false the-binding.result the-binding.ensures.0 the_depth.result the_depth.ensures,
       ),
       (
         the-pre.1.0,
-        formulas.left-ready the-pre.1.0 a.steps.now a.e the-pre.1.1 (get_or a.steps.now
+        formulas.left_ready the-pre.1.0 a.steps.now a.e the-pre.1.1 (get_or a.steps.now
             (a.e - 1) 0) refl c.before.before.if1.false the-binding.result the-binding.ensures.0 the_depth.result the_depth.ensures,
       ),
     )
@@ -101,7 +101,7 @@ depth-add-t15 t c =
     let the-greater = c.before.greater in
     omega (
       arith,
-      formulas.deep-small the-pre.1.0 a.steps.now a.e the-pre.1.1 (get_or a.steps.now
+      formulas.deep_small the-pre.1.0 a.steps.now a.e the-pre.1.1 (get_or a.steps.now
           (a.e - 1) 0) refl c.before.before.before.before.before.if1.false the-binding.result the-binding.ensures.0 the_depth.result
           the_depth.ensures the-depth2.result the-depth2.ensures the-greater.result the-greater.ensures,
     )
@@ -124,7 +124,7 @@ depth-returns-3 t c =
     let the_depth = c.before.before.before.depth in
     let the-depth2 = c.before.before.depth2 in
     let the-greater = c.before.greater in
-    λ bytes w. formulas.as-deep bytes a.steps.now a.e w (get_or a.steps.now
+    λ bytes w. formulas.as_deep bytes a.steps.now a.e w (get_or a.steps.now
     (a.e - 1) 0) refl c.before.before.before.before.before.if1.false the-binding.result the-binding.ensures.0 the_depth.result
     the_depth.ensures the-depth2.result the-depth2.ensures a.level the-greater.result the-greater.ensures c.if2.false
 

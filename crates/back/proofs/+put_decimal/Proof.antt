@@ -35,7 +35,7 @@ put-decimal-add-put t c = omega (arith, c.if1.true)
 
 put-decimal-put-requires : (t : ℕ) → put-decimal-lts.Need-put-requires (put-decimal-calls t) (put-decimal-at t) put-decimal.Post
 put-decimal-put-requires t c κs =
-    pieces.decimal-some c.before.before.before.args.v c.before.before.before.args.n c.before.before.before.args.out.now
+    pieces.decimal_some c.before.before.before.args.v c.before.before.before.args.n c.before.before.before.args.out.now
     c.before.before.before.requires.1
 
 put-decimal-same-length : (t : ℕ) → put-decimal-lts.Need-same-length (put-decimal-calls t) (put-decimal-at t) put-decimal.Post
@@ -43,7 +43,7 @@ put-decimal-same-length t c = c.before.before.put.auto.1.0
 
 put-decimal-returns : (t : ℕ) → put-decimal-lts.Need-returns (put-decimal-calls t) (put-decimal-at t) put-decimal.Post
 put-decimal-returns t c =
-    pieces.decimal-one c.before.before.before.before.before.before.args.v c.before.before.before.before.before.before.args.n
+    pieces.decimal_one c.before.before.before.before.before.before.args.v c.before.before.before.before.before.before.args.n
     c.before.before.before.before.before.before.args.out.now c.before.before.before.before.if1.true c.before.before.put.result
     c.before.before.put.new.1.0 c.before.before.put.ensures
 
@@ -55,13 +55,13 @@ put-decimal-add-put-2 t c = omega arith
 
 put-decimal-put-requires-2 : (t : ℕ) → put-decimal-lts.Need-put-requires-2 (put-decimal-calls t) (put-decimal-at t) put-decimal.Post
 put-decimal-put-requires-2 t c κs =
-    pieces.decimal-some c.before.before.before.args.v c.before.before.before.args.n c.before.before.before.args.out.now
+    pieces.decimal_some c.before.before.before.args.v c.before.before.before.args.n c.before.before.before.args.out.now
     c.before.before.before.requires.1
 
 put-decimal-put-decimal-requires : (t : ℕ) → put-decimal-lts.Need-put-decimal-requires (put-decimal-calls t) (put-decimal-at t) put-decimal.Post
 put-decimal-put-decimal-requires t c κs = (
   omega (arith, c.before.before.before.before.before.before.before.requires.0, c.before.before.before.before.before.if1.false),
-  pieces.decimal-left c.before.before.before.before.before.before.before.args.v
+  pieces.decimal_left c.before.before.before.before.before.before.before.args.v
       c.before.before.before.before.before.before.before.args.n c.before.before.before.before.before.before.before.args.out.now
       c.before.before.before.before.before.if1.false c.before.before.before.put2.result c.before.before.before.put2.new.1.0
       c.before.before.before.put2.ensures c.before.before.before.before.before.before.before.requires.1,
@@ -75,7 +75,7 @@ put-decimal-returns-2 t c =
     let a = c.before.before.before.before.before.before.before.before.before.before.args in
     let the-put2 = c.before.before.before.before.before.before.put2 in
     let the-put-decimal = c.before.before.put-decimal in
-    pieces.decimal-more a.v a.n a.out.now c.before.before.before.before.before.before.before.before.if1.false the-put2.result
+    pieces.decimal_more a.v a.n a.out.now c.before.before.before.before.before.before.before.before.if1.false the-put2.result
     the-put2.new.1.0 the-put2.ensures the-put-decimal.result the-put-decimal.new.1.0 the-put-decimal.ensures
 
 pub +put-decimal-spec : {M : Type 1} → statement M

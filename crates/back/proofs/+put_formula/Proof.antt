@@ -50,7 +50,7 @@ put-formula-sub-i : (t : ℕ) → put-formula-lts.Need-overflow-sub-i (put-formu
 put-formula-sub-i t c =
     omega (
       arith,
-      formulas.some-step c.before.before.before.args.bytes.now c.before.before.before.args.steps.now c.before.before.before.args.e
+      formulas.some_step c.before.before.before.args.bytes.now c.before.before.before.args.steps.now c.before.before.before.args.e
           c.before.before.before.requires.1.ready,
     )
 
@@ -77,9 +77,9 @@ put-formula-put-relation-requires : (t : ℕ) → put-formula-lts.Need-put-relat
 put-formula-put-relation-requires t c κs =
     let a = c.before.before.before.before.before.before.args in
     let the-pre = c.before.before.before.before.before.before.requires in (
-      formulas.relation-stands a.bytes.now a.steps.now a.e a.level a.n the-pre.1 (get_or a.steps.now
+      formulas.relation_stands a.bytes.now a.steps.now a.e a.level a.n the-pre.1 (get_or a.steps.now
           (a.e - 1) 0) refl c.before.if1.true,
-      formulas.relation-room a.bytes.now a.steps.now a.e a.level a.n the-pre.1
+      formulas.relation_room a.bytes.now a.steps.now a.e a.level a.n the-pre.1
           (get_or a.steps.now (a.e - 1) 0) refl c.before.if1.true,
     )
 
@@ -90,7 +90,7 @@ put-formula-returns : (t : ℕ) → put-formula-lts.Need-returns (put-formula-ca
 put-formula-returns t c =
     let a = c.before.before.before.before.before.before.before.before.before.args in
     let the-put-relation = c.before.before.put-relation in
-    λ w. formulas.relation-wrote a.bytes.now a.steps.now a.e a.level a.n w (get_or a.steps.now
+    λ w. formulas.relation_wrote a.bytes.now a.steps.now a.e a.level a.n w (get_or a.steps.now
     (a.e - 1) 0) refl c.before.before.before.before.if1.true a.out.now the-put-relation.result the-put-relation.new.1.1.0
     the-put-relation.ensures
 
@@ -101,7 +101,7 @@ put-formula-put-closing-requires : (t : ℕ) → put-formula-lts.Need-put-closin
 put-formula-put-closing-requires t c κs =
     let a = c.before.before.before.before.before.before.before.args in
     let the-binding = c.before.binding in
-    formulas.closing-room a.bytes.now a.steps.now a.e a.level a.n c.before.before.before.before.before.before.before.requires.1
+    formulas.closing_room a.bytes.now a.steps.now a.e a.level a.n c.before.before.before.before.before.before.before.requires.1
     (get_or a.steps.now (a.e - 1) 0) refl c.before.before.if1.false the-binding.result the-binding.ensures.0
 
 put-formula-add-put-formula : (t : ℕ) → put-formula-lts.Need-overflow-add-put-formula (put-formula-calls t) (put-formula-at t) put-formula.Post
@@ -113,8 +113,8 @@ put-formula-put-formula-requires t c κs =
     let a = c.before.before.before.before.before.before.before.before.before.before.before.args in
     let the-binding = c.before.before.before.before.before.binding in
     let the-put-closing = c.before.before.before.put-closing in (
-      omega (arith, the-pre.0, formulas.some-step a.bytes.now a.steps.now a.e the-pre.1.ready),
-      formulas.right-room a.bytes.now
+      omega (arith, the-pre.0, formulas.some_step a.bytes.now a.steps.now a.e the-pre.1.ready),
+      formulas.right_room a.bytes.now
           a.steps.now a.e a.level a.n the-pre.1 (get_or a.steps.now
           (a.e - 1) 0) refl c.before.before.before.before.before.before.if1.false the-binding.result the-binding.ensures.0 a.out.now
           the-put-closing.result the-put-closing.new.1.1.0 the-put-closing.ensures,
@@ -126,7 +126,7 @@ put-formula-put-connective-requires t c κs =
     let the-binding = c.before.before.before.before.before.before.before.before.before.binding in
     let the-put-closing = c.before.before.before.before.before.before.before.put-closing in
     let the-put-formula = c.before.before.before.put-formula in
-    formulas.connective-room a.bytes.now a.steps.now a.e a.level a.n
+    formulas.connective_room a.bytes.now a.steps.now a.e a.level a.n
     c.before.before.before.before.before.before.before.before.before.before.before.before.before.before.before.requires.1
     (get_or a.steps.now (a.e - 1) 0) refl c.before.before.before.before.before.before.before.before.before.before.if1.false
     the-binding.result the-binding.ensures.0 a.out.now the-put-closing.result the-put-closing.new.1.1.0 the-put-closing.ensures
@@ -150,7 +150,7 @@ put-formula-put-formula-requires-2 t c κs =
             the-put-formula.result the-put-formula.new.1.1.1.1.0 the-put-formula.ensures the-put-connective.result
             the-put-connective.new.1.0 the-put-connective.ensures,
       ),
-      formulas.left-room a.bytes.now a.steps.now a.e a.level a.n
+      formulas.left_room a.bytes.now a.steps.now a.e a.level a.n
           the-pre.1 (get_or a.steps.now
           (a.e - 1) 0) refl c.before.before.before.before.before.before.before.before.before.before.before.before.before.before.if1.false
           the-binding.result the-binding.ensures.0 a.out.now the-put-closing.result the-put-closing.new.1.1.0 the-put-closing.ensures
@@ -168,7 +168,7 @@ put-formula-put-opening-requires t c κs =
     let the-put-formula = c.before.before.before.before.before.before.before.before.before.before.before.put-formula in
     let the-put-connective = c.before.before.before.before.before.before.before.put-connective in
     let the-put-formula2 = c.before.before.before.put-formula2 in
-    formulas.opening-room a.bytes.now a.steps.now a.e a.level a.n
+    formulas.opening_room a.bytes.now a.steps.now a.e a.level a.n
     c.before.before.before.before.before.before.before.before.before.before.before.before.before.before.before.before.before.before.before.before.before.before.before.requires.1
     (get_or a.steps.now
     (a.e - 1) 0) refl
@@ -196,7 +196,7 @@ put-formula-returns-2 t c =
     let the-put-connective = c.before.before.before.before.before.before.before.before.before.before.put-connective in
     let the-put-formula2 = c.before.before.before.before.before.before.put-formula2 in
     let the-put-opening = c.before.before.put-opening in
-    λ w. formulas.both-wrote a.bytes.now a.steps.now a.e a.level a.n w (get_or a.steps.now
+    λ w. formulas.both_wrote a.bytes.now a.steps.now a.e a.level a.n w (get_or a.steps.now
     (a.e - 1) 0) refl
     c.before.before.before.before.before.before.before.before.before.before.before.before.before.before.before.before.before.before.before.before.before.if1.false
     the-binding.result the-binding.ensures.0 a.out.now the-put-closing.result the-put-closing.last.1.1.0 the-put-closing.ensures

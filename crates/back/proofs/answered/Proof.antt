@@ -21,7 +21,7 @@ returns c =
 depth-requires : tie.Need-depth-requires
 depth-requires c κs = (
   c.before.before.before.before.before.args.bytes.now,
-  formulas.all-ready c.before.before.before.before.before.args.bytes.now c.before.before.before.before.before.args.steps.now
+  formulas.all_ready c.before.before.before.before.before.args.bytes.now c.before.before.before.before.before.args.steps.now
       c.before.before.before.before.before.requires,
 )
 
@@ -44,7 +44,7 @@ returns-3 : tie.Need-returns-3
 returns-3 c =
     let a = c.before.before.before.before.before.before.before.before.before.args in
     let the_depth = c.before.before.before.depth in
-    λ w. replies.answer-bytes w.formula (length a.bytes.now) (length (unmarked a.bytes.now)) a.out.now (omega (
+    λ w. replies.answer_bytes w.formula (length a.bytes.now) (length (unmarked a.bytes.now)) a.out.now (omega (
       arith,
       c.before.before.before.before.before.size-unmarked.ensures,
       c.before.before.before.before.if1.false,

@@ -17,7 +17,7 @@ returns : tie.Need-returns
 returns c = search rules
 
 returns-2 : tie.Need-returns-2
-returns-2 c = pieces.put-out c.before.args.b c.before.args.n c.before.args.out.now c.before.requires c.if1.false
+returns-2 c = pieces.put_out c.before.args.b c.before.args.n c.before.args.out.now c.before.requires c.if1.false
 
 pub put_spec : {M : Type 1} → statement M
 put_spec = tie.close (tie.spec sub-k slice-write-out same_length returns returns-2)

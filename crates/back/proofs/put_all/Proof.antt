@@ -12,7 +12,7 @@ abbrev decreases-loop : tie.decreases-loop
 decreases-loop s out₀ n i₀ k₀ out i k = i
 
 loop-holds : tie.Need-loop-init invariant-loop decreases-loop
-loop-holds c = pieces.put-start c.before.before.args.s.now c.before.before.args.n c.before.before.args.out.now c.before.before.requires
+loop-holds c = pieces.put_start c.before.before.args.s.now c.before.before.args.n c.before.before.args.out.now c.before.before.requires
 
 sub-i : tie.Need-overflow-sub-i invariant-loop decreases-loop
 sub-i c = omega (arith, c.loop-test.true)
@@ -36,12 +36,12 @@ loop-again c =
 
 same_length : tie.Need-same-length invariant-loop decreases-loop
 same_length c =
-    pieces.piece-length (drop c.before.loop.i c.before.before.before.before.args.s.now) c.before.before.before.before.args.n
+    pieces.piece_length (drop c.before.loop.i c.before.before.before.before.args.s.now) c.before.before.before.before.args.n
     c.before.loop.k c.before.before.before.before.args.out.now c.before.loop.out c.before.loop.invariant.piece
 
 returns : tie.Need-returns invariant-loop decreases-loop
 returns c =
-    pieces.put-end c.before.before.before.before.args.s.now c.before.before.before.before.args.n
+    pieces.put_end c.before.before.before.before.args.s.now c.before.before.before.before.args.n
     c.before.before.before.before.args.out.now c.before.loop.out c.before.loop.i c.before.loop.k c.before.loop.invariant
     c.loop-test.false
 

@@ -19,7 +19,7 @@ put-all-requires c κs =
     omega (
       arith,
       c.before.before.before.before.requires,
-      ap length (parts.character-quote c.before.before.before.before.args.b c.before.before.if1.true),
+      ap length (parts.character_quote c.before.before.before.before.args.b c.before.before.if1.true),
     )
 
 same_length : tie.Need-same-length
@@ -27,7 +27,7 @@ same_length c = search rules
 
 returns : tie.Need-returns
 returns c =
-    rw (parts.character-quote c.before.before.before.before.before.before.before.args.b c.before.before.before.before.before.if1.true)
+    rw (parts.character_quote c.before.before.before.before.before.before.before.args.b c.before.before.before.before.before.if1.true)
     c.before.before.put_all.ensures
 
 slice-aggregate-put-all-2 : tie.Need-slice-aggregate-put-all-2
@@ -38,7 +38,7 @@ put-all-requires-2 c κs =
     omega (
       arith,
       c.before.before.before.before.before.requires,
-      ap length (parts.character-escape c.before.before.before.before.before.args.b c.before.before.if2.true),
+      ap length (parts.character_escape c.before.before.before.before.before.args.b c.before.before.if2.true),
     )
 
 same-length-2 : tie.Need-same-length-2
@@ -46,7 +46,7 @@ same-length-2 c = search rules
 
 returns-2 : tie.Need-returns-2
 returns-2 c =
-    rw (parts.character-escape c.before.before.before.before.before.before.before.before.args.b
+    rw (parts.character_escape c.before.before.before.before.before.before.before.before.args.b
     c.before.before.before.before.before.if2.true) c.before.before.put-all2.ensures
 
 is-printed-requires : tie.Need-is-printed-requires
@@ -58,7 +58,7 @@ put-requires c κs =
       arith,
       c.before.before.before.before.before.before.requires,
       ap length
-          (parts.character-plain c.before.before.before.before.before.before.args.b c.before.before.before.before.if1.false
+          (parts.character_plain c.before.before.before.before.before.before.args.b c.before.before.before.before.if1.false
           c.before.before.before.if2.false (sym c.before.before.is-printed.ensures ∙ c.before.if3.true)),
     )
 
@@ -67,7 +67,7 @@ same-length-3 c = search rules
 
 returns-3 : tie.Need-returns-3
 returns-3 c =
-    rw (parts.character-plain c.before.before.before.before.before.before.before.before.before.args.b
+    rw (parts.character_plain c.before.before.before.before.before.before.before.before.before.args.b
     c.before.before.before.before.before.before.before.if1.false c.before.before.before.before.before.before.if2.false
     (sym c.before.before.before.before.before.is-printed.ensures ∙ c.before.before.before.before.if3.true)) c.before.before.put.ensures
 
@@ -77,7 +77,7 @@ put-hex-requires c κs =
       arith,
       c.before.before.before.before.before.before.requires,
       ap length
-          (parts.character-coded c.before.before.before.before.before.before.args.b c.before.before.before.before.if1.false
+          (parts.character_coded c.before.before.before.before.before.before.args.b c.before.before.before.before.if1.false
           c.before.before.before.if2.false (sym c.before.before.is-printed.ensures ∙ c.before.if3.false)),
     )
 
@@ -90,7 +90,7 @@ put-all-requires-3 c κs =
       arith,
       c.before.before.before.before.before.before.before.before.before.before.before.requires,
       ap length
-          (parts.character-coded c.before.before.before.before.before.before.before.before.before.before.before.args.b
+          (parts.character_coded c.before.before.before.before.before.before.before.before.before.before.before.args.b
           c.before.before.before.before.before.before.before.before.before.if1.false
           c.before.before.before.before.before.before.before.before.if2.false
           (sym c.before.before.before.before.before.before.before.is-printed.ensures
@@ -106,7 +106,7 @@ returns-4 c =
     let a = c.before.before.before.before.before.before.before.before.before.before.before.before.before.before.args in
     let the-put-hex = c.before.before.before.before.before.before.before.put-hex in
     let the-put-all3 = c.before.before.put-all3 in
-    rw (parts.character-coded a.b c.before.before.before.before.before.before.before.before.before.before.before.before.if1.false
+    rw (parts.character_coded a.b c.before.before.before.before.before.before.before.before.before.before.before.before.if1.false
     c.before.before.before.before.before.before.before.before.before.before.before.if2.false
     (sym c.before.before.before.before.before.before.before.before.before.before.is-printed.ensures
     ∙ c.before.before.before.before.before.before.before.before.before.if3.false))

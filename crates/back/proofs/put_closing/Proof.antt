@@ -13,7 +13,7 @@ put-requires c κs =
     omega (
       arith,
       c.before.before.before.requires,
-      ap length (parts.closing-in c.before.before.before.args.p c.before.before.before.args.level c.before.if1.true),
+      ap length (parts.closing_in c.before.before.before.args.p c.before.before.before.args.level c.before.if1.true),
     )
 
 same_length : tie.Need-same-length
@@ -21,13 +21,13 @@ same_length c = search rules
 
 returns : tie.Need-returns
 returns c =
-    rw (parts.closing-in c.before.before.before.before.before.before.args.p c.before.before.before.before.before.before.args.level
+    rw (parts.closing_in c.before.before.before.before.before.before.args.p c.before.before.before.before.before.before.args.level
     c.before.before.before.before.if1.true) c.before.before.put.ensures
 
 returns-2 : tie.Need-returns-2
 returns-2 c =
-    rw (parts.closing-out c.before.before.args.p c.before.before.args.level c.if1.false)
-    (pieces.no-piece c.before.before.args.n c.before.before.args.out.now)
+    rw (parts.closing_out c.before.before.args.p c.before.before.args.level c.if1.false)
+    (pieces.no_piece c.before.before.args.n c.before.before.args.out.now)
 
 pub put-closing-spec : {M : Type 1} → statement M
 put-closing-spec = tie.close (tie.spec put-requires same_length returns returns-2)

@@ -15,7 +15,7 @@ same_length c = search rules
 
 returns : tie.Need-returns
 returns c =
-    rw (← parts.connective-and c.before.before.before.before.before.before.before.args.p c.before.before.before.before.before.if1.true)
+    rw (← parts.connective_and c.before.before.before.before.before.before.before.args.p c.before.before.before.before.before.if1.true)
     c.before.before.put_all.ensures
 
 slice-aggregate-put-all-2 : tie.Need-slice-aggregate-put-all-2
@@ -29,7 +29,7 @@ same-length-2 c = search rules
 
 returns-2 : tie.Need-returns-2
 returns-2 c =
-    rw (← parts.connective-or c.before.before.before.before.before.before.before.args.p c.before.before.before.before.before.if1.false)
+    rw (← parts.connective_or c.before.before.before.before.before.before.before.args.p c.before.before.before.before.before.if1.false)
     c.before.before.put-all2.ensures
 
 pub put-connective-spec : {M : Type 1} → statement M

@@ -13,9 +13,9 @@ put-string-requires c κs =
       arith,
       c.before.before.before.before.requires.1,
       ap length
-          (parts.constant-string c.before.before.before.before.args.code c.before.before.before.before.args.id
+          (parts.constant_string c.before.before.before.before.args.code c.before.before.before.before.args.id
           c.before.before.before.before.args.s.now c.before.if1.true),
-      parts.string-is c.before.before.before.before.args.s.now,
+      parts.string_is c.before.before.before.before.args.s.now,
     )
 
 same_length : tie.Need-same-length
@@ -23,13 +23,13 @@ same_length c = search rules
 
 returns : tie.Need-returns
 returns c =
-    rw (parts.constant-string c.before.before.before.before.before.before.before.args.code
+    rw (parts.constant_string c.before.before.before.before.before.before.before.args.code
     c.before.before.before.before.before.before.before.args.id c.before.before.before.before.before.before.before.args.s.now
     c.before.before.before.before.if1.true) c.before.before.put-string.ensures
 
 put-number-requires : tie.Need-put-number-requires
 put-number-requires c κs = (
-  parts.number-wide c.before.before.before.before.args.code c.before.before.before.before.args.id
+  parts.number_wide c.before.before.before.before.args.code c.before.before.before.before.args.id
       c.before.before.before.before.args.s.now c.before.if1.false c.before.before.before.before.requires.0,
   omega (
     arith,

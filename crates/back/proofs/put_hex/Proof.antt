@@ -26,7 +26,7 @@ returns c =
     let the-put = c.before.before.before.before.before.before.before.put in
     let the-hex-digit2 = c.before.before.before.before.hex-digit2 in
     let the-put2 = c.before.before.put2 in
-    pieces.hex-piece a.b a.n the-put.result the-put2.result a.out.now the-put.new.1.0 the-put2.new.1.0 the-hex-digit.result
+    pieces.hex_piece a.b a.n the-put.result the-put2.result a.out.now the-put.new.1.0 the-put2.new.1.0 the-hex-digit.result
     the-hex-digit2.result the-hex-digit.ensures the-hex-digit2.ensures the-put.ensures the-put2.ensures
 
 pub put-hex-spec : {M : Type 1} → statement M

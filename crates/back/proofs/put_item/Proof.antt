@@ -20,7 +20,7 @@ put-hex-requires c κs =
       arith,
       c.before.before.before.before.requires,
       ap length
-          (parts.item-coded c.before.before.before.before.args.id c.before.before.row_of.result c.before.before.row_of.ensures (omega arith)
+          (parts.item_coded c.before.before.before.before.args.id c.before.before.row_of.result c.before.before.row_of.ensures (omega arith)
           c.before.if1.true),
     )
 
@@ -33,7 +33,7 @@ put-hex-requires-2 c κs =
       arith,
       c.before.before.before.before.before.before.before.before.requires,
       ap length
-          (parts.item-coded c.before.before.before.before.before.before.before.before.args.id
+          (parts.item_coded c.before.before.before.before.before.before.before.before.args.id
           c.before.before.before.before.before.before.row_of.result c.before.before.before.before.before.before.row_of.ensures (omega arith)
           c.before.before.before.before.before.if1.true),
       c.before.before.before.put-hex.ensures.place,
@@ -45,7 +45,7 @@ put-requires c κs =
     omega (
       arith,
       c.before.before.before.before.before.before.before.before.before.before.before.before.requires,
-      ap length (parts.item-coded c.before.before.before.before.before.before.before.before.before.before.before.before.args.id
+      ap length (parts.item_coded c.before.before.before.before.before.before.before.before.before.before.before.before.args.id
           the-row-of.result the-row-of.ensures (omega arith) c.before.before.before.before.before.before.before.before.before.if1.true),
       c.before.before.before.before.before.before.before.put-hex.ensures.place,
       c.before.before.before.put-hex2.ensures.place,
@@ -61,18 +61,18 @@ returns c =
     let the-put-hex = c.before.before.before.before.before.before.before.before.before.before.put-hex in
     let the-put-hex2 = c.before.before.before.before.before.before.put-hex2 in
     let the-put = c.before.before.put in
-    pieces.coded-piece a.id the-row-of.result the-row-of.ensures (omega arith)
+    pieces.coded_piece a.id the-row-of.result the-row-of.ensures (omega arith)
     c.before.before.before.before.before.before.before.before.before.before.before.before.if1.true a.n the-put-hex.result
     the-put-hex2.result the-put.result a.out.now the-put-hex.new.1.0 the-put-hex2.new.1.0 the-put.new.1.0 the-put-hex.ensures
     the-put-hex2.ensures the-put.ensures
 
 array-share-prefix-letters : tie.Need-array-share-prefix-letters
 array-share-prefix-letters c =
-    parts.letters-within c.before.before.before.before.args.id c.before.before.row_of.result c.before.before.row_of.ensures
+    parts.letters_within c.before.before.before.before.args.id c.before.before.row_of.result c.before.before.row_of.ensures
 
 slice-aggregate-put-all : tie.Need-slice-aggregate-put-all
 slice-aggregate-put-all c =
-    parts.letters-length c.before.before.before.before.before.args.id c.before.before.before.row_of.result
+    parts.letters_length c.before.before.before.before.before.args.id c.before.before.before.row_of.result
     c.before.before.before.row_of.ensures
 
 put-all-requires : tie.Need-put-all-requires
@@ -81,7 +81,7 @@ put-all-requires c κs =
       arith,
       c.before.before.before.before.before.before.requires,
       ap length
-          (parts.item-named c.before.before.before.before.before.before.args.id c.before.before.before.before.row_of.result
+          (parts.item_named c.before.before.before.before.before.before.args.id c.before.before.before.before.row_of.result
           c.before.before.before.before.row_of.ensures c.before.before.before.if1.false),
     )
 
@@ -90,7 +90,7 @@ same-length-2 c = search rules
 
 returns-2 : tie.Need-returns-2
 returns-2 c =
-    rw (← parts.item-named c.before.before.before.before.before.before.before.before.before.args.id
+    rw (← parts.item_named c.before.before.before.before.before.before.before.before.before.args.id
     c.before.before.before.before.before.before.before.row_of.result c.before.before.before.before.before.before.before.row_of.ensures
     c.before.before.before.before.before.before.if1.false) c.before.before.put_all.ensures
 

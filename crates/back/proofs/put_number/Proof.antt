@@ -24,7 +24,7 @@ put-decimal-requires c κs =
       arith,
       c.before.before.before.before.before.before.requires.1,
       ap length
-          (parts.number-plain c.before.before.before.before.before.before.args.id
+          (parts.number_plain c.before.before.before.before.before.before.args.id
           (length c.before.before.before.before.before.before.args.s.now)
           c.before.before.before.value.result (number c.before.before.before.before.before.before.args.s.now)
           c.before.before.taken-width.result c.before.before.before.value.ensures c.before.before.taken-width.ensures
@@ -36,7 +36,7 @@ same_length c = search rules
 
 returns : tie.Need-returns
 returns c =
-    rw (parts.number-plain c.before.before.before.before.before.before.before.before.before.args.id
+    rw (parts.number_plain c.before.before.before.before.before.before.before.before.before.args.id
     (length c.before.before.before.before.before.before.before.before.before.args.s.now)
     c.before.before.before.before.before.before.value.result
     (number c.before.before.before.before.before.before.before.before.before.args.s.now)
@@ -56,7 +56,7 @@ put-requires c κs =
     omega (
       arith,
       c.before.before.before.before.before.before.requires.1,
-      parts.sized-length c.before.before.before.before.before.before.args.id
+      parts.sized_length c.before.before.before.before.before.before.args.id
           (length c.before.before.before.before.before.before.args.s.now)
           c.before.before.before.value.result (number c.before.before.before.before.before.before.args.s.now)
           c.before.before.taken-width.result c.before.before.before.value.ensures c.before.before.taken-width.ensures c.before.if1.false,
@@ -70,7 +70,7 @@ put-requires-2 c κs =
     omega (
       arith,
       c.before.before.before.before.before.before.before.before.before.before.requires.1,
-      parts.sized-length a.id (length a.s.now)
+      parts.sized_length a.id (length a.s.now)
           the_value.result (number a.s.now) the-taken-width.result the_value.ensures the-taken-width.ensures
           c.before.before.before.before.before.if1.false,
       c.before.before.before.put.ensures.place,
@@ -84,7 +84,7 @@ put-decimal-requires-2 c κs =
     omega (
       arith,
       c.before.before.before.before.before.before.before.before.before.before.before.before.before.before.requires.1,
-      parts.sized-length a.id (length a.s.now) the_value.result (number a.s.now) the-taken-width.result the_value.ensures
+      parts.sized_length a.id (length a.s.now) the_value.result (number a.s.now) the-taken-width.result the_value.ensures
           the-taken-width.ensures c.before.before.before.before.before.before.before.before.before.if1.false,
       c.before.before.before.before.before.before.before.put.ensures.place,
       c.before.before.before.put2.ensures.place,
@@ -101,7 +101,7 @@ returns-2 c =
     let the-put = c.before.before.before.before.before.before.before.before.before.before.put in
     let the-put2 = c.before.before.before.before.before.before.put2 in
     let the-put-decimal2 = c.before.before.put-decimal2 in
-    pieces.sized-piece a.id (length a.s.now) the_value.result (number a.s.now) the-taken-width.result the_value.ensures
+    pieces.sized_piece a.id (length a.s.now) the_value.result (number a.s.now) the-taken-width.result the_value.ensures
     the-taken-width.ensures c.before.before.before.before.before.before.before.before.before.before.before.before.if1.false a.n
     the-put.result the-put2.result the-put-decimal2.result a.out.now the-put.new.1.0 the-put2.new.1.0
     the-put-decimal2.new.1.0 the-put.ensures the-put2.ensures the-put-decimal2.ensures

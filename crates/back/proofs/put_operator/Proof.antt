@@ -15,7 +15,7 @@ put-all-requires c κs =
     omega (
       arith,
       c.before.before.before.before.requires,
-      ap length (parts.operator-0 c.before.before.before.before.args.number c.before.before.if1.true),
+      ap length (parts.operator_0 c.before.before.before.before.args.number c.before.before.if1.true),
     )
 
 same_length : tie.Need-same-length
@@ -23,7 +23,7 @@ same_length c = search rules
 
 returns : tie.Need-returns
 returns c =
-    rw (← parts.operator-0 c.before.before.before.before.before.before.before.args.number c.before.before.before.before.before.if1.true)
+    rw (← parts.operator_0 c.before.before.before.before.before.before.before.args.number c.before.before.before.before.before.if1.true)
     c.before.before.put_all.ensures
 
 slice-aggregate-put-all-2 : tie.Need-slice-aggregate-put-all-2
@@ -34,7 +34,7 @@ put-all-requires-2 c κs =
     omega (
       arith,
       c.before.before.before.before.before.requires,
-      ap length (parts.operator-1 c.before.before.before.before.before.args.number c.before.before.if2.true),
+      ap length (parts.operator_1 c.before.before.before.before.before.args.number c.before.before.if2.true),
     )
 
 same-length-2 : tie.Need-same-length-2
@@ -42,7 +42,7 @@ same-length-2 c = search rules
 
 returns-2 : tie.Need-returns-2
 returns-2 c =
-    rw (← parts.operator-1 c.before.before.before.before.before.before.before.before.args.number
+    rw (← parts.operator_1 c.before.before.before.before.before.before.before.before.args.number
     c.before.before.before.before.before.if2.true) c.before.before.put-all2.ensures
 
 slice-aggregate-put-all-3 : tie.Need-slice-aggregate-put-all-3
@@ -53,7 +53,7 @@ put-all-requires-3 c κs =
     omega (
       arith,
       c.before.before.before.before.before.before.requires,
-      ap length (parts.operator-2 c.before.before.before.before.before.before.args.number c.before.before.if3.true),
+      ap length (parts.operator_2 c.before.before.before.before.before.before.args.number c.before.before.if3.true),
     )
 
 same-length-3 : tie.Need-same-length-3
@@ -61,7 +61,7 @@ same-length-3 c = search rules
 
 returns-3 : tie.Need-returns-3
 returns-3 c =
-    rw (← parts.operator-2 c.before.before.before.before.before.before.before.before.before.args.number
+    rw (← parts.operator_2 c.before.before.before.before.before.before.before.before.before.args.number
     c.before.before.before.before.before.if3.true) c.before.before.put-all3.ensures
 
 slice-aggregate-put-all-4 : tie.Need-slice-aggregate-put-all-4
@@ -72,7 +72,7 @@ put-all-requires-4 c κs =
     omega (
       arith,
       c.before.before.before.before.before.before.before.requires,
-      ap length (parts.operator-3 c.before.before.before.before.before.before.before.args.number c.before.before.if4.true),
+      ap length (parts.operator_3 c.before.before.before.before.before.before.before.args.number c.before.before.if4.true),
     )
 
 same-length-4 : tie.Need-same-length-4
@@ -80,7 +80,7 @@ same-length-4 c = search rules
 
 returns-4 : tie.Need-returns-4
 returns-4 c =
-    rw (← parts.operator-3 c.before.before.before.before.before.before.before.before.before.before.args.number
+    rw (← parts.operator_3 c.before.before.before.before.before.before.before.before.before.before.args.number
     c.before.before.before.before.before.if4.true) c.before.before.put-all4.ensures
 
 slice-aggregate-put-all-5 : tie.Need-slice-aggregate-put-all-5
@@ -91,7 +91,7 @@ put-all-requires-5 c κs =
     omega (
       arith,
       c.before.before.before.before.before.before.before.before.requires,
-      ap length (parts.operator-4 c.before.before.before.before.before.before.before.before.args.number c.before.before.if5.true),
+      ap length (parts.operator_4 c.before.before.before.before.before.before.before.before.args.number c.before.before.if5.true),
     )
 
 same-length-5 : tie.Need-same-length-5
@@ -99,7 +99,7 @@ same-length-5 c = search rules
 
 returns-5 : tie.Need-returns-5
 returns-5 c =
-    rw (← parts.operator-4 c.before.before.before.before.before.before.before.before.before.before.before.args.number
+    rw (← parts.operator_4 c.before.before.before.before.before.before.before.before.before.before.before.args.number
     c.before.before.before.before.before.if5.true) c.before.before.put-all5.ensures
 
 slice-aggregate-put-all-6 : tie.Need-slice-aggregate-put-all-6
@@ -111,7 +111,7 @@ put-all-requires-6 c κs =
       arith,
       c.before.before.before.before.before.before.before.before.requires,
       ap length
-          (parts.operator-5 c.before.before.before.before.before.before.before.before.args.number
+          (parts.operator_5 c.before.before.before.before.before.before.before.before.args.number
           c.before.before.before.before.before.before.if1.false c.before.before.before.before.before.if2.false
           c.before.before.before.before.if3.false c.before.before.before.if4.false c.before.before.if5.false),
     )
@@ -121,7 +121,7 @@ same-length-6 c = search rules
 
 returns-6 : tie.Need-returns-6
 returns-6 c =
-    rw (← parts.operator-5 c.before.before.before.before.before.before.before.before.before.before.before.args.number
+    rw (← parts.operator_5 c.before.before.before.before.before.before.before.before.before.before.before.args.number
     c.before.before.before.before.before.before.before.before.before.if1.false
     c.before.before.before.before.before.before.before.before.if2.false c.before.before.before.before.before.before.before.if3.false
     c.before.before.before.before.before.before.if4.false c.before.before.before.before.before.if5.false)

@@ -48,7 +48,7 @@ part-put-constant-end c = search rules
 
 put-constant-requires : tie.Need-put-constant-requires
 put-constant-requires c κs =
-    pieces.constant-asked c.before.before.before.before.before.before.before.before.before.args.bytes.now
+    pieces.constant_asked c.before.before.before.before.before.before.before.before.before.args.bytes.now
     c.before.before.before.before.before.before.before.before.before.args.at c.before.before.before.number16.result
     c.before.before.before.before.before.before.before.before.before.args.n
     c.before.before.before.before.before.before.before.before.before.requires.0 c.before.before.before.number16.ensures
@@ -60,7 +60,7 @@ put-requires c κs =
     let the-pre = c.before.before.before.before.before.before.before.before.before.before.before.before.before.requires in
     let the-number16 = c.before.before.before.before.before.before.before.number16 in
     let the-put-constant = c.before.before.before.put-constant in
-    pieces.blank-asked a.bytes.now a.at the-number16.result a.n the-pre.0 the-number16.ensures the-pre.1 a.out.now
+    pieces.blank_asked a.bytes.now a.at the-number16.result a.n the-pre.0 the-number16.ensures the-pre.1 a.out.now
     the-put-constant.result the-put-constant.new.1.1.1.0 the-put-constant.ensures
 
 put-operator-requires : tie.Need-put-operator-requires
@@ -71,7 +71,7 @@ put-operator-requires c κs =
     let the-number16 = c.before.before.before.before.before.before.before.before.before.before.before.number16 in
     let the-put-constant = c.before.before.before.before.before.before.before.put-constant in
     let the-put = c.before.before.before.put in
-    pieces.operator-asked a.bytes.now a.at the-number16.result a.n the-pre.0 the-number16.ensures the-pre.1 a.out.now
+    pieces.operator_asked a.bytes.now a.at the-number16.result a.n the-pre.0 the-number16.ensures the-pre.1 a.out.now
     the-put-constant.result the-put-constant.new.1.1.1.0 the-put-constant.ensures the-put.result the-put.new.1.0 the-put.ensures
 
 put-requires-2 : tie.Need-put-requires-2
@@ -83,7 +83,7 @@ put-requires-2 c κs =
     let the-put-constant = c.before.before.before.before.before.before.before.before.before.before.before.put-constant in
     let the-put = c.before.before.before.before.before.before.before.put in
     let the-put-operator = c.before.before.before.put-operator in
-    pieces.blank-asked-2 a.bytes.now a.at the-number16.result a.n the-pre.0 the-number16.ensures the-pre.1 a.out.now
+    pieces.blank_asked_2 a.bytes.now a.at the-number16.result a.n the-pre.0 the-number16.ensures the-pre.1 a.out.now
     the-put-constant.result the-put-constant.new.1.1.1.0 the-put-constant.ensures the-put.result the-put.new.1.0 the-put.ensures
     the-put-operator.result the-put-operator.new.1.0 the-put-operator.ensures
 
@@ -99,7 +99,7 @@ put-item-requires c κs =
     let the-put = c.before.before.before.before.before.before.before.before.before.before.before.put in
     let the-put-operator = c.before.before.before.before.before.before.before.put-operator in
     let the-put2 = c.before.before.before.put2 in
-    pieces.item-asked a.bytes.now a.at the-number16.result a.n the-pre.0 the-number16.ensures the-pre.1 a.out.now
+    pieces.item_asked a.bytes.now a.at the-number16.result a.n the-pre.0 the-number16.ensures the-pre.1 a.out.now
     the-put-constant.result the-put-constant.last.1.1.1.0 the-put-constant.ensures the-put.result the-put.new.1.0 the-put.ensures
     the-put-operator.result the-put-operator.new.1.0 the-put-operator.ensures the-put2.result the-put2.new.1.0 the-put2.ensures
 
@@ -119,7 +119,7 @@ returns c =
     let the-put-operator = c.before.before.before.before.before.before.before.before.before.before.put-operator in
     let the-put2 = c.before.before.before.before.before.before.put2 in
     let the-put-item = c.before.before.put_item in
-    pieces.relation-put a.bytes.now a.at the-number16.result a.n the-pre.0 the-number16.ensures the-pre.1 a.out.now
+    pieces.relation_put a.bytes.now a.at the-number16.result a.n the-pre.0 the-number16.ensures the-pre.1 a.out.now
     the-put-constant.result the-put-constant.last.1.1.1.0 the-put-constant.ensures the-put.result the-put.new.1.0 the-put.ensures
     the-put-operator.result the-put-operator.new.1.0 the-put-operator.ensures the-put2.result the-put2.new.1.0 the-put2.ensures
     the-put-item.result the-put-item.new.1.0 the-put-item.ensures

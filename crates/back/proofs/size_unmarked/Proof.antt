@@ -15,7 +15,7 @@ abbrev decreases-loop : tie.decreases-loop
 decreases-loop bytes at₀ at = length bytes - at
 
 loop-holds : tie.Need-loop-init invariant-loop decreases-loop
-loop-holds c = marks.pass-start c.before.args.bytes.now
+loop-holds c = marks.pass_start c.before.args.bytes.now
 
 read-token-requires : tie.Need-read-token-requires invariant-loop decreases-loop
 read-token-requires c κs = search rules
@@ -25,7 +25,7 @@ enum_told c = c.match.keys1
 
 returns : tie.Need-returns invariant-loop decreases-loop
 returns c =
-    marks.pass-bad c.before.before.before.before.before.args.bytes.now c.before.before.before.loop.at c.before.before.before.loop.invariant
+    marks.pass_bad c.before.before.before.before.before.args.bytes.now c.before.before.before.loop.at c.before.before.before.loop.invariant
     (sym c.before.before.read-token.ensures ∙ c.enum_told.given.1)
 
 enum-told-2 : tie.Need-enum-told-2 invariant-loop decreases-loop
@@ -33,7 +33,7 @@ enum-told-2 c = c.match.keys2
 
 returns-2 : tie.Need-returns-2 invariant-loop decreases-loop
 returns-2 c =
-    marks.pass-end c.before.before.before.before.before.args.bytes.now c.before.before.before.loop.at c.before.before.before.loop.invariant
+    marks.pass_end c.before.before.before.before.before.args.bytes.now c.before.before.before.loop.at c.before.before.before.loop.invariant
     (sym c.before.before.read-token.ensures ∙ c.enum-told2.given.1)
 
 enum-told-3 : tie.Need-enum-told-3 invariant-loop decreases-loop
@@ -43,7 +43,7 @@ add_at : tie.Need-overflow-add-at invariant-loop decreases-loop
 add_at c =
     omega (
       arith,
-      marks.and-within c.before.before.before.before.before.args.bytes.now c.before.before.before.loop.at
+      marks.and_within c.before.before.before.before.before.args.bytes.now c.before.before.before.loop.at
           c.before.before.before.loop.invariant
           (sym c.before.before.read-token.ensures ∙ c.enum-told3.given.1),
     )
@@ -52,14 +52,14 @@ loop-less : tie.Need-loop-smaller invariant-loop decreases-loop
 loop-less c =
     omega (
       arith,
-      marks.and-within c.before.before.before.before.before.args.bytes.now c.before.before.before.loop.at
+      marks.and_within c.before.before.before.before.before.args.bytes.now c.before.before.before.loop.at
           c.before.before.before.loop.invariant
           (sym c.before.before.read-token.ensures ∙ c.enum-told3.given.1),
     )
 
 loop-again : tie.Need-loop-preserved invariant-loop decreases-loop
 loop-again c =
-    marks.pass-and c.before.before.before.before.before.args.bytes.now c.before.before.before.loop.at c.before.before.before.loop.invariant
+    marks.pass_and c.before.before.before.before.before.args.bytes.now c.before.before.before.loop.at c.before.before.before.loop.invariant
     (sym c.before.before.read-token.ensures ∙ c.enum-told3.given.1)
 
 enum-told-4 : tie.Need-enum-told-4 invariant-loop decreases-loop
@@ -69,7 +69,7 @@ add-at-2 : tie.Need-overflow-add-at-2 invariant-loop decreases-loop
 add-at-2 c =
     omega (
       arith,
-      marks.or-within c.before.before.before.before.before.args.bytes.now c.before.before.before.loop.at c.before.before.before.loop.invariant
+      marks.or_within c.before.before.before.before.before.args.bytes.now c.before.before.before.loop.at c.before.before.before.loop.invariant
           (sym c.before.before.read-token.ensures ∙ c.enum-told4.given.1),
     )
 
@@ -77,13 +77,13 @@ loop-less-2 : tie.Need-loop-smaller-2 invariant-loop decreases-loop
 loop-less-2 c =
     omega (
       arith,
-      marks.or-within c.before.before.before.before.before.args.bytes.now c.before.before.before.loop.at c.before.before.before.loop.invariant
+      marks.or_within c.before.before.before.before.before.args.bytes.now c.before.before.before.loop.at c.before.before.before.loop.invariant
           (sym c.before.before.read-token.ensures ∙ c.enum-told4.given.1),
     )
 
 loop-again-2 : tie.Need-loop-preserved-2 invariant-loop decreases-loop
 loop-again-2 c =
-    marks.pass-or c.before.before.before.before.before.args.bytes.now c.before.before.before.loop.at c.before.before.before.loop.invariant
+    marks.pass_or c.before.before.before.before.before.args.bytes.now c.before.before.before.loop.at c.before.before.before.loop.invariant
     (sym c.before.before.read-token.ensures ∙ c.enum-told4.given.1)
 
 enum-known-t : tie.Need-enum-known-t invariant-loop decreases-loop
@@ -93,7 +93,7 @@ add-at-3 : tie.Need-overflow-add-at-3 invariant-loop decreases-loop
 add-at-3 c =
     omega (
       arith,
-      marks.rel-within c.before.before.before.before.before.before.args.bytes.now c.before.before.before.before.loop.at
+      marks.rel_within c.before.before.before.before.before.before.args.bytes.now c.before.before.before.before.loop.at
           c.before.before.before.before.loop.invariant c.before.t.given.0.0 c.before.t.given.0.1.0 c.before.t.given.0.1.1.0
           (sym c.before.before.before.read-token.ensures ∙ c.before.t.given.1),
     )
@@ -102,7 +102,7 @@ add-at-4 : tie.Need-overflow-add-at-4 invariant-loop decreases-loop
 add-at-4 c =
     omega (
       arith,
-      marks.rel-within c.before.before.before.before.before.before.args.bytes.now c.before.before.before.before.loop.at
+      marks.rel_within c.before.before.before.before.before.before.args.bytes.now c.before.before.before.before.loop.at
           c.before.before.before.before.loop.invariant c.before.t.given.0.0 c.before.t.given.0.1.0 c.before.t.given.0.1.1.0
           (sym c.before.before.before.read-token.ensures ∙ c.before.t.given.1),
     )
@@ -111,14 +111,14 @@ loop-less-3 : tie.Need-loop-smaller-3 invariant-loop decreases-loop
 loop-less-3 c =
     omega (
       arith,
-      marks.rel-within c.before.before.before.before.before.before.args.bytes.now c.before.before.before.before.loop.at
+      marks.rel_within c.before.before.before.before.before.before.args.bytes.now c.before.before.before.before.loop.at
           c.before.before.before.before.loop.invariant c.before.t.given.0.0 c.before.t.given.0.1.0 c.before.t.given.0.1.1.0
           (sym c.before.before.before.read-token.ensures ∙ c.before.t.given.1),
     )
 
 loop-again-3 : tie.Need-loop-preserved-3 invariant-loop decreases-loop
 loop-again-3 c =
-    marks.pass-rel c.before.before.before.before.before.before.args.bytes.now c.before.before.before.before.loop.at
+    marks.pass_rel c.before.before.before.before.before.before.args.bytes.now c.before.before.before.before.loop.at
     c.before.before.before.before.loop.invariant c.before.t.given.0.0 c.before.t.given.0.1.0 c.before.t.given.0.1.1.0
     (sym c.before.before.before.read-token.ensures ∙ c.before.t.given.1)
 

@@ -12,12 +12,12 @@ least-width-requires c κs = search rules
 
 returns : tie.Need-returns
 returns c =
-    parts.taken-least c.before.before.row_of.result c.before.least-width.result c.before.before.before.args.id
+    parts.taken_least c.before.before.row_of.result c.before.least-width.result c.before.before.before.args.id
     c.before.before.before.args.v c.before.before.row_of.ensures c.before.least-width.ensures c.if1.true
 
 returns-2 : tie.Need-returns-2
 returns-2 c =
-    parts.taken-usual c.before.before.row_of.result c.before.least-width.result c.before.before.before.args.id
+    parts.taken_usual c.before.before.row_of.result c.before.least-width.result c.before.before.before.args.id
     c.before.before.before.args.v c.before.before.row_of.ensures c.before.least-width.ensures c.if1.false
 
 pub taken-width-spec : {M : Type 1} → statement M

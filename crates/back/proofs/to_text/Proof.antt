@@ -45,7 +45,7 @@ returns c =
 
 returns-2 : tie.Need-returns-2
 returns-2 c =
-    replies.refused-answer c.before.before.before.before.before.before.before.args.bytes.now c.before.before.before.parse.new.1.0
+    replies.refused_answer c.before.before.before.before.before.before.before.args.bytes.now c.before.before.before.parse.new.1.0
     c.before.before.before.parse.result (λ j. (c.before.before.before.before.before.before.shared-slice-known.given j).fits)
     c.before.before.before.parse.ensures c.if1.false c.before.before.before.before.before.before.before.args.out.now
 

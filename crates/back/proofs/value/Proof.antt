@@ -35,7 +35,7 @@ shared-slice-read-number32 : tie.Need-shared-slice-read-number32
 shared-slice-read-number32 c =
     omega (
       arith,
-      parts.four-left (length c.before.before.before.before.args.s.now) c.before.before.before.before.requires c.before.before.if1.false
+      parts.four_left (length c.before.before.before.before.args.s.now) c.before.before.before.before.requires c.before.before.if1.false
           c.before.if2.false,
     )
 
@@ -43,7 +43,7 @@ shared-slice-read-number32-2 : tie.Need-shared-slice-read-number32-2
 shared-slice-read-number32-2 c =
     omega (
       arith,
-      parts.four-left (length c.before.before.before.before.before.args.s.now) c.before.before.before.before.before.requires
+      parts.four_left (length c.before.before.before.before.before.args.s.now) c.before.before.before.before.before.requires
           c.before.before.before.if1.false c.before.before.if2.false,
     )
 
@@ -51,7 +51,7 @@ shared-slice-read-number32-3 : tie.Need-shared-slice-read-number32-3
 shared-slice-read-number32-3 c =
     omega (
       arith,
-      parts.four-left (length c.before.before.before.before.before.before.args.s.now) c.before.before.before.before.before.before.requires
+      parts.four_left (length c.before.before.before.before.before.before.args.s.now) c.before.before.before.before.before.before.requires
           c.before.before.before.before.if1.false c.before.before.before.if2.false,
     )
 
@@ -59,7 +59,7 @@ shared-slice-read-number32-4 : tie.Need-shared-slice-read-number32-4
 shared-slice-read-number32-4 c =
     omega (
       arith,
-      parts.four-left (length c.before.before.before.before.before.before.before.args.s.now)
+      parts.four_left (length c.before.before.before.before.before.before.before.args.s.now)
           c.before.before.before.before.before.before.before.requires c.before.before.before.before.before.if1.false
           c.before.before.before.before.if2.false,
     )
@@ -70,7 +70,7 @@ number32-requires c κs = search rules
 returns-3 : tie.Need-returns-3
 returns-3 c = c.number32.ensures
     ∙ parts.four_bytes c.before.before.before.before.before.before.before.before.args.s.now
-    (parts.four-left (length c.before.before.before.before.before.before.before.before.args.s.now)
+    (parts.four_left (length c.before.before.before.before.before.before.before.before.args.s.now)
     c.before.before.before.before.before.before.before.before.requires c.before.before.before.before.before.before.if1.false
     c.before.before.before.before.before.if2.false)
 

@@ -22,7 +22,7 @@ add-t12 c =
     let a = b8.args in
     omega (
       arith,
-      laws.place-within a.text.now a.out.now (replicate 256 0) c.before.s.given.0.0 c.before.s.given.0.1.0 b4.sum.result
+      laws.place_within a.text.now a.out.now (replicate 256 0) c.before.s.given.0.0 c.before.s.given.0.1.0 b4.sum.result
           b4.sum.new.1.1.1.0 c.before.s.given.1 b4.sum.ensures,
       b8.well-formed.0.0,
     )
@@ -38,7 +38,7 @@ returns c =
     let b5 = c.before.before.before.before.before in
     let b9 = b5.before.before.before.before in
     let a = b9.args in
-    laws.text-over a.text.now a.out.now (replicate 256 0) c.before.before.s2.given.0.0 c.before.before.s2.given.0.1.0 b5.sum.result
+    laws.text_over a.text.now a.out.now (replicate 256 0) c.before.before.s2.given.0.0 c.before.before.s2.given.0.1.0 b5.sum.result
     b5.sum.new.1.1.1.0 c.before.before.s2.given.1 b5.sum.ensures c.if1.true
 
 slice-aggregate-deliver : tie.Need-slice-aggregate-deliver
@@ -52,7 +52,7 @@ returns-2 c =
     let b4 = c.before.before.before.before in
     let b8 = b4.before.before.before.before in
     let a = b8.args in
-    laws.text-wrong a.text.now a.out.now (replicate 256 0) c.before.s.given.0.0 c.before.s.given.0.1.0 b4.sum.result
+    laws.text_wrong a.text.now a.out.now (replicate 256 0) c.before.s.given.0.0 c.before.s.given.0.1.0 b4.sum.result
     b4.sum.new.1.1.1.0 c.before.s.given.1 b4.sum.ensures
 
 same_length : tie.Need-same-length
@@ -65,7 +65,7 @@ returns-3 c =
     let b10 = b7.before.before.before in
     let b14 = b10.before.before.before.before in
     let a = b14.args in
-    laws.text-whole a.text.now a.out.now (replicate 256 0) b7.s2.given.0.0 b7.s2.given.0.1.0 b10.sum.result
+    laws.text_whole a.text.now a.out.now (replicate 256 0) b7.s2.given.0.0 b7.s2.given.0.1.0 b10.sum.result
     b10.sum.new.1.1.1.0 b7.s2.given.1 b10.sum.ensures _ refl b5.if1.false c.before.before.deliver.ensures
 
 pub to-bytes-spec : {M : Type 1} → statement M

@@ -35,7 +35,7 @@ returns : tie.Need-returns
 unfolding bytes_of
 returns c =
     let a = c.before.before.before.before.before.before.before.before.before.before.before.args in
-    laws.text-first a.line.now a.text.now
+    laws.text_first a.line.now a.text.now
     (sym c.before.before.before.before.before.before.before.begins.ensures ∙ c.before.before.before.before.before.before.if1.true) _ _
     c.before.before.reply-to-text.result (take_all (length a.line.now - 5) (drop 5 a.line.now) (omega (arith, length-drop 5 a.line.now)))
     c.before.before.reply-to-text.ensures
@@ -44,7 +44,7 @@ returns-2 : tie.Need-returns-2
 unfolding bytes_of
 returns-2 c =
     let a = c.before.before.before.before.before.before.args in
-    laws.text-short a.line.now a.text.now (sym c.before.before.begins.ensures ∙ c.before.if1.true) c.if2.false
+    laws.text_short a.line.now a.text.now (sym c.before.before.begins.ensures ∙ c.before.if1.true) c.if2.false
 
 slice-aggregate-begins-2 : tie.Need-slice-aggregate-begins-2
 slice-aggregate-begins-2 c = search rules
@@ -71,7 +71,7 @@ returns-3 : tie.Need-returns-3
 unfolding bytes_of
 returns-3 c =
     let a = c.before.before.before.before.before.before.before.before.before.before.before.before.before.before.args in
-    laws.bytes-first a.line.now a.text.now
+    laws.bytes_first a.line.now a.text.now
     (sym c.before.before.before.before.before.before.before.before.before.before.begins.ensures
     ∙ c.before.before.before.before.before.before.before.before.before.if1.false)
     (sym c.before.before.before.before.before.before.before.begins2.ensures ∙ c.before.before.before.before.before.before.if3.true) _ _
@@ -82,7 +82,7 @@ returns-4 : tie.Need-returns-4
 unfolding bytes_of
 returns-4 c =
     let a = c.before.before.before.before.before.before.before.before.before.args in
-    laws.bytes-short a.line.now a.text.now
+    laws.bytes_short a.line.now a.text.now
     (sym c.before.before.before.before.before.begins.ensures ∙ c.before.before.before.before.if1.false)
     (sym c.before.before.begins2.ensures ∙ c.before.if3.true) c.if4.false
 

@@ -23,7 +23,7 @@ returns : tie.Need-returns invariant-loop decreases-loop
 returns c =
     let a = c.before.before.before.args in
     let l = c.before.before.loop in
-    laws.begins-short a.line.now a.word.now l.i c.before.loop-test.true c.if1.true l.invariant.1
+    laws.begins_short a.line.now a.word.now l.i c.before.loop-test.true c.if1.true l.invariant.1
 
 shared-slice-read-if2 : tie.Need-shared-slice-read-if2 invariant-loop decreases-loop
 shared-slice-read-if2 c = omega arith
@@ -42,7 +42,7 @@ loop-again c =
     let a = c.before.before.before.before.before.before.args in
     let l = c.before.before.before.before.before.loop in (
       omega arith,
-      laws.begins-more a.line.now a.word.now l.i c.before.before.before.before.loop-test.true c.before.before.before.if1.false
+      laws.begins_more a.line.now a.word.now l.i c.before.before.before.before.loop-test.true c.before.before.before.if1.false
           c.if2.true l.invariant.1,
     )
 
@@ -50,14 +50,14 @@ returns-2 : tie.Need-returns-2 invariant-loop decreases-loop
 returns-2 c =
     let a = c.before.before.before.before.before.before.args in
     let l = c.before.before.before.before.before.loop in
-    laws.begins-other a.line.now a.word.now l.i c.before.before.before.before.loop-test.true c.before.before.before.if1.false
+    laws.begins_other a.line.now a.word.now l.i c.before.before.before.before.loop-test.true c.before.before.before.if1.false
     c.if2.false l.invariant.1
 
 returns-3 : tie.Need-returns-3 invariant-loop decreases-loop
 returns-3 c =
     let a = c.before.before.args in
     let l = c.before.loop in
-    laws.begins-whole a.line.now a.word.now l.i c.loop-test.false l.invariant.1
+    laws.begins_whole a.line.now a.word.now l.i c.loop-test.false l.invariant.1
 
 pub begins-spec : {M : Type 1} → statement M
 begins-spec =

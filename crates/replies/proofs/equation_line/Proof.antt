@@ -28,7 +28,7 @@ array-share-prefix-text : tie.Need-array-share-prefix-text
 array-share-prefix-text c =
     omega (
       arith,
-      said.text-fits c.before.before.before.before.before.before.before.before.args.equation.now
+      said.text_fits c.before.before.before.before.before.before.before.before.args.equation.now
           c.before.before.before.before.to-text.result
           c.before.a.given.0.0 c.before.before.before.before.to-text.new.1.0 c.before.before.before.before.to-text.ensures
           c.before.a.given.1,
@@ -40,7 +40,7 @@ slice-aggregate-text-line c =
     sym (length-take-le c.before.before.a.given.0.0 c.before.before.before.before.before.to-text.new.1.0
     (omega (
       arith,
-      said.text-fits c.before.before.before.before.before.before.before.before.before.args.equation.now
+      said.text_fits c.before.before.before.before.before.before.before.before.before.args.equation.now
           c.before.before.before.before.before.to-text.result c.before.before.a.given.0.0
           c.before.before.before.before.before.to-text.new.1.0 c.before.before.before.before.before.to-text.ensures
           c.before.before.a.given.1,
@@ -51,14 +51,14 @@ text-line-requires : tie.Need-text-line-requires
 text-line-requires c κs = (
   omega (
     arith,
-    said.text-fits c.before.before.before.before.before.before.before.before.before.before.args.equation.now
+    said.text_fits c.before.before.before.before.before.before.before.before.before.before.args.equation.now
         c.before.before.before.before.before.before.to-text.result c.before.before.before.a.given.0.0
         c.before.before.before.before.before.before.to-text.new.1.0 c.before.before.before.before.before.before.to-text.ensures
         c.before.before.before.a.given.1,
     length-take-le c.before.before.before.a.given.0.0 c.before.before.before.before.before.before.to-text.new.1.0
         (omega (
           arith,
-          said.text-fits c.before.before.before.before.before.before.before.before.before.before.args.equation.now
+          said.text_fits c.before.before.before.before.before.before.before.before.before.before.args.equation.now
               c.before.before.before.before.before.before.to-text.result c.before.before.before.a.given.0.0
               c.before.before.before.before.before.before.to-text.new.1.0 c.before.before.before.before.before.before.to-text.ensures
               c.before.before.before.a.given.1,
@@ -107,7 +107,7 @@ same_length c = search rules
 returns : tie.Need-returns
 unfolding told_of bytes_of
 returns c =
-    rw (said.told-as c.before.before.before.before.before.before.before.before.before.before.before.before.before.args.equation.now
+    rw (said.told_as c.before.before.before.before.before.before.before.before.before.before.before.before.before.args.equation.now
     c.before.before.before.before.before.before.before.before.before.to-text.result _
     c.before.before.before.before.before.before.before.before.before.to-text.new.1.0
     c.before.before.before.before.before.before.before.before.before.to-text.ensures
@@ -119,7 +119,7 @@ same-length-2 c = search rules
 returns-2 : tie.Need-returns-2
 unfolding told_of bytes_of
 returns-2 c =
-    rw (said.told-as c.before.before.before.before.before.before.before.before.before.before.before.before.args.equation.now
+    rw (said.told_as c.before.before.before.before.before.before.before.before.before.before.before.before.args.equation.now
     c.before.before.before.before.before.before.before.before.to-text.result _
     c.before.before.before.before.before.before.before.before.to-text.new.1.0
     c.before.before.before.before.before.before.before.before.to-text.ensures c.before.before.before.before.before.a2.given.1)
@@ -131,7 +131,7 @@ same-length-3 c = search rules
 returns-3 : tie.Need-returns-3
 unfolding told_of bytes_of
 returns-3 c =
-    rw (said.told-as c.before.before.before.before.before.before.before.before.before.before.before.before.args.equation.now
+    rw (said.told_as c.before.before.before.before.before.before.before.before.before.before.before.before.args.equation.now
     c.before.before.before.before.before.before.before.before.to-text.result _
     c.before.before.before.before.before.before.before.before.to-text.new.1.0
     c.before.before.before.before.before.before.before.before.to-text.ensures c.before.before.before.before.before.enum_told.given.1)
@@ -143,7 +143,7 @@ same-length-4 c = search rules
 returns-4 : tie.Need-returns-4
 unfolding told_of bytes_of
 returns-4 c =
-    rw (said.told-as c.before.before.before.before.before.before.before.before.before.before.before.before.args.equation.now
+    rw (said.told_as c.before.before.before.before.before.before.before.before.before.before.before.before.args.equation.now
     c.before.before.before.before.before.before.before.before.to-text.result _
     c.before.before.before.before.before.before.before.before.to-text.new.1.0
     c.before.before.before.before.before.before.before.before.to-text.ensures c.before.before.before.before.before.enum-told2.given.1)
@@ -155,7 +155,7 @@ same-length-5 c = search rules
 returns-5 : tie.Need-returns-5
 unfolding told_of bytes_of
 returns-5 c =
-    rw (said.told-as c.before.before.before.before.before.before.before.before.before.before.before.before.args.equation.now
+    rw (said.told_as c.before.before.before.before.before.before.before.before.before.before.before.before.args.equation.now
     c.before.before.before.before.before.before.before.before.to-text.result _
     c.before.before.before.before.before.before.before.before.to-text.new.1.0
     c.before.before.before.before.before.before.before.before.to-text.ensures c.before.before.before.before.before.enum-told3.given.1)

@@ -92,7 +92,7 @@ same_length c = search rules
 
 returns : tie.Need-returns
 returns c =
-    rw (said.said-as c.before.before.before.before.before.before.before.before.before.before.before.before.before.args.equation.now
+    rw (said.said_as c.before.before.before.before.before.before.before.before.before.before.before.before.before.args.equation.now
     c.before.before.before.before.before.before.before.before.before.to-bytes.result _
     c.before.before.before.before.before.before.before.before.before.to-bytes.new.1.0
     c.before.before.before.before.before.before.before.before.before.to-bytes.ensures
@@ -103,7 +103,7 @@ same-length-2 c = search rules
 
 returns-2 : tie.Need-returns-2
 returns-2 c =
-    rw (said.said-as c.before.before.before.before.before.before.before.before.before.before.before.before.args.equation.now
+    rw (said.said_as c.before.before.before.before.before.before.before.before.before.before.before.before.args.equation.now
     c.before.before.before.before.before.before.before.before.to-bytes.result _
     c.before.before.before.before.before.before.before.before.to-bytes.new.1.0
     c.before.before.before.before.before.before.before.before.to-bytes.ensures c.before.before.before.before.before.a2.given.1)
@@ -115,7 +115,7 @@ same-length-3 c = search rules
 returns-3 : tie.Need-returns-3
 unfolding bytes_of
 returns-3 c =
-    rw (said.said-as c.before.before.before.before.before.before.before.before.before.before.before.before.args.equation.now
+    rw (said.said_as c.before.before.before.before.before.before.before.before.before.before.before.before.args.equation.now
     c.before.before.before.before.before.before.before.before.to-bytes.result _
     c.before.before.before.before.before.before.before.before.to-bytes.new.1.0
     c.before.before.before.before.before.before.before.before.to-bytes.ensures c.before.before.before.before.before.enum_told.given.1)
@@ -126,7 +126,7 @@ same-length-4 c = search rules
 
 returns-4 : tie.Need-returns-4
 returns-4 c =
-    rw (said.said-as c.before.before.before.before.before.before.before.before.before.before.before.before.args.equation.now
+    rw (said.said_as c.before.before.before.before.before.before.before.before.before.before.before.before.args.equation.now
     c.before.before.before.before.before.before.before.before.to-bytes.result _
     c.before.before.before.before.before.before.before.before.to-bytes.new.1.0
     c.before.before.before.before.before.before.before.before.to-bytes.ensures c.before.before.before.before.before.a3.given.1)

@@ -20,7 +20,7 @@ slice-reshare-prefix-reply-to-bytes c =
     let told = c.before in
     let read = told.before.before.before.before in
     let given = read.before.before.before.before.before in
-    let is = laws.hex-is given.args.field.now given.args.bytes.now read.hex.new.1.1.0 read.hex.result given.requires
+    let is = laws.hex_is given.args.field.now given.args.bytes.now read.hex.new.1.1.0 read.hex.result given.requires
     told.p.given.0.0 read.hex.ensures told.p.given.1 in
     omega (arith, is.within)
 
@@ -29,7 +29,7 @@ slice-aggregate-reply-to-bytes c =
     let told = c.before.before in
     let read = told.before.before.before.before in
     let given = read.before.before.before.before.before in
-    let is = laws.hex-is given.args.field.now given.args.bytes.now read.hex.new.1.1.0 read.hex.result given.requires
+    let is = laws.hex_is given.args.field.now given.args.bytes.now read.hex.new.1.1.0 read.hex.result given.requires
     told.p.given.0.0 read.hex.ensures told.p.given.1 in
     sym (length-take-le told.p.given.0.0 read.hex.new.1.1.0 is.within)
 
@@ -43,8 +43,8 @@ returns : tie.Need-returns
 returns c =
     let read = c.before.before.before.before in
     let given = read.before.before.before.before.before in
-    laws.no-hex given.args.field.now given.args.text.now
-    (laws.hex-bad given.args.field.now given.args.bytes.now read.hex.new.1.1.0 read.hex.result given.requires read.hex.ensures
+    laws.no_hex given.args.field.now given.args.text.now
+    (laws.hex_bad given.args.field.now given.args.bytes.now read.hex.new.1.1.0 read.hex.result given.requires read.hex.ensures
     c.enum_told.given.1)
 
 same-length-2 : tie.Need-same-length-2
@@ -59,8 +59,8 @@ returns-2 c =
     let told = replied.before.before.before.before in
     let read = told.before.before.before.before in
     let given = read.before.before.before.before.before in
-    laws.hex-line given.args.field.now given.args.text.now read.hex.new.1.1.0 _ told.p.given.0.0 replied.reply-to-bytes.result
-    (laws.hex-is given.args.field.now given.args.bytes.now read.hex.new.1.1.0 read.hex.result given.requires told.p.given.0.0
+    laws.hex_line given.args.field.now given.args.text.now read.hex.new.1.1.0 _ told.p.given.0.0 replied.reply-to-bytes.result
+    (laws.hex_is given.args.field.now given.args.bytes.now read.hex.new.1.1.0 read.hex.result given.requires told.p.given.0.0
     read.hex.ensures told.p.given.1)
     replied.reply-to-bytes.ensures
 

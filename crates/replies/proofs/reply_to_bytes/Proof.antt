@@ -28,7 +28,7 @@ print-requires c κs =
       p.ensures.0,
       p.auto.1.0,
       b.ensures,
-      said.told-fits c.before.before.before.before.before.before.before.before.args.equation.now,
+      said.told_fits c.before.before.before.before.before.before.before.before.args.equation.now,
     )
 
 same_length : tie.Need-same-length
@@ -40,12 +40,12 @@ returns c =
     let p = c.before.before.before.before.before.before.equation-line in
     let q = c.before.before.print in
     q.ensures
-    ∙ laws.print-line b.result _ p.new.1.0
+    ∙ laws.print_line b.result _ p.new.1.0
     c.before.before.before.before.before.before.before.before.before.before.before.args.text.now p.result p.ensures.0
     (omega (
       arith,
       b.ensures,
-      said.told-fits c.before.before.before.before.before.before.before.before.before.before.before.args.equation.now,
+      said.told_fits c.before.before.before.before.before.before.before.before.before.before.before.args.equation.now,
     )) p.ensures.1
 
 pub reply-to-bytes-spec : {M : Type 1} → statement M

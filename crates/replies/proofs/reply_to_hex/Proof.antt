@@ -13,7 +13,7 @@ slice-aggregate-reply-in c = sym c.before.blank-equation.ensures
 reply-in-requires : tie.Need-reply-in-requires
 reply-in-requires c κs =
     let test = c.before.before.before in
-    laws.short-room test.before.before.before.args.field.now _ test.if1.true c.before.before.blank-equation.ensures
+    laws.short_room test.before.before.before.args.field.now _ test.if1.true c.before.before.blank-equation.ensures
 
 same_length : tie.Need-same-length
 same_length c = search rules
@@ -29,7 +29,7 @@ slice-aggregate-reply-in-2 c = sym c.before.blank-bytes.ensures
 
 reply-in-requires-2 : tie.Need-reply-in-requires-2
 reply-in-requires-2 c κs =
-    laws.long-room c.before.before.before.before.before.before.args.field.now _ c.before.before.blank-bytes.ensures
+    laws.long_room c.before.before.before.before.before.before.args.field.now _ c.before.before.blank-bytes.ensures
 
 same-length-2 : tie.Need-same-length-2
 same-length-2 c = search rules

@@ -41,7 +41,7 @@ returns c =
     let p = c.before.before.before.before.before.before.paper-line in
     let q = c.before.before.print in
     q.ensures
-    ∙ laws.print-line b.result _ p.new.1.0
+    ∙ laws.print_line b.result _ p.new.1.0
     c.before.before.before.before.before.before.before.before.before.before.before.args.text.now p.result p.ensures.0
     (omega (
       arith,

@@ -97,7 +97,7 @@ push-requires-3 c κs =
           c.before.before.before.before.before.before.before.before.before.before.before.before.before.before.before.before.before.before.before.args.why
           c.before.before.before.before.before.before.before.before.before.before.before.before.before.before.before.before.before.word_of.result
           c.before.before.before.before.before.before.before.before.before.before.before.before.before.before.before.before.before.word_of.ensures),
-      laws.word-length
+      laws.word_length
           c.before.before.before.before.before.before.before.before.before.before.before.before.before.before.before.before.before.before.before.args.why
           c.before.before.before.before.before.before.before.before.before.before.before.before.before.before.before.before.before.word_of.result
           c.before.before.before.before.before.before.before.before.before.before.before.before.before.before.before.before.before.word_of.ensures,
@@ -138,7 +138,7 @@ push-requires-4 c κs =
           c.before.before.before.before.before.before.before.before.before.before.before.before.before.before.before.before.before.before.before.before.before.before.before.before.args.why
           c.before.before.before.before.before.before.before.before.before.before.before.before.before.before.before.before.before.before.before.before.before.before.word_of.result
           c.before.before.before.before.before.before.before.before.before.before.before.before.before.before.before.before.before.before.before.before.before.before.word_of.ensures),
-      laws.word-length
+      laws.word_length
           c.before.before.before.before.before.before.before.before.before.before.before.before.before.before.before.before.before.before.before.before.before.before.before.before.args.why
           c.before.before.before.before.before.before.before.before.before.before.before.before.before.before.before.before.before.before.before.before.before.before.word_of.result
           c.before.before.before.before.before.before.before.before.before.before.before.before.before.before.before.before.before.before.before.before.before.before.word_of.ensures,
@@ -159,10 +159,10 @@ returns c =
     let r = c.before.before.before.before.before.before.before.before.before.before.before.before.push2 in
     let s = c.before.before.before.before.before.before.before.push3 in
     let t = c.before.before.push4 in
-    laws.five-pieces a.out.now p.last.0 q.last.0 r.new.0 s.new.0 t.new.0 (bytes_of "wrong\t") (decimal_of a.place) (9 ∷ []) _ _
+    laws.five_pieces a.out.now p.last.0 q.last.0 r.new.0 s.new.0 t.new.0 (bytes_of "wrong\t") (decimal_of a.place) (9 ∷ []) _ _
     (10 ∷ [])
     p.result q.result r.result s.result t.result
-    (laws.word-letters
+    (laws.word_letters
     c.before.before.before.before.before.before.before.before.before.before.before.before.before.before.before.before.before.before.before.before.before.before.before.before.before.before.before.args.why
     c.before.before.before.before.before.before.before.before.before.before.before.before.before.before.before.before.before.before.before.before.before.before.before.before.before.word_of.result
     c.before.before.before.before.before.before.before.before.before.before.before.before.before.before.before.before.before.before.before.before.before.before.before.before.before.word_of.ensures) p.ensures.0 p.ensures.1 q.ensures.0 q.ensures.1 r.ensures.0

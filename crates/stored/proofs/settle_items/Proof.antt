@@ -46,7 +46,7 @@ returns : tie.Need-returns invariant-loop decreases-loop
 returns c =
     let s = c.before.before.before in
     let a = c.before.before.before.before.before.before.before.before.before.args in
-    marks.walk-broken (relations_by a.eq.now a.steps.now) (drop 2 (file_at a.disk.now a.owner.now a.place a.n)) a.truths.now s.loop.truths s.loop.at s.loop.invariant.0
+    marks.walk_broken (relations_by a.eq.now a.steps.now) (drop 2 (file_at a.disk.now a.owner.now a.place a.n)) a.truths.now s.loop.truths s.loop.at s.loop.invariant.0
     (item_head (file_at a.disk.now a.owner.now a.place a.n) s.loop.at Broken _ c.before.before.head_at.ensures c.enum_told.given.1)
 
 enum-told-2 : tie.Need-enum-told-2 invariant-loop decreases-loop
@@ -121,7 +121,7 @@ loop-again c =
     let l = c.before.before.before.before.before.before.before.before.before.loop in
     let a = c.before.before.before.before.before.before.before.before.before.before.before.before.before.before.before.args in
     let m = c.moved in (
-      marks.walk-item (relations_by a.eq.now a.steps.now) (drop 2 (file_at a.disk.now a.owner.now a.place a.n)) a.truths.now l.truths l.at l.invariant.0 t.h.given.0.0 t.h.given.0.1.0 _ (met t).head
+      marks.walk_item (relations_by a.eq.now a.steps.now) (drop 2 (file_at a.disk.now a.owner.now a.place a.n)) a.truths.now l.truths l.at l.invariant.0 t.h.given.0.0 t.h.given.0.1.0 _ (met t).head
           (rw (← item_bytes_law (file_at a.disk.now a.owner.now a.place a.n) l.at t.h.given.0.1.0) c.before.before.before.settle-item.ensures),
       stands_on a.owner.now a.place m.result.index m.result.block (2 + (l.at + 3 + t.h.given.0.1.0)) (2 + (l.at + 3 + t.h.given.0.1.0)) m.ensures.0 m.ensures.1 (omega arith),
     )

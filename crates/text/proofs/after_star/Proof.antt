@@ -28,17 +28,17 @@ found c =
 spent : (c : tie.After-compare invariant-loop decreases-loop) → c.compare.result.compared ≡ compared (drop c.before.before.before.loop.back c.before.before.before.before.before.before.args.pattern.now) (drop c.before.before.before.loop.mark c.before.before.before.before.before.before.args.text.now)
 spent c =
     let l = c.before.before.before.loop in
-    counting.turn-compared c.before.before.before.before.before.before.args.pattern.now c.before.before.before.before.before.before.args.text.now l.back l.mark c.compare.result.compared c.compare.ensures.1
+    counting.turn_compared c.before.before.before.before.before.before.args.pattern.now c.before.before.before.before.before.before.args.text.now l.back l.mark c.compare.result.compared c.compare.ensures.1
 
 star-at : (c : tie.Then1 invariant-loop decreases-loop) → c.before.before.before.before.before.before.before.before.loop.back + c.before.before.before.before.before.compare.result.fitting < length c.before.before.before.before.before.before.before.before.before.before.before.args.pattern.now
-star-at c = laws.star-in c.before.before.before.before.before.before.before.before.before.before.before.args.pattern.now (c.before.before.before.before.before.before.before.before.loop.back + c.before.before.before.before.before.compare.result.fitting) (sym c.before.star.ensures ∙ c.if1.true)
+star-at c = laws.star_in c.before.before.before.before.before.before.before.before.before.before.before.args.pattern.now (c.before.before.before.before.before.before.before.before.loop.back + c.before.before.before.before.before.compare.result.fitting) (sym c.before.star.ensures ∙ c.if1.true)
 
 -- whether the pattern matches here
 here : (c : tie.After-ended invariant-loop decreases-loop) → matches (drop c.before.before.before.before.before.before.before.before.before.loop.back c.before.before.before.before.before.before.before.before.before.before.before.before.args.pattern.now) (drop c.before.before.before.before.before.before.before.before.before.loop.mark c.before.before.before.before.before.before.before.before.before.before.before.before.args.text.now) ≡ c.ended.result
 here c =
     let s = c.before.before.before.before.before.before.before.before.before.before.before.before.args in
     let l = c.before.before.before.before.before.before.before.before.before.loop in
-    laws.turn-stop s.pattern.now s.text.now l.back l.mark c.before.before.before.before.before.before.compare.result.fitting (found c.before.before.before.before.before.before) l.invariant.0 l.invariant.1 (sym c.before.before.star.ensures ∙ c.before.if1.false)
+    laws.turn_stop s.pattern.now s.text.now l.back l.mark c.before.before.before.before.before.before.compare.result.fitting (found c.before.before.before.before.before.before) l.invariant.0 l.invariant.1 (sym c.before.before.star.ensures ∙ c.before.if1.false)
     ∙ sym c.ended.ensures
 
 loop-holds : tie.Need-loop-init invariant-loop decreases-loop
@@ -93,9 +93,9 @@ loop-again c =
     let t = sym c.before.star.ensures ∙ c.if1.true in (
       omega arith,
       omega arith,
-      l.invariant.2 ∙ laws.turn-star s.pattern.now s.text.now l.back l.mark r.fitting f t,
+      l.invariant.2 ∙ laws.turn_star s.pattern.now s.text.now l.back l.mark r.fitting f t,
       rw c.before.before.before.before.count-sum.ensures
-          (l.invariant.3 ∙ counting.count-star s.pattern.now s.text.now l.back l.mark r.fitting r.compared l.n f (spent c.before.before.before.before.before) t),
+          (l.invariant.3 ∙ counting.count_star s.pattern.now s.text.now l.back l.mark r.fitting r.compared l.n f (spent c.before.before.before.before.before) t),
     )
 
 ended-requires : tie.Need-ended-requires invariant-loop decreases-loop
@@ -107,9 +107,9 @@ returns c =
     let l = c.before.before.before.before.before.before.before.before.before.before.loop in
     let r = c.before.before.before.before.before.before.before.compare.result in
     let m = here c.before ∙ c.if2.true in (
-      sym (l.invariant.2 ∙ laws.turn-found (matches (drop l.back s.pattern.now)) s.text.now l.mark m),
+      sym (l.invariant.2 ∙ laws.turn_found (matches (drop l.back s.pattern.now)) s.text.now l.mark m),
       c.before.before.before.before.before.before.count-sum.ensures
-          ∙ sym (l.invariant.3 ∙ counting.count-done s.pattern.now s.text.now l.back l.mark r.fitting r.compared l.n (found c.before.before.before.before.before.before.before) (spent c.before.before.before.before.before.before.before) (sym c.before.before.before.star.ensures ∙ c.before.before.if1.false) m),
+          ∙ sym (l.invariant.3 ∙ counting.count_done s.pattern.now s.text.now l.back l.mark r.fitting r.compared l.n (found c.before.before.before.before.before.before.before) (spent c.before.before.before.before.before.before.before) (sym c.before.before.before.star.ensures ∙ c.before.before.if1.false) m),
     )
 
 returns-2 : tie.Need-returns-2 invariant-loop decreases-loop
@@ -119,7 +119,7 @@ returns-2 c =
     let r = c.before.before.before.before.before.before.before.before.compare.result in (
       sym (l.invariant.2 ∙ laws.turn_last (matches (drop l.back s.pattern.now)) s.text.now l.mark c.if3.true (here c.before.before ∙ c.before.if2.false)),
       c.before.before.before.before.before.before.before.count-sum.ensures
-          ∙ sym (l.invariant.3 ∙ counting.count-last s.pattern.now s.text.now l.back l.mark r.fitting r.compared l.n (found c.before.before.before.before.before.before.before.before) (spent c.before.before.before.before.before.before.before.before) c.if3.true),
+          ∙ sym (l.invariant.3 ∙ counting.count_last s.pattern.now s.text.now l.back l.mark r.fitting r.compared l.n (found c.before.before.before.before.before.before.before.before) (spent c.before.before.before.before.before.before.before.before) c.if3.true),
     )
 
 add-mark : tie.Need-overflow-add-mark invariant-loop decreases-loop
@@ -137,7 +137,7 @@ loop-again-2 c =
     let m = here c.before.before ∙ c.before.if2.false in (
       omega arith,
       omega arith,
-      l.invariant.2 ∙ laws.turn-next (matches (drop l.back s.pattern.now)) s.text.now l.mark n m,
+      l.invariant.2 ∙ laws.turn_next (matches (drop l.back s.pattern.now)) s.text.now l.mark n m,
       rw c.before.before.before.before.before.before.before.count-sum.ensures
           (l.invariant.3 ∙ counting.count_next s.pattern.now s.text.now l.back l.mark r.fitting r.compared l.n (found c.before.before.before.before.before.before.before.before) (spent c.before.before.before.before.before.before.before.before) (sym c.before.before.before.before.star.ensures ∙ c.before.before.before.if1.false) m),
     )

@@ -26,7 +26,7 @@ returns : tie.Need-returns invariant-loop decreases-loop
 returns c =
     let s = c.before.before.before.before.before.args in
     let l = c.before.before.loop in
-    (laws.run_ends s.pattern.now s.text.now l.k l.invariant.3 c.if1.true, l.invariant.2 ∙ counting.compared-ends s.pattern.now s.text.now l.k l.invariant.4 c.if1.true)
+    (laws.run_ends s.pattern.now s.text.now l.k l.invariant.3 c.if1.true, l.invariant.2 ∙ counting.compared_ends s.pattern.now s.text.now l.k l.invariant.4 c.if1.true)
 
 add-n : tie.Need-overflow-add-n invariant-loop decreases-loop
 add-n c = omega arith
@@ -56,8 +56,8 @@ loop-again c =
       omega arith,
       omega arith,
       omega arith,
-      laws.run-goes s.pattern.now s.text.now l.k l.invariant.3 h i f,
-      counting.compared-goes s.pattern.now s.text.now l.k l.invariant.4 h i f,
+      laws.run_goes s.pattern.now s.text.now l.k l.invariant.3 h i f,
+      counting.compared_goes s.pattern.now s.text.now l.k l.invariant.4 h i f,
     )
 
 returns-2 : tie.Need-returns-2 invariant-loop decreases-loop
@@ -67,15 +67,15 @@ returns-2 c =
     let h = c.before.before.before.before.before.loop-test.true in
     let i = c.before.before.before.before.if1.false in
     let f = sym c.before.fit.ensures ∙ c.if2.false in (
-      laws.run-stops s.pattern.now s.text.now l.k l.invariant.3 h i f,
-      omega (arith, l.invariant.2, counting.compared-stops s.pattern.now s.text.now l.k l.invariant.4 h i f),
+      laws.run_stops s.pattern.now s.text.now l.k l.invariant.3 h i f,
+      omega (arith, l.invariant.2, counting.compared_stops s.pattern.now s.text.now l.k l.invariant.4 h i f),
     )
 
 returns-3 : tie.Need-returns-3 invariant-loop decreases-loop
 returns-3 c =
     let s = c.before.before.before.before.args in
     let l = c.before.loop in
-    (laws.run-ends-2 s.pattern.now s.text.now l.k l.invariant.3 c.loop-test.false, l.invariant.2 ∙ counting.compared-ends-2 s.pattern.now s.text.now l.k l.invariant.4 c.loop-test.false)
+    (laws.run_ends_2 s.pattern.now s.text.now l.k l.invariant.3 c.loop-test.false, l.invariant.2 ∙ counting.compared_ends_2 s.pattern.now s.text.now l.k l.invariant.4 c.loop-test.false)
 
 pub compare-spec : {M : Type 1} → statement M
 compare-spec =

@@ -11,13 +11,13 @@ sub-if1 : tie.Need-overflow-sub-if1
 sub-if1 c = search rules
 
 returns : tie.Need-returns
-returns c = let a = c.before.args in sym (counting.upTo64-above (a.a + a.b) (omega arith))
+returns c = let a = c.before.args in sym (counting.up_to64_above (a.a + a.b) (omega arith))
 
 add-result : tie.Need-overflow-add-result
 add-result c = search rules
 
 returns-2 : tie.Need-returns-2
-returns-2 c = let a = c.before.args in sym (counting.upTo64-below (a.a + a.b) (omega arith))
+returns-2 c = let a = c.before.args in sym (counting.up_to64_below (a.a + a.b) (omega arith))
 
 pub count-sum-spec : {M : Type 1} → statement M
 count-sum-spec = tie.close (tie.spec sub-if1 returns add-result returns-2)

@@ -14,7 +14,7 @@ inside : (c : tie.Then1) → (c.before.before.compare.result.fitting < length c.
 inside c =
     let s = c.before.before.before.before.before.args in
     let k = c.before.before.compare.result.fitting in
-    (laws.star-in s.pattern.now k (sym c.before.star.ensures ∙ c.if1.true), omega (arith, c.before.before.compare.ensures.0, (laws.run-le s.pattern.now s.text.now).1))
+    (laws.star_in s.pattern.now k (sym c.before.star.ensures ∙ c.if1.true), omega (arith, c.before.before.compare.ensures.0, (laws.run_le s.pattern.now s.text.now).1))
 
 compare-requires : tie.Need-compare-requires
 compare-requires c κs = search rules
@@ -53,9 +53,9 @@ returns c =
     let t = sym c.before.before.before.before.star.ensures ∙ c.before.before.before.if1.true in
     let n =
     c.after-star.ensures.1
-    ∙ sym (counting.first-count-star s.pattern.now s.text.now r.result.fitting r.result.compared r.ensures.0 r.ensures.1 t) in (
-      c.after-star.ensures.0 ∙ sym (laws.first-star s.pattern.now s.text.now r.result.fitting r.ensures.0 t),
-      (n, counting.counted-bound s.pattern.now s.text.now c.after-star.result.comparisons n),
+    ∙ sym (counting.first_count_star s.pattern.now s.text.now r.result.fitting r.result.compared r.ensures.0 r.ensures.1 t) in (
+      c.after-star.ensures.0 ∙ sym (laws.first_star s.pattern.now s.text.now r.result.fitting r.ensures.0 t),
+      (n, counting.counted_bound s.pattern.now s.text.now c.after-star.result.comparisons n),
     )
 
 ended-requires : tie.Need-ended-requires
@@ -66,11 +66,11 @@ returns-2 c =
     let s = c.before.before.before.before.before.before.args in
     let r = c.before.before.before.compare in
     let t = sym c.before.before.star.ensures ∙ c.before.if1.false in
-    let l = counting.compared-le s.pattern.now s.text.now in
+    let l = counting.compared_le s.pattern.now s.text.now in
     let n =
-    sym (counting.first-count-stop s.pattern.now s.text.now r.result.fitting r.result.compared r.ensures.0 r.ensures.1 t (omega (arith, r.ensures.1, l.0))) in (
-      c.ended.ensures ∙ sym (laws.first-stop s.pattern.now s.text.now r.result.fitting r.ensures.0 t),
-      (n, counting.counted-bound s.pattern.now s.text.now r.result.compared n),
+    sym (counting.first_count_stop s.pattern.now s.text.now r.result.fitting r.result.compared r.ensures.0 r.ensures.1 t (omega (arith, r.ensures.1, l.0))) in (
+      c.ended.ensures ∙ sym (laws.first_stop s.pattern.now s.text.now r.result.fitting r.ensures.0 t),
+      (n, counting.counted_bound s.pattern.now s.text.now r.result.compared n),
     )
 
 pub counted-match-spec : {M : Type 1} → statement M

@@ -26,7 +26,7 @@ same_length c = search rules
 
 returns : tie.Need-returns
 unfolding bytes_of
-returns c = laws.why-first (ask_in c.before.before.before.before.before.before.before.before.before.before.before.before.args.disk.now c.before.before.before.before.before.before.before.before.before.before.before.before.args.owner.now c.before.before.before.before.before.before.before.before.before.before.before.before.args.table.now c.before.before.before.before.before.before.before.before.before.before.before.before.args.most) c.before.before.before.before.before.before.before.before.before.before.before.before.args.line.now c.before.before.before.before.before.before.before.before.before.before.before.before.args.text.now _ c.before.before.reply-to-text.result (sym c.before.before.before.before.before.begins.ensures ∙ c.before.before.before.before.if1.true) c.before.before.reply-to-text.ensures
+returns c = laws.why_first (ask_in c.before.before.before.before.before.before.before.before.before.before.before.before.args.disk.now c.before.before.before.before.before.before.before.before.before.before.before.before.args.owner.now c.before.before.before.before.before.before.before.before.before.before.before.before.args.table.now c.before.before.before.before.before.before.before.before.before.before.before.before.args.most) c.before.before.before.before.before.before.before.before.before.before.before.before.args.line.now c.before.before.before.before.before.before.before.before.before.before.before.before.args.text.now _ c.before.before.reply-to-text.result (sym c.before.before.before.before.before.begins.ensures ∙ c.before.before.before.before.if1.true) c.before.before.reply-to-text.ensures
 
 slice-aggregate-begins-2 : tie.Need-slice-aggregate-begins-2
 slice-aggregate-begins-2 c = search rules
@@ -43,7 +43,7 @@ same-length-2 c = search rules
 returns-2 : tie.Need-returns-2
 unfolding bytes_of
 returns-2 c =
-    laws.bytes-first (ask_in c.before.before.before.before.before.before.before.before.before.before.before.before.before.before.before.args.disk.now c.before.before.before.before.before.before.before.before.before.before.before.before.before.before.before.args.owner.now c.before.before.before.before.before.before.before.before.before.before.before.before.before.before.before.args.table.now c.before.before.before.before.before.before.before.before.before.before.before.before.before.before.before.args.most) c.before.before.before.before.before.before.before.before.before.before.before.before.before.before.before.args.line.now c.before.before.before.before.before.before.before.before.before.before.before.before.before.before.before.args.text.now _ c.before.before.reply-to-hex.result (sym c.before.before.before.before.before.before.before.before.begins.ensures ∙ c.before.before.before.before.before.before.before.if1.false)
+    laws.bytes_first (ask_in c.before.before.before.before.before.before.before.before.before.before.before.before.before.before.before.args.disk.now c.before.before.before.before.before.before.before.before.before.before.before.before.before.before.before.args.owner.now c.before.before.before.before.before.before.before.before.before.before.before.before.before.before.before.args.table.now c.before.before.before.before.before.before.before.before.before.before.before.before.before.before.before.args.most) c.before.before.before.before.before.before.before.before.before.before.before.before.before.before.before.args.line.now c.before.before.before.before.before.before.before.before.before.before.before.before.before.before.before.args.text.now _ c.before.before.reply-to-hex.result (sym c.before.before.before.before.before.before.before.before.begins.ensures ∙ c.before.before.before.before.before.before.before.if1.false)
     (sym c.before.before.before.before.before.begins2.ensures ∙ c.before.before.before.before.if2.true) c.before.before.reply-to-hex.ensures
 
 returns-3 : tie.Need-returns-3

@@ -26,15 +26,15 @@ add-t12 c = search rules
 
 returns : tie.Need-returns
 returns c =
-    rw (← c.before.before.before.before.before.before.decimal.ensures, c.before.before.before.before.d.given.1) (sym (laws.tab-follows c.before.before.before.before.before.before.before.before.args.line.now _ _ c.if2.true))
+    rw (← c.before.before.before.before.before.before.decimal.ensures, c.before.before.before.before.d.given.1) (sym (laws.tab_follows c.before.before.before.before.before.before.before.before.args.line.now _ _ c.if2.true))
 
 returns-2 : tie.Need-returns-2
 returns-2 c =
-    rw (← c.before.before.decimal.ensures, c.enum_told.given.1) (sym (laws.no-digits c.before.before.before.before.args.line.now))
+    rw (← c.before.before.decimal.ensures, c.enum_told.given.1) (sym (laws.no_digits c.before.before.before.before.args.line.now))
 
 returns-3 : tie.Need-returns-3
 returns-3 c =
-    rw (← c.before.before.before.before.before.before.decimal.ensures, c.before.before.before.before.d.given.1) (sym (laws.no-tab c.before.before.before.before.before.before.before.before.args.line.now _ _ c.if2.false))
+    rw (← c.before.before.before.before.before.before.decimal.ensures, c.before.before.before.before.d.given.1) (sym (laws.no_tab c.before.before.before.before.before.before.before.before.args.line.now _ _ c.if2.false))
 
 returns-4 : tie.Need-returns-4
 returns-4 c =

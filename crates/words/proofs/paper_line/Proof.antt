@@ -54,7 +54,7 @@ same_length c = search rules
 
 returns : tie.Need-returns
 returns c =
-    rw (laws.paper-as (ask_in c.before.before.before.before.before.before.before.before.before.before.before.before.before.before.before.before.args.disk.now c.before.before.before.before.before.before.before.before.before.before.before.before.before.before.before.before.args.owner.now c.before.before.before.before.before.before.before.before.before.before.before.before.before.before.before.before.args.table.now c.before.before.before.before.before.before.before.before.before.before.before.before.before.before.before.before.args.most c.before.before.before.before.before.before.before.before.before.before.before.before.before.before.before.before.args.number) c.before.before.before.before.before.before.before.before.before.before.before.before.before.before.before.before.args.equation.now c.before.before.before.before.before.before.before.before.before.to-bytes.result _ c.before.before.before.before.before.before.before.before.before.to-bytes.new.1.0 c.before.before.before.before.before.before.before.before.before.to-bytes.ensures c.before.before.before.before.before.before.a.given.1)
+    rw (laws.paper_as (ask_in c.before.before.before.before.before.before.before.before.before.before.before.before.before.before.before.before.args.disk.now c.before.before.before.before.before.before.before.before.before.before.before.before.before.before.before.before.args.owner.now c.before.before.before.before.before.before.before.before.before.before.before.before.before.before.before.before.args.table.now c.before.before.before.before.before.before.before.before.before.before.before.before.before.before.before.before.args.most c.before.before.before.before.before.before.before.before.before.before.before.before.before.before.before.before.args.number) c.before.before.before.before.before.before.before.before.before.before.before.before.before.before.before.before.args.equation.now c.before.before.before.before.before.before.before.before.before.to-bytes.result _ c.before.before.before.before.before.before.before.before.before.to-bytes.new.1.0 c.before.before.before.before.before.before.before.before.before.to-bytes.ensures c.before.before.before.before.before.before.a.given.1)
     c.before.before.why-line.ensures
 
 same-length-2 : tie.Need-same-length-2
@@ -62,7 +62,7 @@ same-length-2 c = search rules
 
 returns-2 : tie.Need-returns-2
 returns-2 c =
-    rw (laws.paper-as (ask_in c.before.before.before.before.before.before.before.before.before.before.before.before.before.before.args.disk.now c.before.before.before.before.before.before.before.before.before.before.before.before.before.before.args.owner.now c.before.before.before.before.before.before.before.before.before.before.before.before.before.before.args.table.now c.before.before.before.before.before.before.before.before.before.before.before.before.before.before.args.most c.before.before.before.before.before.before.before.before.before.before.before.before.before.before.args.number) c.before.before.before.before.before.before.before.before.before.before.before.before.before.before.args.equation.now c.before.before.before.before.before.before.before.to-bytes.result _ c.before.before.before.before.before.before.before.to-bytes.new.1.0 c.before.before.before.before.before.before.before.to-bytes.ensures c.before.before.before.before.enum_told.given.1)
+    rw (laws.paper_as (ask_in c.before.before.before.before.before.before.before.before.before.before.before.before.before.before.args.disk.now c.before.before.before.before.before.before.before.before.before.before.before.before.before.before.args.owner.now c.before.before.before.before.before.before.before.before.before.before.before.before.before.before.args.table.now c.before.before.before.before.before.before.before.before.before.before.before.before.before.before.args.most c.before.before.before.before.before.before.before.before.before.before.before.before.before.before.args.number) c.before.before.before.before.before.before.before.before.before.before.before.before.before.before.args.equation.now c.before.before.before.before.before.before.before.to-bytes.result _ c.before.before.before.before.before.before.before.to-bytes.new.1.0 c.before.before.before.before.before.before.before.to-bytes.ensures c.before.before.before.before.enum_told.given.1)
     c.before.before.wrong-line.ensures
 
 same-length-3 : tie.Need-same-length-3
@@ -70,7 +70,7 @@ same-length-3 c = search rules
 
 returns-3 : tie.Need-returns-3
 returns-3 c =
-    rw (laws.paper-as (ask_in c.before.before.before.before.before.before.before.before.before.before.before.before.before.before.args.disk.now c.before.before.before.before.before.before.before.before.before.before.before.before.before.before.args.owner.now c.before.before.before.before.before.before.before.before.before.before.before.before.before.before.args.table.now c.before.before.before.before.before.before.before.before.before.before.before.before.before.before.args.most c.before.before.before.before.before.before.before.before.before.before.before.before.before.before.args.number) c.before.before.before.before.before.before.before.before.before.before.before.before.before.before.args.equation.now c.before.before.before.before.before.before.before.to-bytes.result _ c.before.before.before.before.before.before.before.to-bytes.new.1.0 c.before.before.before.before.before.before.before.to-bytes.ensures c.before.before.before.before.enum-told2.given.1)
+    rw (laws.paper_as (ask_in c.before.before.before.before.before.before.before.before.before.before.before.before.before.before.args.disk.now c.before.before.before.before.before.before.before.before.before.before.before.before.before.before.args.owner.now c.before.before.before.before.before.before.before.before.before.before.before.before.before.before.args.table.now c.before.before.before.before.before.before.before.before.before.before.before.before.before.before.args.most c.before.before.before.before.before.before.before.before.before.before.before.before.before.before.args.number) c.before.before.before.before.before.before.before.before.before.before.before.before.before.before.args.equation.now c.before.before.before.before.before.before.before.to-bytes.result _ c.before.before.before.before.before.before.before.to-bytes.new.1.0 c.before.before.before.before.before.before.before.to-bytes.ensures c.before.before.before.before.enum-told2.given.1)
     c.before.before.wrong-line2.ensures
 
 same-length-4 : tie.Need-same-length-4
@@ -78,7 +78,7 @@ same-length-4 c = search rules
 
 returns-4 : tie.Need-returns-4
 returns-4 c =
-    rw (laws.paper-as (ask_in c.before.before.before.before.before.before.before.before.before.before.before.before.before.before.args.disk.now c.before.before.before.before.before.before.before.before.before.before.before.before.before.before.args.owner.now c.before.before.before.before.before.before.before.before.before.before.before.before.before.before.args.table.now c.before.before.before.before.before.before.before.before.before.before.before.before.before.before.args.most c.before.before.before.before.before.before.before.before.before.before.before.before.before.before.args.number) c.before.before.before.before.before.before.before.before.before.before.before.before.before.before.args.equation.now c.before.before.before.before.before.before.before.to-bytes.result _ c.before.before.before.before.before.before.before.to-bytes.new.1.0 c.before.before.before.before.before.before.before.to-bytes.ensures c.before.before.before.before.enum-told3.given.1)
+    rw (laws.paper_as (ask_in c.before.before.before.before.before.before.before.before.before.before.before.before.before.before.args.disk.now c.before.before.before.before.before.before.before.before.before.before.before.before.before.before.args.owner.now c.before.before.before.before.before.before.before.before.before.before.before.before.before.before.args.table.now c.before.before.before.before.before.before.before.before.before.before.before.before.before.before.args.most c.before.before.before.before.before.before.before.before.before.before.before.before.before.before.args.number) c.before.before.before.before.before.before.before.before.before.before.before.before.before.before.args.equation.now c.before.before.before.before.before.before.before.to-bytes.result _ c.before.before.before.before.before.before.before.to-bytes.new.1.0 c.before.before.before.before.before.before.before.to-bytes.ensures c.before.before.before.before.enum-told3.given.1)
     c.before.before.wrong-line3.ensures
 
 pub paper-line-spec : {M : Type 1} → statement M

@@ -13,7 +13,7 @@ use Rattle.words.proofs.print.Tie as tie
 returns : tie.Need-returns
 returns c =
     let a = c.before.before.before.args in
-    laws.print-none a.buffer.now a.text.now a.n c.before.before.before.requires c.if1.true
+    laws.print_none a.buffer.now a.text.now a.n c.before.before.before.requires c.if1.true
 
 slice-aggregate-store : tie.Need-slice-aggregate-store
 slice-aggregate-store c =
@@ -30,7 +30,7 @@ returns-2 : tie.Need-returns-2
 returns-2 c =
     let a = c.before.before.before.before.before.before.before.before.args in
     let s = c.before.before.store in
-    laws.print-whole a.buffer.now a.text.now s.new.0 a.n c.before.before.before.before.before.before.before.before.requires
+    laws.print_whole a.buffer.now a.text.now s.new.0 a.n c.before.before.before.before.before.before.before.before.requires
     c.before.before.before.before.before.if1.false s.ensures.1
 
 pub print-spec : {M : Type 1} → statement M

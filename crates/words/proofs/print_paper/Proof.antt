@@ -23,15 +23,15 @@ slice-aggregate-print : tie.Need-slice-aggregate-print
 slice-aggregate-print c = search rules
 
 print-requires : tie.Need-print-requires
-print-requires c κs = omega (arith, c.before.before.before.paper-line.ensures.end, c.before.before.before.paper-line.auto.1.1.1.1.1.1.0, c.before.before.before.before.before.blank-line.ensures, room.paper-fits c.before.before.before.before.before.before.before.before.before.before.before.args.disk.now c.before.before.before.before.before.before.before.before.before.before.before.args.owner.now c.before.before.before.before.before.before.before.before.before.before.before.args.table.now c.before.before.before.before.before.before.before.before.before.before.before.args.most c.before.before.before.before.before.before.before.before.before.before.before.args.number (omega (arith, c.before.before.before.before.before.before.before.before.before.before.before.well-formed)) c.before.before.before.before.before.before.before.before.before.before.before.args.equation.now (omega (arith, c.before.before.before.before.before.before.before.before.before.before.before.well-formed)))
+print-requires c κs = omega (arith, c.before.before.before.paper-line.ensures.end, c.before.before.before.paper-line.auto.1.1.1.1.1.1.0, c.before.before.before.before.before.blank-line.ensures, room.paper_fits c.before.before.before.before.before.before.before.before.before.before.before.args.disk.now c.before.before.before.before.before.before.before.before.before.before.before.args.owner.now c.before.before.before.before.before.before.before.before.before.before.before.args.table.now c.before.before.before.before.before.before.before.before.before.before.before.args.most c.before.before.before.before.before.before.before.before.before.before.before.args.number (omega (arith, c.before.before.before.before.before.before.before.before.before.before.before.well-formed)) c.before.before.before.before.before.before.before.before.before.before.before.args.equation.now (omega (arith, c.before.before.before.before.before.before.before.before.before.before.before.well-formed)))
 
 same_length : tie.Need-same-length
 same_length c = search rules
 
 returns : tie.Need-returns
 returns c =
-    rw (← laws.print-pushed c.before.before.before.before.before.before.before.before.blank-line.result _ c.before.before.before.before.before.before.paper-line.new.1.1.1.1.1.1.0 c.before.before.before.before.before.before.before.before.before.before.before.before.before.before.args.text.now c.before.before.before.before.before.before.paper-line.result
-    (omega (arith, c.before.before.before.before.before.before.before.before.blank-line.ensures, room.paper-fits c.before.before.before.before.before.before.before.before.before.before.before.before.before.before.args.disk.now c.before.before.before.before.before.before.before.before.before.before.before.before.before.before.args.owner.now c.before.before.before.before.before.before.before.before.before.before.before.before.before.before.args.table.now c.before.before.before.before.before.before.before.before.before.before.before.before.before.before.args.most c.before.before.before.before.before.before.before.before.before.before.before.before.before.before.args.number (omega (arith, c.before.before.before.before.before.before.before.before.before.before.before.before.before.before.well-formed)) c.before.before.before.before.before.before.before.before.before.before.before.before.before.before.args.equation.now (omega (arith, c.before.before.before.before.before.before.before.before.before.before.before.before.before.before.well-formed)))) c.before.before.before.before.before.before.paper-line.ensures) c.before.before.print.ensures
+    rw (← laws.print_pushed c.before.before.before.before.before.before.before.before.blank-line.result _ c.before.before.before.before.before.before.paper-line.new.1.1.1.1.1.1.0 c.before.before.before.before.before.before.before.before.before.before.before.before.before.before.args.text.now c.before.before.before.before.before.before.paper-line.result
+    (omega (arith, c.before.before.before.before.before.before.before.before.blank-line.ensures, room.paper_fits c.before.before.before.before.before.before.before.before.before.before.before.before.before.before.args.disk.now c.before.before.before.before.before.before.before.before.before.before.before.before.before.before.args.owner.now c.before.before.before.before.before.before.before.before.before.before.before.before.before.before.args.table.now c.before.before.before.before.before.before.before.before.before.before.before.before.before.before.args.most c.before.before.before.before.before.before.before.before.before.before.before.before.before.before.args.number (omega (arith, c.before.before.before.before.before.before.before.before.before.before.before.before.before.before.well-formed)) c.before.before.before.before.before.before.before.before.before.before.before.before.before.before.args.equation.now (omega (arith, c.before.before.before.before.before.before.before.before.before.before.before.before.before.before.well-formed)))) c.before.before.before.before.before.before.paper-line.ensures) c.before.before.print.ensures
 
 pub print-paper-spec : {M : Type 1} → statement M
 print-paper-spec =

@@ -51,7 +51,7 @@ slice-aggregate-push-2 c = search rules
 
 push-requires-2 : tie.Need-push-requires-2
 unfolding bytes_of
-push-requires-2 c κs = room_first c.before.before.before.before.before.before.args.out.now c.before.before.before.before.before.before.args.n (bytes_of "refused\t") (decimal_of c.before.before.before.before.before.before.args.told.refused ++ (10 ∷ [])) (rw (laws.told-refused c.before.before.before.before.before.before.args.told c.before.before.before.before.before.before.args.named.now c.before.before.if1.false) at c.before.before.before.before.before.before.requires.0)
+push-requires-2 c κs = room_first c.before.before.before.before.before.before.args.out.now c.before.before.before.before.before.before.args.n (bytes_of "refused\t") (decimal_of c.before.before.before.before.before.before.args.told.refused ++ (10 ∷ [])) (rw (laws.told_refused c.before.before.before.before.before.before.args.told c.before.before.before.before.before.before.args.named.now c.before.before.if1.false) at c.before.before.before.before.before.before.requires.0)
 
 cast-push-decimal : tie.Need-overflow-cast-push-decimal
 cast-push-decimal c = search rules
@@ -59,7 +59,7 @@ cast-push-decimal c = search rules
 push-decimal-requires : tie.Need-push-decimal-requires
 unfolding bytes_of
 push-decimal-requires c κs =
-    let fits = room_then c.before.before.before.before.before.before.before.before.before.before.before.args.out.now c.before.before.before.before.before.before.before.before.before.before.before.args.n (bytes_of "refused\t") (decimal_of c.before.before.before.before.before.before.before.before.before.before.before.args.told.refused ++ (10 ∷ [])) (rw (laws.told-refused c.before.before.before.before.before.before.before.before.before.before.before.args.told c.before.before.before.before.before.before.before.before.before.before.before.args.named.now c.before.before.before.before.before.before.before.if1.false) at c.before.before.before.before.before.before.before.before.before.before.before.requires.0) c.before.before.before.before.push2.result c.before.before.before.before.push2.new.0 c.before.before.before.before.push2.auto.0 c.before.before.before.before.push2.ensures in
+    let fits = room_then c.before.before.before.before.before.before.before.before.before.before.before.args.out.now c.before.before.before.before.before.before.before.before.before.before.before.args.n (bytes_of "refused\t") (decimal_of c.before.before.before.before.before.before.before.before.before.before.before.args.told.refused ++ (10 ∷ [])) (rw (laws.told_refused c.before.before.before.before.before.before.before.before.before.before.before.args.told c.before.before.before.before.before.before.before.before.before.before.before.args.named.now c.before.before.before.before.before.before.before.if1.false) at c.before.before.before.before.before.before.before.before.before.before.before.requires.0) c.before.before.before.before.push2.result c.before.before.before.before.push2.new.0 c.before.before.before.before.push2.auto.0 c.before.before.before.before.push2.ensures in
     room_first c.before.before.before.before.push2.new.0 c.before.before.before.before.push2.result (decimal_of c.before.before.before.before.before.before.before.before.before.before.before.args.told.refused) (10 ∷ []) fits
 
 slice-aggregate-push-3 : tie.Need-slice-aggregate-push-3
@@ -68,7 +68,7 @@ slice-aggregate-push-3 c = search rules
 push-requires-3 : tie.Need-push-requires-3
 unfolding bytes_of
 push-requires-3 c κs =
-    let fits = room_then c.before.before.before.before.before.before.before.before.before.before.before.before.before.before.before.before.args.out.now c.before.before.before.before.before.before.before.before.before.before.before.before.before.before.before.before.args.n (bytes_of "refused\t") (decimal_of c.before.before.before.before.before.before.before.before.before.before.before.before.before.before.before.before.args.told.refused ++ (10 ∷ [])) (rw (laws.told-refused c.before.before.before.before.before.before.before.before.before.before.before.before.before.before.before.before.args.told c.before.before.before.before.before.before.before.before.before.before.before.before.before.before.before.before.args.named.now c.before.before.before.before.before.before.before.before.before.before.before.before.if1.false) at c.before.before.before.before.before.before.before.before.before.before.before.before.before.before.before.before.requires.0) c.before.before.before.before.before.before.before.before.before.push2.result c.before.before.before.before.before.before.before.before.before.push2.new.0 c.before.before.before.before.before.before.before.before.before.push2.auto.0 c.before.before.before.before.before.before.before.before.before.push2.ensures in
+    let fits = room_then c.before.before.before.before.before.before.before.before.before.before.before.before.before.before.before.before.args.out.now c.before.before.before.before.before.before.before.before.before.before.before.before.before.before.before.before.args.n (bytes_of "refused\t") (decimal_of c.before.before.before.before.before.before.before.before.before.before.before.before.before.before.before.before.args.told.refused ++ (10 ∷ [])) (rw (laws.told_refused c.before.before.before.before.before.before.before.before.before.before.before.before.before.before.before.before.args.told c.before.before.before.before.before.before.before.before.before.before.before.before.before.before.before.before.args.named.now c.before.before.before.before.before.before.before.before.before.before.before.before.if1.false) at c.before.before.before.before.before.before.before.before.before.before.before.before.before.before.before.before.requires.0) c.before.before.before.before.before.before.before.before.before.push2.result c.before.before.before.before.before.before.before.before.before.push2.new.0 c.before.before.before.before.before.before.before.before.before.push2.auto.0 c.before.before.before.before.before.before.before.before.before.push2.ensures in
     room_then c.before.before.before.before.before.before.before.before.before.push2.new.0 c.before.before.before.before.before.before.before.before.before.push2.result (decimal_of c.before.before.before.before.before.before.before.before.before.before.before.before.before.before.before.before.args.told.refused) (10 ∷ []) fits
     c.before.before.before.before.push-decimal.result c.before.before.before.before.push-decimal.new.0 c.before.before.before.before.push-decimal.auto.0 c.before.before.before.before.push-decimal.ensures
 
@@ -78,7 +78,7 @@ same-length-2 c = search rules
 returns-2 : tie.Need-returns-2
 unfolding bytes_of
 returns-2 c =
-    rw (laws.told-refused c.before.before.before.before.before.before.before.before.before.before.before.before.before.before.before.before.before.before.before.args.told c.before.before.before.before.before.before.before.before.before.before.before.before.before.before.before.before.before.before.before.args.named.now c.before.before.before.before.before.before.before.before.before.before.before.before.before.before.before.if1.false)
+    rw (laws.told_refused c.before.before.before.before.before.before.before.before.before.before.before.before.before.before.before.before.before.before.before.args.told c.before.before.before.before.before.before.before.before.before.before.before.before.before.before.before.before.before.before.before.args.named.now c.before.before.before.before.before.before.before.before.before.before.before.before.before.before.before.if1.false)
     (joins c.before.before.before.before.before.before.before.before.before.before.before.before.push2.ensures (joins c.before.before.before.before.before.before.before.push-decimal.ensures c.before.before.push3.ensures))
 
 pub push-told-spec : {M : Type 1} → statement M

@@ -37,14 +37,14 @@ print-why-requires : tie.Need-print-why-requires
 print-why-requires c κs = search rules
 
 returns : tie.Need-returns
-returns c = laws.field-bad (ask_in c.before.before.before.before.before.before.before.before.before.before.before.args.disk.now c.before.before.before.before.before.before.before.before.before.before.before.args.owner.now c.before.before.before.before.before.before.before.before.before.before.before.args.table.now c.before.before.before.before.before.before.before.before.before.before.before.args.most c.before.before.before.before.before.before.before.before.before.before.before.args.number) c.before.before.before.before.before.before.before.before.before.before.before.args.number c.before.before.before.before.before.before.before.before.before.before.before.args.field.now c.before.before.before.before.before.blank-bytes.result c.before.before.before.hex.new.1.1.0 c.before.before.before.hex.result c.before.before.before.before.before.blank-bytes.ensures c.before.before.before.hex.ensures c.before.before.before.before.before.before.before.before.before.before.before.args.text.now c.enum_told.given.1
+returns c = laws.field_bad (ask_in c.before.before.before.before.before.before.before.before.before.before.before.args.disk.now c.before.before.before.before.before.before.before.before.before.before.before.args.owner.now c.before.before.before.before.before.before.before.before.before.before.before.args.table.now c.before.before.before.before.before.before.before.before.before.before.before.args.most c.before.before.before.before.before.before.before.before.before.before.before.args.number) c.before.before.before.before.before.before.before.before.before.before.before.args.number c.before.before.before.before.before.before.before.before.before.before.before.args.field.now c.before.before.before.before.before.blank-bytes.result c.before.before.before.hex.new.1.1.0 c.before.before.before.hex.result c.before.before.before.before.before.blank-bytes.ensures c.before.before.before.hex.ensures c.before.before.before.before.before.before.before.before.before.before.before.args.text.now c.enum_told.given.1
 
 same_length : tie.Need-same-length
 same_length c = search rules
 
 returns-2 : tie.Need-returns-2
 returns-2 c =
-    laws.field-line (ask_in c.before.before.before.before.before.before.before.before.before.before.before.before.before.before.before.before.before.args.disk.now c.before.before.before.before.before.before.before.before.before.before.before.before.before.before.before.before.before.args.owner.now c.before.before.before.before.before.before.before.before.before.before.before.before.before.before.before.before.before.args.table.now c.before.before.before.before.before.before.before.before.before.before.before.before.before.before.before.before.before.args.most c.before.before.before.before.before.before.before.before.before.before.before.before.before.before.before.before.before.args.number) c.before.before.before.before.before.before.before.before.before.before.before.before.before.before.before.before.before.args.number c.before.before.before.before.before.before.before.before.before.before.before.before.before.before.before.before.before.args.field.now c.before.before.before.before.before.before.before.before.before.before.before.blank-bytes.result c.before.before.before.before.before.before.before.before.before.hex.new.1.1.0 c.before.before.before.before.before.before.before.before.before.hex.result c.before.before.before.before.before.before.before.before.before.before.before.blank-bytes.ensures c.before.before.before.before.before.before.before.before.before.hex.ensures c.before.before.before.before.before.before.before.before.before.before.before.before.before.before.before.before.before.args.text.now _ c.before.before.before.before.before.before.p.given.0.0 c.before.before.print-why.result c.before.before.before.before.before.before.p.given.1 c.before.before.print-why.ensures
+    laws.field_line (ask_in c.before.before.before.before.before.before.before.before.before.before.before.before.before.before.before.before.before.args.disk.now c.before.before.before.before.before.before.before.before.before.before.before.before.before.before.before.before.before.args.owner.now c.before.before.before.before.before.before.before.before.before.before.before.before.before.before.before.before.before.args.table.now c.before.before.before.before.before.before.before.before.before.before.before.before.before.before.before.before.before.args.most c.before.before.before.before.before.before.before.before.before.before.before.before.before.before.before.before.before.args.number) c.before.before.before.before.before.before.before.before.before.before.before.before.before.before.before.before.before.args.number c.before.before.before.before.before.before.before.before.before.before.before.before.before.before.before.before.before.args.field.now c.before.before.before.before.before.before.before.before.before.before.before.blank-bytes.result c.before.before.before.before.before.before.before.before.before.hex.new.1.1.0 c.before.before.before.before.before.before.before.before.before.hex.result c.before.before.before.before.before.before.before.before.before.before.before.blank-bytes.ensures c.before.before.before.before.before.before.before.before.before.hex.ensures c.before.before.before.before.before.before.before.before.before.before.before.before.before.before.before.before.before.args.text.now _ c.before.before.before.before.before.before.p.given.0.0 c.before.before.print-why.result c.before.before.before.before.before.before.p.given.1 c.before.before.print-why.ensures
 
 pub reply-to-field-spec : {M : Type 1} → statement M
 reply-to-field-spec =

@@ -21,10 +21,10 @@ enum-known-asked : tie.Need-enum-known-asked
 enum-known-asked c = search rules
 
 sub-print-paper : tie.Need-overflow-sub-print-paper
-sub-print-paper c = laws.tab-within _ c.before.before.before.before.before.before.before.before.before.args.line.now _ c.before.asked.given.0.1.0 (sym c.before.before.before.number_at.ensures ∙ c.before.asked.given.1)
+sub-print-paper c = laws.tab_within _ c.before.before.before.before.before.before.before.before.before.args.line.now _ c.before.asked.given.0.1.0 (sym c.before.before.before.number_at.ensures ∙ c.before.asked.given.1)
 
 part-print-paper-start : tie.Need-slice-bounds-print-paper-start
-part-print-paper-start c = laws.tab-within _ c.before.before.before.before.before.before.before.before.before.args.line.now _ c.before.asked.given.0.1.0 (sym c.before.before.before.number_at.ensures ∙ c.before.asked.given.1)
+part-print-paper-start c = laws.tab_within _ c.before.before.before.before.before.before.before.before.before.args.line.now _ c.before.asked.given.0.1.0 (sym c.before.before.before.number_at.ensures ∙ c.before.asked.given.1)
 
 part-print-paper-end : tie.Need-slice-bounds-print-paper-end
 part-print-paper-end c = search rules
@@ -33,14 +33,14 @@ print-paper-requires : tie.Need-print-paper-requires
 print-paper-requires c κs = search rules
 
 returns : tie.Need-returns
-returns c = laws.text-bad (ask_in c.before.before.before.before.before.before.before.before.args.disk.now c.before.before.before.before.before.before.before.before.args.owner.now c.before.before.before.before.before.before.before.before.args.table.now c.before.before.before.before.before.before.before.before.args.most) c.before.before.before.before.before.before.before.before.args.line.now c.before.before.before.before.before.before.before.before.args.text.now _ (sym c.before.before.number_at.ensures ∙ c.enum_told.given.1)
+returns c = laws.text_bad (ask_in c.before.before.before.before.before.before.before.before.args.disk.now c.before.before.before.before.before.before.before.before.args.owner.now c.before.before.before.before.before.before.before.before.args.table.now c.before.before.before.before.before.before.before.before.args.most) c.before.before.before.before.before.before.before.before.args.line.now c.before.before.before.before.before.before.before.before.args.text.now _ (sym c.before.before.number_at.ensures ∙ c.enum_told.given.1)
 
 same_length : tie.Need-same-length
 same_length c = search rules
 
 returns-2 : tie.Need-returns-2
 returns-2 c =
-    laws.text-value (ask_in c.before.before.before.before.before.before.before.before.before.before.before.before.before.before.args.disk.now c.before.before.before.before.before.before.before.before.before.before.before.before.before.before.args.owner.now c.before.before.before.before.before.before.before.before.before.before.before.before.before.before.args.table.now c.before.before.before.before.before.before.before.before.before.before.before.before.before.before.args.most) c.before.before.before.before.before.before.before.before.before.before.before.before.before.before.args.line.now c.before.before.before.before.before.before.before.before.before.before.before.before.before.before.args.text.now _ _ _ (sym c.before.before.before.before.before.before.before.before.number_at.ensures ∙ c.before.before.before.before.before.before.asked.given.1) _ _
+    laws.text_value (ask_in c.before.before.before.before.before.before.before.before.before.before.before.before.before.before.args.disk.now c.before.before.before.before.before.before.before.before.before.before.before.before.before.before.args.owner.now c.before.before.before.before.before.before.before.before.before.before.before.before.before.before.args.table.now c.before.before.before.before.before.before.before.before.before.before.before.before.before.before.args.most) c.before.before.before.before.before.before.before.before.before.before.before.before.before.before.args.line.now c.before.before.before.before.before.before.before.before.before.before.before.before.before.before.args.text.now _ _ _ (sym c.before.before.before.before.before.before.before.before.number_at.ensures ∙ c.before.before.before.before.before.before.asked.given.1) _ _
     c.before.before.print-paper.result (end_part c.before.before.before.before.before.before.asked.given.0.1.0 c.before.before.before.before.before.before.before.before.before.before.before.before.before.before.args.line.now) c.before.before.print-paper.ensures
 
 pub reply-to-text-spec : {M : Type 1} → statement M

@@ -34,10 +34,10 @@ push-told-requires c κs = (
     c.before.before.before.before.before.before.before.before.before.before.before.before.before.before.requires,
     c.before.before.before.before.push-front.auto.0,
     c.before.before.before.before.push-front.ensures.end,
-    laws.front-most c.before.before.before.before.before.before.before.before.before.before.before.before.before.before.args.number (omega (arith, c.before.before.before.before.before.before.before.before.before.before.before.before.before.before.well-formed)),
-    room.told-short c.before.before.before.before.before.before.before.before.before.before.before.before.before.before.args.disk.now c.before.before.before.before.before.before.before.before.before.before.before.before.before.before.args.owner.now c.before.before.before.before.before.before.before.before.before.before.before.before.before.before.args.table.now c.before.before.before.before.before.before.before.before.before.before.before.before.before.before.args.most c.before.before.before.before.before.before.before.before.before.before.before.before.before.before.args.number c.before.before.before.before.before.before.before.before.before.before.before.before.before.before.args.equation.now c.before.before.before.before.before.before.before.why.result c.before.before.before.before.before.before.before.why.new.1.1.1.1.1.1.0 c.before.before.before.before.before.before.before.why.ensures,
+    laws.front_most c.before.before.before.before.before.before.before.before.before.before.before.before.before.before.args.number (omega (arith, c.before.before.before.before.before.before.before.before.before.before.before.before.before.before.well-formed)),
+    room.told_short c.before.before.before.before.before.before.before.before.before.before.before.before.before.before.args.disk.now c.before.before.before.before.before.before.before.before.before.before.before.before.before.before.args.owner.now c.before.before.before.before.before.before.before.before.before.before.before.before.before.before.args.table.now c.before.before.before.before.before.before.before.before.before.before.before.before.before.before.args.most c.before.before.before.before.before.before.before.before.before.before.before.before.before.before.args.number c.before.before.before.before.before.before.before.before.before.before.before.before.before.before.args.equation.now c.before.before.before.before.before.before.before.why.result c.before.before.before.before.before.before.before.why.new.1.1.1.1.1.1.0 c.before.before.before.before.before.before.before.why.ensures,
   ),
-  omega (arith, c.before.before.before.before.before.before.before.why.auto.1.1.1.1.1.1.0, room.count-short c.before.before.before.before.before.before.before.before.before.before.before.before.before.before.args.disk.now c.before.before.before.before.before.before.before.before.before.before.before.before.before.before.args.owner.now c.before.before.before.before.before.before.before.before.before.before.before.before.before.before.args.table.now c.before.before.before.before.before.before.before.before.before.before.before.before.before.before.args.most c.before.before.before.before.before.before.before.before.before.before.before.before.before.before.args.number c.before.before.before.before.before.before.before.before.before.before.before.before.before.before.args.equation.now c.before.before.before.before.before.before.before.why.result c.before.before.before.before.before.before.before.why.new.1.1.1.1.1.1.0 c.before.before.before.before.before.before.before.why.ensures),
+  omega (arith, c.before.before.before.before.before.before.before.why.auto.1.1.1.1.1.1.0, room.count_short c.before.before.before.before.before.before.before.before.before.before.before.before.before.before.args.disk.now c.before.before.before.before.before.before.before.before.before.before.before.before.before.before.args.owner.now c.before.before.before.before.before.before.before.before.before.before.before.before.before.before.args.table.now c.before.before.before.before.before.before.before.before.before.before.before.before.before.before.args.most c.before.before.before.before.before.before.before.before.before.before.before.before.before.before.args.number c.before.before.before.before.before.before.before.before.before.before.before.before.before.before.args.equation.now c.before.before.before.before.before.before.before.why.result c.before.before.before.before.before.before.before.why.new.1.1.1.1.1.1.0 c.before.before.before.before.before.before.before.why.ensures),
 )
 
 same_length : tie.Need-same-length
@@ -45,7 +45,7 @@ same_length c = search rules
 
 returns : tie.Need-returns
 returns c =
-    rw (laws.why-line c.before.before.before.before.before.before.before.before.before.before.before.before.before.before.before.before.before.args.number _
+    rw (laws.why_line_law c.before.before.before.before.before.before.before.before.before.before.before.before.before.before.before.before.before.args.number _
     ∙ ap (λ (x : List ℕ). why_line c.before.before.before.before.before.before.before.before.before.before.before.before.before.before.before.before.before.args.number x)
     (room.told_is c.before.before.before.before.before.before.before.before.before.before.before.before.before.before.before.before.before.args.disk.now c.before.before.before.before.before.before.before.before.before.before.before.before.before.before.before.before.before.args.owner.now c.before.before.before.before.before.before.before.before.before.before.before.before.before.before.before.before.before.args.table.now c.before.before.before.before.before.before.before.before.before.before.before.before.before.before.before.before.before.args.most c.before.before.before.before.before.before.before.before.before.before.before.before.before.before.before.before.before.args.number c.before.before.before.before.before.before.before.before.before.before.before.before.before.before.before.before.before.args.equation.now c.before.before.before.before.before.before.before.before.before.before.why.result c.before.before.before.before.before.before.before.before.before.before.why.new.1.1.1.1.1.1.0 c.before.before.before.before.before.before.before.before.before.before.why.ensures)) at
     (joins c.before.before.before.before.before.before.before.push-front.ensures c.before.before.push-told.ensures)

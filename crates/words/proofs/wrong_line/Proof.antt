@@ -17,7 +17,7 @@ push-front-requires : tie.Need-push-front-requires
 push-front-requires c κs = search rules
 
 sub-reply-to-text : tie.Need-overflow-sub-reply-to-text
-sub-reply-to-text c = omega (arith, c.before.before.before.before.before.before.requires, c.before.before.push-front.auto.0, c.before.before.push-front.ensures.end, laws.front-most c.before.before.before.before.before.before.args.number (omega (arith, c.before.before.before.before.before.before.well-formed)))
+sub-reply-to-text c = omega (arith, c.before.before.before.before.before.before.requires, c.before.before.push-front.auto.0, c.before.before.push-front.ensures.end, laws.front_most c.before.before.before.before.before.before.args.number (omega (arith, c.before.before.before.before.before.before.well-formed)))
 
 part-reply-to-text-start : tie.Need-slice-bounds-reply-to-text-start
 part-reply-to-text-start c = sub-reply-to-text c
@@ -35,15 +35,15 @@ add-result c =
       c.before.before.before.before.before.before.before.before.before.before.requires,
       c.before.before.before.before.before.before.push-front.auto.0,
       c.before.before.before.before.before.before.push-front.ensures.end,
-      laws.front-most c.before.before.before.before.before.before.before.before.before.before.args.number (omega (arith, c.before.before.before.before.before.before.before.before.before.before.well-formed)),
+      laws.front_most c.before.before.before.before.before.before.before.before.before.before.args.number (omega (arith, c.before.before.before.before.before.before.before.before.before.before.well-formed)),
       said_fits c.before.before.before.before.before.before.before.before.before.before.args.equation.now (omega (arith, c.before.before.before.before.before.before.before.before.before.before.well-formed)),
-      (pieces.printed-behind c.before.before.before.before.before.before.push-front.new.0 _ (said_of (outcome_of c.before.before.before.before.before.before.before.before.before.before.args.equation.now)) c.before.before.before.before.before.before.push-front.result c.before.before.reply-to-text.result
+      (pieces.printed_behind c.before.before.before.before.before.before.push-front.new.0 _ (said_of (outcome_of c.before.before.before.before.before.before.before.before.before.before.args.equation.now)) c.before.before.before.before.before.before.push-front.result c.before.before.reply-to-text.result
           (omega (
             arith,
             c.before.before.before.before.before.before.before.before.before.before.requires,
             c.before.before.before.before.before.before.push-front.auto.0,
             c.before.before.before.before.before.before.push-front.ensures.end,
-            laws.front-most c.before.before.before.before.before.before.before.before.before.before.args.number (omega (arith, c.before.before.before.before.before.before.before.before.before.before.well-formed)),
+            laws.front_most c.before.before.before.before.before.before.before.before.before.before.args.number (omega (arith, c.before.before.before.before.before.before.before.before.before.before.well-formed)),
             said_fits c.before.before.before.before.before.before.before.before.before.before.args.equation.now (omega (arith, c.before.before.before.before.before.before.before.before.before.before.well-formed)),
           )) c.before.before.reply-to-text.ensures).end,
     )
@@ -53,15 +53,15 @@ same_length c = search rules
 
 returns : tie.Need-returns
 returns c =
-    rw (laws.why-line c.before.before.before.before.before.before.before.before.before.before.args.number (said_of (outcome_of c.before.before.before.before.before.before.before.before.before.before.args.equation.now))) at
+    rw (laws.why_line_law c.before.before.before.before.before.before.before.before.before.before.args.number (said_of (outcome_of c.before.before.before.before.before.before.before.before.before.before.args.equation.now))) at
     (joins c.before.before.before.before.before.before.push-front.ensures
-    (pieces.printed-behind c.before.before.before.before.before.before.push-front.new.0 _ (said_of (outcome_of c.before.before.before.before.before.before.before.before.before.before.args.equation.now)) c.before.before.before.before.before.before.push-front.result c.before.before.reply-to-text.result
+    (pieces.printed_behind c.before.before.before.before.before.before.push-front.new.0 _ (said_of (outcome_of c.before.before.before.before.before.before.before.before.before.before.args.equation.now)) c.before.before.before.before.before.before.push-front.result c.before.before.reply-to-text.result
     (omega (
       arith,
       c.before.before.before.before.before.before.before.before.before.before.requires,
       c.before.before.before.before.before.before.push-front.auto.0,
       c.before.before.before.before.before.before.push-front.ensures.end,
-      laws.front-most c.before.before.before.before.before.before.before.before.before.before.args.number (omega (arith, c.before.before.before.before.before.before.before.before.before.before.well-formed)),
+      laws.front_most c.before.before.before.before.before.before.before.before.before.before.args.number (omega (arith, c.before.before.before.before.before.before.before.before.before.before.well-formed)),
       said_fits c.before.before.before.before.before.before.before.before.before.before.args.equation.now (omega (arith, c.before.before.before.before.before.before.before.before.before.before.well-formed)),
     )) c.before.before.reply-to-text.ensures))
 

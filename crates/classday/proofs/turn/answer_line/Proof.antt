@@ -31,7 +31,7 @@ same_length c = search rules
 returns : tie.Need-returns
 returns c = (
   (λ selected held bytes.
-      laws.answered-none c.before.before.before.before.before.before.before.before.before.before.before.before.before.before.before.before.before.before.args.pass c.before.before.put-error.result c.before.before.before.before.before.before.before.before.before.before.before.before.before.before.before.before.before.before.args.to (lent c.before.before.before.before.before.before.before.before.before.before.before.before.before.before.before.before.before.before.args.disk.now c.before.before.before.before.before.before.before.before.before.before.before.before.before.before.before.before.before.before.args.map.now c.before.before.before.before.before.before.before.before.before.before.before.before.before.before.before.before.before.before.args.owner.now c.before.before.before.before.before.before.before.before.before.before.before.before.before.before.before.before.before.before.args.table.now selected held) c.before.before.before.before.before.before.before.before.before.before.before.before.before.before.before.before.before.before.args.input.now bytes c.before.before.before.before.before.before.before.before.before.before.before.before.before.before.before.before.before.before.args.text.now
+      laws.answered_none c.before.before.before.before.before.before.before.before.before.before.before.before.before.before.before.before.before.before.args.pass c.before.before.put-error.result c.before.before.before.before.before.before.before.before.before.before.before.before.before.before.before.before.before.before.args.to (lent c.before.before.before.before.before.before.before.before.before.before.before.before.before.before.before.before.before.before.args.disk.now c.before.before.before.before.before.before.before.before.before.before.before.before.before.before.before.before.before.before.args.map.now c.before.before.before.before.before.before.before.before.before.before.before.before.before.before.before.before.before.before.args.owner.now c.before.before.before.before.before.before.before.before.before.before.before.before.before.before.before.before.before.before.args.table.now selected held) c.before.before.before.before.before.before.before.before.before.before.before.before.before.before.before.before.before.before.args.input.now bytes c.before.before.before.before.before.before.before.before.before.before.before.before.before.before.before.before.before.before.args.text.now
       c.before.before.before.before.before.before.before.before.reply-behind.new.1.1.1.1.1.1.1.0 (bytes_from c.before.before.before.before.before.before.before.before.before.before.before.before.before.before.before.before.before.before.args.pass.from c.before.before.before.before.before.before.before.before.before.before.before.before.before.before.before.before.before.before.args.to c.before.before.before.before.before.before.before.before.before.before.before.before.before.before.before.before.before.before.args.input.now) c.before.before.before.before.before.before.before.before.reply-behind.result
       c.before.before.before.before.before.before.before.before.reply-behind.ensures c.before.before.before.before.enum_told.given.1 _ c.before.before.put-error.ensures.0),
   (λ selected held e. c.before.before.put-error.ensures.1),
@@ -43,11 +43,11 @@ same-length-2 c = search rules
 returns-2 : tie.Need-returns-2
 returns-2 c = (
   (λ selected held bytes.
-      laws.answered-line c.before.before.before.before.before.before.before.before.before.before.before.before.before.before.before.before.args.pass c.said2.result c.before.before.before.before.before.before.before.before.before.before.before.before.before.before.before.before.args.to (lent c.before.before.before.before.before.before.before.before.before.before.before.before.before.before.before.before.args.disk.now c.before.before.before.before.before.before.before.before.before.before.before.before.before.before.before.before.args.map.now c.before.before.before.before.before.before.before.before.before.before.before.before.before.before.before.before.args.owner.now c.before.before.before.before.before.before.before.before.before.before.before.before.before.before.before.before.args.table.now selected held) c.before.before.before.before.before.before.before.before.before.before.before.before.before.before.before.before.args.input.now bytes c.before.before.before.before.before.before.before.before.before.before.before.before.before.before.before.before.args.text.now
+      laws.answered_line c.before.before.before.before.before.before.before.before.before.before.before.before.before.before.before.before.args.pass c.said2.result c.before.before.before.before.before.before.before.before.before.before.before.before.before.before.before.before.args.to (lent c.before.before.before.before.before.before.before.before.before.before.before.before.before.before.before.before.args.disk.now c.before.before.before.before.before.before.before.before.before.before.before.before.before.before.before.before.args.map.now c.before.before.before.before.before.before.before.before.before.before.before.before.before.before.before.before.args.owner.now c.before.before.before.before.before.before.before.before.before.before.before.before.before.before.before.before.args.table.now selected held) c.before.before.before.before.before.before.before.before.before.before.before.before.before.before.before.before.args.input.now bytes c.before.before.before.before.before.before.before.before.before.before.before.before.before.before.before.before.args.text.now
       c.before.before.before.before.before.before.reply-behind.new.1.1.1.1.1.1.1.0 (bytes_from c.before.before.before.before.before.before.before.before.before.before.before.before.before.before.before.before.args.pass.from c.before.before.before.before.before.before.before.before.before.before.before.before.before.before.before.before.args.to c.before.before.before.before.before.before.before.before.before.before.before.before.before.before.before.before.args.input.now) c.before.before.before.before.before.before.reply-behind.result
       c.before.before.before.before.before.before.reply-behind.ensures c.before.before.said.given.0.0 c.before.before.said.given.1 c.said2.ensures c.before.before.before.before.before.before.reply-behind.auto.1.1.1.1.1.1.1.0),
   (λ selected held e.
-      absurd (laws.line-not-none c.before.before.before.before.before.before.before.before.before.before.before.before.before.before.before.before.args.pass c.said2.result c.before.before.before.before.before.before.before.before.before.before.before.before.before.before.before.before.args.to (lent c.before.before.before.before.before.before.before.before.before.before.before.before.before.before.before.before.args.disk.now c.before.before.before.before.before.before.before.before.before.before.before.before.before.before.before.before.args.map.now c.before.before.before.before.before.before.before.before.before.before.before.before.before.before.before.before.args.owner.now c.before.before.before.before.before.before.before.before.before.before.before.before.before.before.before.before.args.table.now selected held) c.before.before.before.before.before.before.before.before.before.before.before.before.before.before.before.before.args.input.now [] c.before.before.before.before.before.before.before.before.before.before.before.before.before.before.before.before.args.text.now
+      absurd (laws.line_not_none c.before.before.before.before.before.before.before.before.before.before.before.before.before.before.before.before.args.pass c.said2.result c.before.before.before.before.before.before.before.before.before.before.before.before.before.before.before.before.args.to (lent c.before.before.before.before.before.before.before.before.before.before.before.before.before.before.before.before.args.disk.now c.before.before.before.before.before.before.before.before.before.before.before.before.before.before.before.before.args.map.now c.before.before.before.before.before.before.before.before.before.before.before.before.before.before.before.before.args.owner.now c.before.before.before.before.before.before.before.before.before.before.before.before.before.before.before.before.args.table.now selected held) c.before.before.before.before.before.before.before.before.before.before.before.before.before.before.before.before.args.input.now [] c.before.before.before.before.before.before.before.before.before.before.before.before.before.before.before.before.args.text.now
       c.before.before.before.before.before.before.reply-behind.new.1.1.1.1.1.1.1.0 (bytes_from c.before.before.before.before.before.before.before.before.before.before.before.before.before.before.before.before.args.pass.from c.before.before.before.before.before.before.before.before.before.before.before.before.before.before.before.before.args.to c.before.before.before.before.before.before.before.before.before.before.before.before.before.before.before.before.args.input.now) c.before.before.before.before.before.before.reply-behind.result
       c.before.before.before.before.before.before.reply-behind.ensures c.before.before.said.given.0.0 c.before.before.said.given.1 e)),
 )

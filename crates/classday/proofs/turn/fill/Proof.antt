@@ -48,7 +48,7 @@ same_length c = search rules
 
 returns : tie.Need-returns
 returns c =
-    laws.input-refilled c.before.before.before.before.before.before.before.before.before.before.before.before.before.before.args.pass c.refilled.result c.before.before.before.before.before.before.before.before.before.before.before.before.before.before.args.input.now _ c.before.before.before.before.before.before.read.new.1.0 _ _ _ _ (omega (arith, c.before.before.before.before.before.before.before.before.before.before.before.before.before.before.well-formed))
+    laws.input_refilled c.before.before.before.before.before.before.before.before.before.before.before.before.before.before.args.pass c.refilled.result c.before.before.before.before.before.before.before.before.before.before.before.before.before.before.args.input.now _ c.before.before.before.before.before.before.read.new.1.0 _ _ _ _ (omega (arith, c.before.before.before.before.before.before.before.before.before.before.before.before.before.before.well-formed))
     c.refilled.ensures c.before.before.before.before.before.before.before.before.before.before.before.shift.ensures c.before.before.before.before.before.before.before.before.before.before.before.shift.auto.0
     (c.before.before.before.before.before.before.before.before.least.ensures.1, c.before.before.before.before.before.before.before.before.least.ensures.2) c.before.before.before.before.before.before.read.auto.1.0 refl c.before.count.ensures.0.0
 

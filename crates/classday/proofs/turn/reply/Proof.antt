@@ -34,9 +34,9 @@ same_length c = search rules
 returns : tie.Need-returns
 returns c =
     rw (
-      ← laws.take-least c.before.before.before.before.before.before.before.before.before.before.before.before.before.before.args.server.blocks c.before.before.before.before.before.before.before.before.before.before.before.before.before.before.args.owner.now,
+      ← laws.take_least c.before.before.before.before.before.before.before.before.before.before.before.before.before.before.args.server.blocks c.before.before.before.before.before.before.before.before.before.before.before.before.before.before.args.owner.now,
       ← c.before.before.before.before.before.before.before.before.least.ensures.2,
-      ← laws.take-records c.before.before.before.before.before.before.before.before.before.before.before.before.before.before.args.server.files c.before.before.before.before.before.before.before.least2.result c.before.before.before.before.before.before.least3.result c.before.before.before.before.before.before.before.before.before.before.before.before.before.before.args.table.now c.before.before.before.before.before.before.before.least2.ensures.2
+      ← laws.take_records c.before.before.before.before.before.before.before.before.before.before.before.before.before.before.args.server.files c.before.before.before.before.before.before.before.least2.result c.before.before.before.before.before.before.least3.result c.before.before.before.before.before.before.before.before.before.before.before.before.before.before.args.table.now c.before.before.before.before.before.before.before.least2.ensures.2
           c.before.before.before.before.before.before.least3.ensures.2,
     ) c.before.before.answer-line.ensures
 

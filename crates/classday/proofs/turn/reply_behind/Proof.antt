@@ -43,7 +43,7 @@ same_length c = search rules
 
 returns : tie.Need-returns
 returns c =
-    laws.reply-put (λ (line : List ℕ). prints_at c.before.before.before.before.before.before.before.before.before.before.before.before.before.args.server c.before.before.before.before.before.before.before.before.before.before.before.before.before.args.disk.now c.before.before.before.before.before.before.before.before.before.before.before.before.before.args.owner.now c.before.before.before.before.before.before.before.before.before.before.before.before.before.args.table.now line)
+    laws.reply_put (λ (line : List ℕ). prints_at c.before.before.before.before.before.before.before.before.before.before.before.before.before.args.server c.before.before.before.before.before.before.before.before.before.before.before.before.before.args.disk.now c.before.before.before.before.before.before.before.before.before.before.before.before.before.args.owner.now c.before.before.before.before.before.before.before.before.before.before.before.before.before.args.table.now line)
     c.before.before.before.before.before.before.before.before.before.before.before.before.before.args.input.now c.before.before.before.before.before.before.before.before.before.before.before.before.before.args.text.now _ c.before.before.before.before.before.before.before.before.before.before.before.before.before.args.from c.before.before.before.before.before.before.before.before.before.before.before.before.before.args.to c.before.before.before.before.before.before.before.before.before.before.before.before.before.args.at _ _ _ c.before.before.reply.result
     c.before.before.before.before.before.before.before.least.ensures.2 c.before.before.before.before.before.before.least2.ensures.2 c.before.before.before.before.before.least3.ensures.2 c.before.before.reply.ensures
 

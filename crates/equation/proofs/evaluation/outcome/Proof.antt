@@ -15,7 +15,7 @@ abbrev decreases-loop : tie.decreases-loop
 decreases-loop steps truths st₀ d₀ i₀ k₀ st d i k = length steps - i
 
 loop-holds : tie.Need-loop-init invariant-loop decreases-loop
-loop-holds c = runs.run-start c.before.before.args.steps.now c.before.before.args.truths.now
+loop-holds c = runs.run_start c.before.before.args.steps.now c.before.before.args.truths.now
 
 mul-s : tie.Need-overflow-mul-s invariant-loop decreases-loop
 mul-s c = omega arith
@@ -30,7 +30,7 @@ returns : tie.Need-returns invariant-loop decreases-loop
 returns c =
     let l = c.before.before.before.before.loop in
     let a = c.before.before.before.before.before.before.before.args in
-    runs.run-full a.steps.now a.truths.now l.st l.d l.i l.k l.invariant c.before.before.before.loop-test.true c.before.if1.true c.if2.true
+    runs.run_full a.steps.now a.truths.now l.st l.d l.i l.k l.invariant c.before.before.before.loop-test.true c.before.if1.true c.if2.true
 
 marked-true-requires : tie.Need-marked-true-requires invariant-loop decreases-loop
 marked-true-requires c κs = search rules
@@ -51,19 +51,19 @@ loop-again : tie.Need-loop-preserved invariant-loop decreases-loop
 loop-again c =
     let l = c.before.before.before.before.before.loop in
     let a = c.before.before.before.before.before.before.before.before.args in
-    runs.run-rel a.steps.now a.truths.now l.st l.d l.i l.k l.invariant c.before.before.before.before.loop-test.true c.before.before.if1.true c.marked-true.result (omega arith) c.marked-true.ensures
+    runs.run_rel a.steps.now a.truths.now l.st l.d l.i l.k l.invariant c.before.before.before.before.loop-test.true c.before.before.if1.true c.marked-true.result (omega arith) c.marked-true.ensures
 
 returns-2 : tie.Need-returns-2 invariant-loop decreases-loop
 returns-2 c =
     let l = c.before.before.before.before.loop in
     let a = c.before.before.before.before.before.before.before.args in
-    runs.run-bad a.steps.now a.truths.now l.st l.d l.i l.k l.invariant c.before.before.before.loop-test.true c.if3.true
+    runs.run_bad a.steps.now a.truths.now l.st l.d l.i l.k l.invariant c.before.before.before.loop-test.true c.if3.true
 
 returns-3 : tie.Need-returns-3 invariant-loop decreases-loop
 returns-3 c =
     let l = c.before.before.before.before.before.loop in
     let a = c.before.before.before.before.before.before.before.before.args in
-    runs.run-few a.steps.now a.truths.now l.st l.d l.i l.k l.invariant c.before.before.before.before.loop-test.true c.before.before.if1.false c.before.if3.false c.if4.true
+    runs.run_few a.steps.now a.truths.now l.st l.d l.i l.k l.invariant c.before.before.before.before.loop-test.true c.before.before.if1.false c.before.if3.false c.if4.true
 
 sub-d : tie.Need-overflow-sub-d invariant-loop decreases-loop
 sub-d c = omega arith

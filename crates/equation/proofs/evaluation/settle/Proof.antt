@@ -13,7 +13,7 @@ abbrev decreases-loop : tie.decreases-loop
 decreases-loop eq steps id item truths₀ i₀ k₀ truths i k = length steps - i
 
 loop-holds : tie.Need-loop-init invariant-loop decreases-loop
-loop-holds c = let a = c.before.before.before.before.args in marks.settle-start (record { id = a.id; bytes = a.item.now }) a.eq.now a.steps.now a.truths.now
+loop-holds c = let a = c.before.before.before.before.args in marks.settle_start (record { id = a.id; bytes = a.item.now }) a.eq.now a.steps.now a.truths.now
 
 mul_at : tie.Need-overflow-mul-at invariant-loop decreases-loop
 mul_at c = omega arith
@@ -34,7 +34,7 @@ returns : tie.Need-returns invariant-loop decreases-loop
 returns c =
     let l = c.before.before.before.before.loop in
     let a = c.before.before.before.before.before.before.before.before.before.args in
-    marks.settle-full (record { id = a.id; bytes = a.item.now }) a.eq.now a.steps.now a.truths.now l.truths l.i l.k l.invariant c.if2.true
+    marks.settle_full (record { id = a.id; bytes = a.item.now }) a.eq.now a.steps.now a.truths.now l.truths l.i l.k l.invariant c.if2.true
 
 slice-read-mark : tie.Need-slice-read-mark invariant-loop decreases-loop
 slice-read-mark c = omega arith
@@ -55,7 +55,7 @@ loop-again : tie.Need-loop-preserved invariant-loop decreases-loop
 loop-again c =
     let l = c.before.before.before.before.before.before.loop in
     let a = c.before.before.before.before.before.before.before.before.before.before.before.args in
-    marks.settle-rel (record { id = a.id; bytes = a.item.now }) a.eq.now a.steps.now a.truths.now l.truths l.i l.k l.invariant c.before.before.before.before.before.loop-test.true c.mark.result c.before.before.before.if1.true (omega arith) c.mark.ensures
+    marks.settle_rel (record { id = a.id; bytes = a.item.now }) a.eq.now a.steps.now a.truths.now l.truths l.i l.k l.invariant c.before.before.before.before.before.loop-test.true c.mark.result c.before.before.before.if1.true (omega arith) c.mark.ensures
 
 loop-less-2 : tie.Need-loop-smaller-2 invariant-loop decreases-loop
 loop-less-2 c = omega arith
@@ -73,7 +73,7 @@ returns-2 : tie.Need-returns-2 invariant-loop decreases-loop
 returns-2 c =
     let l = c.before.loop in
     let a = c.before.before.before.before.before.before.args in
-    marks.settle-end (record { id = a.id; bytes = a.item.now }) a.eq.now a.steps.now a.truths.now l.truths l.i l.k l.invariant c.loop-test.false
+    marks.settle_end (record { id = a.id; bytes = a.item.now }) a.eq.now a.steps.now a.truths.now l.truths l.i l.k l.invariant c.loop-test.false
 
 pub settle-spec : {M : Type 1} → statement M
 settle-spec =

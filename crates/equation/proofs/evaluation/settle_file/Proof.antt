@@ -8,7 +8,7 @@ use Rattle.equation.proofs.evaluation.settle_file.Tie as tie
 
 returns : tie.Need-returns
 unfolding settled_by
-returns c = rw (settles.fields-short c.before.before.before.before.before.args.file.now c.if1.true)
+returns c = rw (settles.fields_short c.before.before.before.before.before.args.file.now c.if1.true)
 
 shared-slice-read-if2 : tie.Need-shared-slice-read-if2
 shared-slice-read-if2 c = search rules

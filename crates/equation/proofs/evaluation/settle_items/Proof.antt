@@ -38,7 +38,7 @@ there c h e = sym c.read_head.ensures ∙ e
 item_in : (c : tie.After-h invariant-loop decreases-loop) → place c.before.before + 3 + c.h.given.0.1.0 ≤ length (bytes c.before.before)
 item_in c =
     let r = c.before.before in
-    walks.item-within (bytes r) (place r) c.h.given.0.0 c.h.given.0.1.0 (there r (Item c.h.given.0.0 c.h.given.0.1.0) c.h.given.1)
+    walks.item_within (bytes r) (place r) c.h.given.0.0 c.h.given.0.1.0 (there r (Item c.h.given.0.0 c.h.given.0.1.0) c.h.given.1)
 
 loop-holds : tie.Need-loop-init invariant-loop decreases-loop
 loop-holds c = marks.walk_start (relations_by c.before.before.before.before.args.eq.now c.before.before.before.before.args.steps.now) c.before.before.before.before.args.file.now c.before.before.before.before.args.truths.now
@@ -54,7 +54,7 @@ same_length c = c.before.before.before.loop.invariant.sized
 
 returns : tie.Need-returns invariant-loop decreases-loop
 returns c =
-    let r = c.before.before in marks.walk-broken (relations_by r.before.before.before.before.before.before.args.eq.now r.before.before.before.before.before.before.args.steps.now) (bytes r) r.before.before.before.before.before.before.args.truths.now r.before.loop.truths (place r) r.before.loop.invariant (there r Broken c.enum_told.given.1)
+    let r = c.before.before in marks.walk_broken (relations_by r.before.before.before.before.before.before.args.eq.now r.before.before.before.before.before.before.args.steps.now) (bytes r) r.before.before.before.before.before.before.args.truths.now r.before.loop.truths (place r) r.before.loop.invariant (there r Broken c.enum_told.given.1)
 
 enum-told-2 : tie.Need-enum-told-2 invariant-loop decreases-loop
 enum-told-2 c = c.match.keys2
@@ -92,7 +92,7 @@ loop-less c = omega (arith, item_in c.before.before.before.before.before.before)
 
 loop-again : tie.Need-loop-preserved invariant-loop decreases-loop
 loop-again c =
-    let r = c.before.before.before.before.before.before.before.before in marks.walk-item (relations_by r.before.before.before.before.before.before.args.eq.now r.before.before.before.before.before.before.args.steps.now) (bytes r) r.before.before.before.before.before.before.args.truths.now r.before.loop.truths (place r) r.before.loop.invariant c.before.before.before.before.before.before.h.given.0.0 c.before.before.before.before.before.before.h.given.0.1.0 _ (there r (Item c.before.before.before.before.before.before.h.given.0.0 c.before.before.before.before.before.before.h.given.0.1.0) c.before.before.before.before.before.before.h.given.1) c.before.before.settle.ensures
+    let r = c.before.before.before.before.before.before.before.before in marks.walk_item (relations_by r.before.before.before.before.before.before.args.eq.now r.before.before.before.before.before.before.args.steps.now) (bytes r) r.before.before.before.before.before.before.args.truths.now r.before.loop.truths (place r) r.before.loop.invariant c.before.before.before.before.before.before.h.given.0.0 c.before.before.before.before.before.before.h.given.0.1.0 _ (there r (Item c.before.before.before.before.before.before.h.given.0.0 c.before.before.before.before.before.before.h.given.0.1.0) c.before.before.before.before.before.before.h.given.1) c.before.before.settle.ensures
 
 pub settle-items-spec : {M : Type 1} → statement M
 settle-items-spec =

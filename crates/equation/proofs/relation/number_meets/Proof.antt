@@ -14,10 +14,10 @@ number-width-requires-2 : tie.Need-number-width-requires-2
 number-width-requires-2 c κs = search rules
 
 value-requires : tie.Need-value-requires
-value-requires c κs = numbers.width-le (length c.before.before.before.before.before.before.args.item.now) (sym c.before.number-width2.ensures ∙ c.if2.true)
+value-requires c κs = numbers.width_le (length c.before.before.before.before.before.before.args.item.now) (sym c.before.number-width2.ensures ∙ c.if2.true)
 
 value-requires-2 : tie.Need-value-requires-2
-value-requires-2 c κs = numbers.width-le (length c.before.before.before.before.before.before.before.args.constant.now) (sym c.before.before.before.before.number-width.ensures ∙ c.before.before.before.if1.true)
+value-requires-2 c κs = numbers.width_le (length c.before.before.before.before.before.before.before.args.constant.now) (sym c.before.before.before.before.number-width.ensures ∙ c.before.before.before.if1.true)
 
 relate-requires : tie.Need-relate-requires
 relate-requires c κs = search rules

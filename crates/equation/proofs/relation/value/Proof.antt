@@ -21,7 +21,7 @@ small c =
     rw l.invariant.1 (numbers.number_small s l.i c.before.before.before.requires c.before.loop-test.true (λ k. omega (arith, c.shared-slice-known.given k)))
 
 loop-holds : tie.Need-loop-init invariant-loop decreases-loop
-loop-holds c = (omega arith, numbers.number-nil c.args.bytes.now)
+loop-holds c = (omega arith, numbers.number_nil c.args.bytes.now)
 
 sub-i : tie.Need-overflow-sub-i invariant-loop decreases-loop
 sub-i c = omega arith

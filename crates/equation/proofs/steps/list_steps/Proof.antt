@@ -45,21 +45,21 @@ abbrev there : (c : Read) (t : Token) → c.read-token.result ≡ t → token_of
 there c t e = sym c.read-token.ensures ∙ e
 
 room : (c : Read) (t : Token) → (t ≡ End → ⊥) → c.read-token.result ≡ t → count c < length (steps c)
-room c t f e = laws.list-in (equation c) (start c) (steps c) (place c) (count c) c.before.loop.invariant (λ z. f (sym (there c t e) ∙ z))
+room c t f e = laws.list_in (equation c) (start c) (steps c) (place c) (count c) c.before.loop.invariant (λ z. f (sym (there c t e) ∙ z))
 
 bad-in : (c : Read) → c.read-token.result ≡ Bad → count c < length (steps c)
 bad-in c e = room c Bad (λ z. let w : ◌≡◌ {A = ℕ} 0 1 = cc in omega arith) e
 
-join-in : (c : Read) (all : Bool) → c.read-token.result ≡ symbol.joinToken all → place c + 1 ≤ length (equation c)
-join-in c all e = symbol.join-within (equation c) (place c) all (there c (symbol.joinToken all) e)
+join-in : (c : Read) (all : Bool) → c.read-token.result ≡ symbol.join_token all → place c + 1 ≤ length (equation c)
+join-in c all e = symbol.join_within (equation c) (place c) all (there c (symbol.join_token all) e)
 
 relation-in : (c : tie.After-t invariant-loop decreases-loop) → place c.before.before + 4 + c.t.given.0.1.1.0 ≤ length (equation c.before.before)
 relation-in c =
     let r = c.before.before in
-    tokens.relation-within (equation r) (place r) c.t.given.0.0 c.t.given.0.1.0 c.t.given.0.1.1.0 r.before.loop.invariant.in_equation (there r (Rel c.t.given.0.0 c.t.given.0.1.0 c.t.given.0.1.1.0) c.t.given.1)
+    tokens.relation_within (equation r) (place r) c.t.given.0.0 c.t.given.0.1.0 c.t.given.0.1.1.0 r.before.loop.invariant.in_equation (there r (Rel c.t.given.0.0 c.t.given.0.1.0 c.t.given.0.1.1.0) c.t.given.1)
 
 loop-holds : tie.Need-loop-init invariant-loop decreases-loop
-loop-holds c = let a = c.before.before.args in laws.list-start a.eq.now a.steps.now c.before.before.requires.0 c.before.before.requires.1
+loop-holds c = let a = c.before.before.args in laws.list_start a.eq.now a.steps.now c.before.before.requires.0 c.before.before.requires.1
 
 read-token-requires : tie.Need-read-token-requires invariant-loop decreases-loop
 read-token-requires c κs = search rules
@@ -77,10 +77,10 @@ add-result : tie.Need-overflow-add-result invariant-loop decreases-loop
 add-result c = omega (arith, bad-in c.before.before c.enum_told.given.1)
 
 same_length : tie.Need-same-length invariant-loop decreases-loop
-same_length c = let r = c.before.before in (laws.list-bad (equation r) (start r) (steps r) (place r) (count r) r.before.loop.invariant (there r Bad c.enum_told.given.1)).sized
+same_length c = let r = c.before.before in (laws.list_bad (equation r) (start r) (steps r) (place r) (count r) r.before.loop.invariant (there r Bad c.enum_told.given.1)).sized
 
 returns : tie.Need-returns invariant-loop decreases-loop
-returns c = let r = c.before.before in let d = laws.list-bad (equation r) (start r) (steps r) (place r) (count r) r.before.loop.invariant (there r Bad c.enum_told.given.1) in (d.counted, d.stored)
+returns c = let r = c.before.before in let d = laws.list_bad (equation r) (start r) (steps r) (place r) (count r) r.before.loop.invariant (there r Bad c.enum_told.given.1) in (d.counted, d.stored)
 
 enum-told-2 : tie.Need-enum-told-2 invariant-loop decreases-loop
 enum-told-2 c = c.match.keys2
@@ -89,7 +89,7 @@ same-length-2 : tie.Need-same-length-2 invariant-loop decreases-loop
 same-length-2 c = c.before.before.before.loop.invariant.sized
 
 returns-2 : tie.Need-returns-2 invariant-loop decreases-loop
-returns-2 c = let r = c.before.before in let d = laws.list-end (equation r) (start r) (steps r) (place r) (count r) r.before.loop.invariant (there r End c.enum-told2.given.1) in (d.counted, d.stored)
+returns-2 c = let r = c.before.before in let d = laws.list_end (equation r) (start r) (steps r) (place r) (count r) r.before.loop.invariant (there r End c.enum-told2.given.1) in (d.counted, d.stored)
 
 enum-told-3 : tie.Need-enum-told-3 invariant-loop decreases-loop
 enum-told-3 c = c.match.keys3
@@ -110,7 +110,7 @@ loop-less : tie.Need-loop-smaller invariant-loop decreases-loop
 loop-less c = omega (arith, join-in c.before.before true c.enum-told3.given.1)
 
 loop-again : tie.Need-loop-preserved invariant-loop decreases-loop
-loop-again c = let r = c.before.before in laws.list-join (equation r) (start r) (steps r) (place r) (count r) r.before.loop.invariant true (there r (symbol.joinToken true) c.enum-told3.given.1)
+loop-again c = let r = c.before.before in laws.list_join (equation r) (start r) (steps r) (place r) (count r) r.before.loop.invariant true (there r (symbol.join_token true) c.enum-told3.given.1)
 
 enum-told-4 : tie.Need-enum-told-4 invariant-loop decreases-loop
 enum-told-4 c = c.match.keys4
@@ -131,7 +131,7 @@ loop-less-2 : tie.Need-loop-smaller-2 invariant-loop decreases-loop
 loop-less-2 c = omega (arith, join-in c.before.before false c.enum-told4.given.1)
 
 loop-again-2 : tie.Need-loop-preserved-2 invariant-loop decreases-loop
-loop-again-2 c = let r = c.before.before in laws.list-join (equation r) (start r) (steps r) (place r) (count r) r.before.loop.invariant false (there r (symbol.joinToken false) c.enum-told4.given.1)
+loop-again-2 c = let r = c.before.before in laws.list_join (equation r) (start r) (steps r) (place r) (count r) r.before.loop.invariant false (there r (symbol.join_token false) c.enum-told4.given.1)
 
 enum-known-t : tie.Need-enum-known-t invariant-loop decreases-loop
 enum-known-t c = c.match.keys5
@@ -161,7 +161,7 @@ loop-again-3 : tie.Need-loop-preserved-3 invariant-loop decreases-loop
 loop-again-3 c =
     let t = c.before in
     let r = t.before.before in
-    laws.list-rel (equation r) (start r) (steps r) (place r) (count r) r.before.loop.invariant t.t.given.0.0 t.t.given.0.1.0 t.t.given.0.1.1.0 (there r (Rel t.t.given.0.0 t.t.given.0.1.0 t.t.given.0.1.1.0) t.t.given.1)
+    laws.list_rel (equation r) (start r) (steps r) (place r) (count r) r.before.loop.invariant t.t.given.0.0 t.t.given.0.1.0 t.t.given.0.1.1.0 (there r (Rel t.t.given.0.0 t.t.given.0.1.0 t.t.given.0.1.1.0) t.t.given.1)
 
 pub list-steps-spec : {M : Type 1} → statement M
 list-steps-spec =

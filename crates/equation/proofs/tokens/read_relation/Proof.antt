@@ -12,7 +12,7 @@ sub-if1 : tie.Need-overflow-sub-if1
 sub-if1 c = search rules
 
 returns : tie.Need-returns
-returns c = tokens.relation-short c.before.before.args.eq.now c.before.before.args.at (get_or c.before.before.args.eq.now c.before.before.args.at 0) c.if1.true
+returns c = tokens.relation_short c.before.before.args.eq.now c.before.before.args.at (get_or c.before.before.args.eq.now c.before.before.args.at 0) c.if1.true
 
 shared-slice-read-code : tie.Need-shared-slice-read-code
 shared-slice-read-code c = search rules
@@ -48,7 +48,7 @@ sub-if2 : tie.Need-overflow-sub-if2
 sub-if2 c = search rules
 
 returns-2 : tie.Need-returns-2
-returns-2 c = tokens.relation-over c.before.before.before.before.before.before.before.before.args.eq.now c.before.before.before.before.before.before.before.before.args.at (get_or c.before.before.before.before.before.before.before.before.args.eq.now c.before.before.before.before.before.before.before.before.args.at 0) c.before.before.number16.result (omega arith) c.before.before.number16.ensures c.if2.true
+returns-2 c = tokens.relation_over c.before.before.before.before.before.before.before.before.args.eq.now c.before.before.before.before.before.before.before.before.args.at (get_or c.before.before.before.before.before.before.before.before.args.eq.now c.before.before.before.before.before.before.before.before.args.at 0) c.before.before.number16.result (omega arith) c.before.before.number16.ensures c.if2.true
 
 add-end : tie.Need-overflow-add-end
 add-end c = search rules
@@ -66,10 +66,10 @@ good-relation-requires : tie.Need-good-relation-requires
 good-relation-requires c κs = search rules
 
 returns-3 : tie.Need-returns-3
-returns-3 c = tokens.relation-good c.before.before.before.before.before.before.before.before.before.before.before.args.eq.now c.before.before.before.before.before.before.before.before.before.before.before.args.at (get_or c.before.before.before.before.before.before.before.before.before.before.before.args.eq.now c.before.before.before.before.before.before.before.before.before.before.before.args.at 0) c.before.before.before.before.before.number16.result (omega arith) c.before.before.before.before.before.number16.ensures c.before.before.before.if2.false (sym c.before.good-relation.ensures ∙ c.if3.true)
+returns-3 c = tokens.relation_good c.before.before.before.before.before.before.before.before.before.before.before.args.eq.now c.before.before.before.before.before.before.before.before.before.before.before.args.at (get_or c.before.before.before.before.before.before.before.before.before.before.before.args.eq.now c.before.before.before.before.before.before.before.before.before.before.before.args.at 0) c.before.before.before.before.before.number16.result (omega arith) c.before.before.before.before.before.number16.ensures c.before.before.before.if2.false (sym c.before.good-relation.ensures ∙ c.if3.true)
 
 returns-4 : tie.Need-returns-4
-returns-4 c = tokens.relation-bad c.before.before.before.before.before.before.before.before.before.before.before.args.eq.now c.before.before.before.before.before.before.before.before.before.before.before.args.at (get_or c.before.before.before.before.before.before.before.before.before.before.before.args.eq.now c.before.before.before.before.before.before.before.before.before.before.before.args.at 0) c.before.before.before.before.before.number16.result (omega arith) c.before.before.before.before.before.number16.ensures c.before.before.before.if2.false (sym c.before.good-relation.ensures ∙ c.if3.false)
+returns-4 c = tokens.relation_bad c.before.before.before.before.before.before.before.before.before.before.before.args.eq.now c.before.before.before.before.before.before.before.before.before.before.before.args.at (get_or c.before.before.before.before.before.before.before.before.before.before.before.args.eq.now c.before.before.before.before.before.before.before.before.before.before.before.args.at 0) c.before.before.before.before.before.number16.result (omega arith) c.before.before.before.before.before.number16.ensures c.before.before.before.if2.false (sym c.before.good-relation.ensures ∙ c.if3.false)
 
 pub read-relation-spec : {M : Type 1} → statement M
 read-relation-spec =

@@ -26,10 +26,10 @@ read-relation-requires : tie.Need-read-relation-requires
 read-relation-requires c κs = search rules
 
 returns-2 : tie.Need-returns-2
-returns-2 c = c.connective.ensures ∙ sym (tokens.token-at c.before.before.before.before.before.args.eq.now c.before.before.before.before.before.args.at (omega arith) ∙ simp (lt-ltb _ _ c.before.if2.true))
+returns-2 c = c.connective.ensures ∙ sym (tokens.token_at c.before.before.before.before.before.args.eq.now c.before.before.before.before.before.args.at (omega arith) ∙ simp (lt-ltb _ _ c.before.if2.true))
 
 returns-3 : tie.Need-returns-3
-returns-3 c = c.read-relation.ensures ∙ sym (tokens.token-at c.before.before.before.before.before.args.eq.now c.before.before.before.before.before.args.at (omega arith) ∙ simp (le-ltb _ _ c.before.if2.false))
+returns-3 c = c.read-relation.ensures ∙ sym (tokens.token_at c.before.before.before.before.before.args.eq.now c.before.before.before.before.before.args.at (omega arith) ∙ simp (le-ltb _ _ c.before.if2.false))
 
 pub read-token-spec : {M : Type 1} → statement M
 read-token-spec =

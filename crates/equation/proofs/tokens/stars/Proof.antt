@@ -30,7 +30,7 @@ loop-less : tie.Need-loop-smaller invariant-loop decreases-loop
 loop-less c = omega arith
 
 loop-again : tie.Need-loop-preserved invariant-loop decreases-loop
-loop-again c = (omega arith, omega arith, tokens.stars-yes c.before.before.before.before.args.constant.now c.before.before.before.loop.n c.before.before.before.loop.i c.before.before.before.loop.invariant.2 c.before.before.loop-test.true c.if1.true)
+loop-again c = (omega arith, omega arith, tokens.stars_yes c.before.before.before.before.args.constant.now c.before.before.before.loop.n c.before.before.before.loop.i c.before.before.before.loop.invariant.2 c.before.before.loop-test.true c.if1.true)
 
 add-i-2 : tie.Need-overflow-add-i-2 invariant-loop decreases-loop
 add-i-2 c = omega arith
@@ -39,10 +39,10 @@ loop-less-2 : tie.Need-loop-smaller-2 invariant-loop decreases-loop
 loop-less-2 c = omega arith
 
 loop-again-2 : tie.Need-loop-preserved-2 invariant-loop decreases-loop
-loop-again-2 c = (omega arith, omega arith, tokens.stars-no c.before.before.before.before.args.constant.now c.before.before.before.loop.n c.before.before.before.loop.i c.before.before.before.loop.invariant.2 c.before.before.loop-test.true c.if1.false)
+loop-again-2 c = (omega arith, omega arith, tokens.stars_no c.before.before.before.before.args.constant.now c.before.before.before.loop.n c.before.before.before.loop.i c.before.before.before.loop.invariant.2 c.before.before.loop-test.true c.if1.false)
 
 returns : tie.Need-returns invariant-loop decreases-loop
-returns c = tokens.stars-end c.before.before.args.constant.now c.before.loop.n c.before.loop.i c.before.loop.invariant.2 c.loop-test.false
+returns c = tokens.stars_end c.before.before.args.constant.now c.before.loop.n c.before.loop.i c.before.loop.invariant.2 c.loop-test.false
 
 pub stars-spec : {M : Type 1} → statement M
 stars-spec =

@@ -48,7 +48,7 @@ returns c =
     let t = c.before.before.before.before.before.before.before.loop-test.true in
     let r = c.before.before.before.before.row_at in
     let s = c.before.shared-letters in
-    laws.name-known a.text.now l.k l.most s.result r.result r.ensures t l.invariant.1 s.ensures c.if2.true
+    laws.name_known a.text.now l.k l.most s.result r.result r.ensures t l.invariant.1 s.ensures c.if2.true
 
 greater-requires : tie.Need-greater-requires invariant-loop decreases-loop
 greater-requires c κs = search rules
@@ -67,9 +67,9 @@ loop-again c =
     let passed = c.before.shares-a-letter in (
       omega arith,
       elim c.if1.branch [
-        | inl y ↦ laws.name-other a.text.now l.k l.most y.4.result y.1.result y.1.ensures t l.invariant.1 y.4.ensures y.5.left
+        | inl y ↦ laws.name_other a.text.now l.k l.most y.4.result y.1.result y.1.ensures t l.invariant.1 y.4.ensures y.5.left
             c.if1.most (y.7 ∙ y.6.ensures)
-        | inr y ↦ rw y.1 (laws.name-passed a.text.now l.k l.most t l.invariant.1 (sym passed.ensures ∙ y.0.left))
+        | inr y ↦ rw y.1 (laws.name_passed a.text.now l.k l.most t l.invariant.1 (sym passed.ensures ∙ y.0.left))
       ],
     )
 
@@ -77,7 +77,7 @@ returns-2 : tie.Need-returns-2 invariant-loop decreases-loop
 returns-2 c =
     let a = c.before.before.before.args in
     let l = c.before.loop in
-    laws.name-unknown a.text.now l.k l.most c.loop-test.false l.invariant.1
+    laws.name_unknown a.text.now l.k l.most c.loop-test.false l.invariant.1
 
 pub find-name-spec : {M : Type 1} → statement M
 find-name-spec =

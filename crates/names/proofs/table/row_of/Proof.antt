@@ -49,7 +49,7 @@ returns-2 c =
     let a = c.before.before.before.args in
     let l = c.before.before.loop in
     let r = c.row-at2 in
-    laws.row-none a.id l.k r.result r.ensures c.before.loop-test.false l.invariant.1
+    laws.row_none a.id l.k r.result r.ensures c.before.loop-test.false l.invariant.1
 
 pub row-of-spec : {M : Type 1} → statement M
 row-of-spec =

@@ -23,7 +23,7 @@ returns : tie.Need-returns invariant-loop decreases-loop
 returns c =
     let a = c.before.before.before.before.before.args in
     let l = c.before.before.loop in
-    laws.sharing-ends a.letters.now a.text.now l.k c.before.loop-test.true c.if1.true l.invariant.2
+    laws.sharing_ends a.letters.now a.text.now l.k c.before.loop-test.true c.if1.true l.invariant.2
 
 shared-slice-read-lowered : tie.Need-shared-slice-read-lowered invariant-loop decreases-loop
 shared-slice-read-lowered c = omega arith
@@ -51,7 +51,7 @@ loop-again c =
     let y = c.before.lowered2 in (
       omega arith,
       omega arith,
-      laws.sharing-more a.letters.now a.text.now l.k c.before.before.before.before.before.before.loop-test.true c.before.before.before.before.before.if1.false (sym x.ensures ∙ c.if2.true ∙ y.ensures) l.invariant.2,
+      laws.sharing_more a.letters.now a.text.now l.k c.before.before.before.before.before.before.loop-test.true c.before.before.before.before.before.if1.false (sym x.ensures ∙ c.if2.true ∙ y.ensures) l.invariant.2,
     )
 
 returns-2 : tie.Need-returns-2 invariant-loop decreases-loop
@@ -60,14 +60,14 @@ returns-2 c =
     let l = c.before.before.before.before.before.before.before.loop in
     let x = c.before.before.before.lowered in
     let y = c.before.lowered2 in
-    laws.sharing-stops a.letters.now a.text.now l.k c.before.before.before.before.before.before.loop-test.true c.before.before.before.before.before.if1.false
+    laws.sharing_stops a.letters.now a.text.now l.k c.before.before.before.before.before.before.loop-test.true c.before.before.before.before.before.if1.false
     (λ z. c.if2.false (x.ensures ∙ z ∙ sym y.ensures)) l.invariant.2
 
 returns-3 : tie.Need-returns-3 invariant-loop decreases-loop
 returns-3 c =
     let a = c.before.before.before.before.args in
     let l = c.before.loop in
-    laws.sharing-whole a.letters.now a.text.now l.k c.loop-test.false l.invariant.2
+    laws.sharing_whole a.letters.now a.text.now l.k c.loop-test.false l.invariant.2
 
 pub shared-letters-spec : {M : Type 1} → statement M
 shared-letters-spec =

@@ -14,7 +14,7 @@ use Rattle.names.proofs.table.shares_a_letter.Statement.{statement}
 use Rattle.names.proofs.table.shares_a_letter.Tie as tie
 
 returns : tie.Need-returns
-returns c = let a = c.before.before.args in laws.nothing-shared _ a.text.now (omega arith)
+returns c = let a = c.before.before.args in laws.nothing_shared _ a.text.now (omega arith)
 
 shared-slice-read-lowered : tie.Need-shared-slice-read-lowered
 shared-slice-read-lowered c = search rules
@@ -30,7 +30,7 @@ unfolding items small bytes_of laws.first_of lower
 returns-2 c =
     let a = c.before.before.before.before.args in
     ap (λ (b : ℕ). eqb b (get_or (map laws.first_of items) a.k 0)) c.lowered.ensures
-    ∙ laws.first-shared a.k a.text.now (omega arith) (omega arith)
+    ∙ laws.first_shared a.k a.text.now (omega arith) (omega arith)
 
 pub shares-a-letter-spec : {M : Type 1} → statement M
 shares-a-letter-spec =

@@ -16,7 +16,7 @@ decreases-loop text at out₀ n p₀ m₀ stars₀ out p m stars = length text -
 loop-holds : tie.Need-loop-init invariant-loop decreases-loop
 loop-holds c =
     let a = c.before.before.args in
-    laws.spelling-none a.text.now a.at a.n a.out.now c.before.before.requires.0
+    laws.spelling_none a.text.now a.at a.n a.out.now c.before.before.requires.0
 
 sub-character-at : tie.Need-overflow-sub-character-at invariant-loop decreases-loop
 sub-character-at c = omega (arith, c.loop.invariant.count)
@@ -43,8 +43,8 @@ returns c =
     let a = b6.args in
     let l = b3.loop in
     let x = c.before.before.character-at in
-    laws.string-ends a.text.now a.at a.n a.out.now l.p l.m l.stars l.out l.invariant
-    (laws.was-character a.text.now a.at a.n a.out.now l.p l.m l.stars l.out l.invariant x.result _ x.ensures
+    laws.string_ends a.text.now a.at a.n a.out.now l.p l.m l.stars l.out l.invariant
+    (laws.was_character a.text.now a.at a.n a.out.now l.p l.m l.stars l.out l.invariant x.result _ x.ensures
     c.enum_told.given.1)
 
 enum-known-x : tie.Need-enum-known-x invariant-loop decreases-loop
@@ -64,8 +64,8 @@ returns-2 c =
     let a = b7.args in
     let l = b4.loop in
     let x = b3.character-at in
-    laws.string-wrong a.text.now a.at a.n a.out.now l.p l.m l.stars l.out l.invariant c.before.x.given.0.0
-    c.before.x.given.0.1.0 l.out (laws.was-character a.text.now a.at a.n a.out.now l.p l.m l.stars l.out l.invariant
+    laws.string_wrong a.text.now a.at a.n a.out.now l.p l.m l.stars l.out l.invariant c.before.x.given.0.0
+    c.before.x.given.0.1.0 l.out (laws.was_character a.text.now a.at a.n a.out.now l.p l.m l.stars l.out l.invariant
     x.result _ x.ensures c.before.x.given.1)
 
 enum-known-x-2 : tie.Need-enum-known-x-2 invariant-loop decreases-loop
@@ -81,7 +81,7 @@ counted-requires : tie.Need-counted-requires invariant-loop decreases-loop
 counted-requires c κs =
     let a = c.before.before.before.before.before.before.before.before.before.before.before.args in
     let l = c.before.before.before.before.before.before.before.before.loop in
-    omega (arith, laws.few-stars a.text.now a.at a.n a.out.now l.p l.m l.stars l.out l.invariant)
+    omega (arith, laws.few_stars a.text.now a.at a.n a.out.now l.p l.m l.stars l.out l.invariant)
 
 loop-less : tie.Need-loop-smaller invariant-loop decreases-loop
 loop-less c =
@@ -92,7 +92,7 @@ loop-less c =
     let a = b12.args in
     let l = b9.loop in
     let x = b8.character-at in
-    let w1 = laws.was-character a.text.now a.at a.n a.out.now l.p l.m l.stars l.out l.invariant x.result _ x.ensures
+    let w1 = laws.was_character a.text.now a.at a.n a.out.now l.p l.m l.stars l.out l.invariant x.result _ x.ensures
     b6.x2.given.1 in
     omega (arith, w1.forward, w1.within)
 
@@ -108,8 +108,8 @@ loop-again c =
     let x = b8.character-at in
     let y = b3.put in
     let z = c.counted in
-    laws.spelling-more a.text.now a.at a.n a.out.now l.p l.m l.stars l.out l.invariant b6.x2.given.0.0 b6.x2.given.0.1.0
-    y.result z.result y.new.0 (laws.was-character a.text.now a.at a.n a.out.now l.p l.m l.stars l.out l.invariant
+    laws.spelling_more a.text.now a.at a.n a.out.now l.p l.m l.stars l.out l.invariant b6.x2.given.0.0 b6.x2.given.0.1.0
+    y.result z.result y.new.0 (laws.was_character a.text.now a.at a.n a.out.now l.p l.m l.stars l.out l.invariant
     x.result _ x.ensures b6.x2.given.1) y.ensures.0 y.ensures.1 z.ensures
 
 pub characters-spec : {M : Type 1} → statement M

@@ -38,7 +38,7 @@ string-at-requires c κs =
     let b9 = b6.before.before.before in
     let a = b9.args in
     let b = b6.byte_of in (
-      laws.string-in a.text.now a.at a.id a.c a.out.now a.n b9.requires.2 b.result b.ensures
+      laws.string_in a.text.now a.at a.id a.c a.out.now a.n b9.requires.2 b.result b.ensures
           b3.if2.true,
       omega (arith, b9.requires.1),
     )
@@ -56,7 +56,7 @@ returns-2 c =
     let a = b12.args in
     let b = b9.byte_of in
     let s = c.before.before.string-at in
-    laws.string-from a.text.now a.at a.id a.c a.out.now a.n b12.requires.2 b.result b.ensures b6.if2.true
+    laws.string_from a.text.now a.at a.id a.c a.out.now a.n b12.requires.2 b.result b.ensures b6.if2.true
     (sym b5.is-equality.ensures ∙ b4.if3.true) s.result _ s.ensures
 
 returns-3 : tie.Need-returns-3
@@ -65,7 +65,7 @@ returns-3 c =
     let b8 = b5.before.before.before in
     let a = b8.args in
     let b = b5.byte_of in
-    laws.no-order a.text.now a.at a.id a.c a.out.now a.n b8.requires.2 b.result b.ensures c.before.before.if2.true
+    laws.no_order a.text.now a.at a.id a.c a.out.now a.n b8.requires.2 b.result b.ensures c.before.before.if2.true
     (sym c.before.is-equality.ensures ∙ c.if3.false) a.out.now
 
 returns-4 : tie.Need-returns-4
@@ -74,7 +74,7 @@ returns-4 c =
     let b6 = b3.before.before.before in
     let a = b6.args in
     let b = b3.byte_of in
-    laws.no-constant a.text.now a.at a.id a.c a.out.now a.n b6.requires.2 b.result b.ensures
+    laws.no_constant a.text.now a.at a.id a.c a.out.now a.n b6.requires.2 b.result b.ensures
     (sym c.before.before.is_digit.ensures ∙ c.before.if1.false) c.if2.false a.out.now
 
 pub constant-at-spec : {M : Type 1} → statement M

@@ -35,7 +35,7 @@ put-number-requires c κs =
     let b = b12 in
     let a = b.args in
     let x = b9.number_at in
-    let r = laws.was-number a.text.now a.at a.id b.requires.2 x.result _ x.ensures b7.x2.given.1 in
+    let r = laws.was_number a.text.now a.at a.id b.requires.2 x.result _ x.ensures b7.x2.given.1 in
     (omega (arith, b3.put-head.ensures.0, b.requires.0, b.requires.1, b.well-formed.0.1), r.good)
 
 returns : tie.Need-returns
@@ -44,8 +44,8 @@ returns c =
     let a = b.args in
     let x = c.before.before.before.number_at in
     let g = c.before.x.given in
-    let r = laws.was-number a.text.now a.at a.id b.requires.2 x.result _ x.ensures g.1 in
-    laws.number-wrong a.text.now a.at a.id a.c a.out.now a.n g.0.0 g.0.1.0 a.out.now r
+    let r = laws.was_number a.text.now a.at a.id b.requires.2 x.result _ x.ensures g.1 in
+    laws.number_wrong a.text.now a.at a.id a.c a.out.now a.n g.0.0 g.0.1.0 a.out.now r
 
 same_length : tie.Need-same-length
 same_length c = search rules
@@ -59,7 +59,7 @@ returns-2 c =
     let o = c.before.before.before.before.before.before.before.operator-number in
     let h = c.before.before.before.before.before.before.put-head in
     let k = c.before.before.put-number in
-    let r = laws.was-number a.text.now a.at a.id b.requires.2 x.result _ x.ensures g.1 in
+    let r = laws.was_number a.text.now a.at a.id b.requires.2 x.result _ x.ensures g.1 in
     laws.number_is a.text.now a.at a.id a.c a.out.now a.n g.0.0 g.0.1.0 g.0.1.1.0 h.result k.result h.new.0
     k.new.0 r h.ensures.0 k.ensures.0 (rw o.ensures at h.ensures.1) k.ensures.1
 

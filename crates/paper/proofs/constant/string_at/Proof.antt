@@ -44,7 +44,7 @@ sub-put-at c =
     let a = b15.args in
     let h = b10.put-head in
     let k = b6.characters in
-    let s = laws.was-string a.text.now a.at h.new.0 h.result k.result _ k.new.1.1.0 k.ensures c.before.before.s2.given.1 in
+    let s = laws.was_string a.text.now a.at h.new.0 h.result k.result _ k.new.1.1.0 k.ensures c.before.before.s2.given.1 in
     omega (arith, s.count)
 
 cast-put-at : tie.Need-overflow-cast-put-at
@@ -55,7 +55,7 @@ cast-put-at c =
     let a = b15.args in
     let h = b10.put-head in
     let k = b6.characters in
-    let s = laws.was-string a.text.now a.at h.new.0 h.result k.result _ k.new.1.1.0 k.ensures c.before.before.s2.given.1 in
+    let s = laws.was_string a.text.now a.at h.new.0 h.result k.result _ k.new.1.1.0 k.ensures c.before.before.s2.given.1 in
     omega (arith, s.count, s.short)
 
 put-at-requires : tie.Need-put-at-requires
@@ -72,9 +72,9 @@ returns c =
     let a = b14.args in
     let h = b9.put-head in
     let k = b5.characters in
-    laws.string-constant-wrong a.text.now a.at a.id a.c a.out.now a.n h.result h.new.0 c.before.s.given.0.0
+    laws.string_constant_wrong a.text.now a.at a.id a.c a.out.now a.n h.result h.new.0 c.before.s.given.0.0
     c.before.s.given.0.1.0 k.new.1.1.0 k.new.1.1.0
-    (laws.was-string a.text.now a.at h.new.0 h.result k.result _ k.new.1.1.0 k.ensures c.before.s.given.1)
+    (laws.was_string a.text.now a.at h.new.0 h.result k.result _ k.new.1.1.0 k.ensures c.before.s.given.1)
 
 same-length-2 : tie.Need-same-length-2
 same-length-2 c = search rules
@@ -90,8 +90,8 @@ returns-2 c =
     let h = b13.put-head in
     let k = b9.characters in
     let q = c.before.before.put-at in
-    laws.string-constant a.text.now a.at a.id a.c a.out.now a.n h.result h.new.0 b5.s2.given.0.0 b5.s2.given.0.1.0
-    k.new.1.1.0 q.new.0 (laws.was-string a.text.now a.at h.new.0 h.result k.result _ k.new.1.1.0 k.ensures
+    laws.string_constant a.text.now a.at a.id a.c a.out.now a.n h.result h.new.0 b5.s2.given.0.0 b5.s2.given.0.1.0
+    k.new.1.1.0 q.new.0 (laws.was_string a.text.now a.at h.new.0 h.result k.result _ k.new.1.1.0 k.ensures
     b5.s2.given.1) h.ensures.0 (rw b14.operator-number.ensures at h.ensures.1) q.ensures
 
 pub string-at-spec : {M : Type 1} → statement M

@@ -38,7 +38,7 @@ returns c =
     let r = b6.put3 in
     let s = c.before.before.put4 in (
       omega (arith, p.ensures.0, q.ensures.0, r.ensures.0, s.ensures.0),
-      output.four-puts a.out.now a.n a.code (a.id % 256) (a.id / 256 % 256) a.size p.new.0 q.new.0 r.new.0 s.new.0
+      output.four_puts a.out.now a.n a.code (a.id % 256) (a.id / 256 % 256) a.size p.new.0 q.new.0 r.new.0 s.new.0
           p.result q.result r.result s.result p.ensures.0 p.ensures.1 q.ensures.0 r.ensures.0 q.ensures.1 r.ensures.1
           s.ensures.1,
     )

@@ -40,7 +40,7 @@ returns-2 c =
     let q = b3.put2 in
     rw c.if2.true (
       omega (arith, p.ensures.0, q.ensures.0),
-      output.two-puts a.out.now a.n (a.v % 256) (a.v / 256 % 256) 0 0 p.new.0 q.new.0 [] [] p.result q.result 0 0 p.ensures.0
+      output.two_puts a.out.now a.n (a.v % 256) (a.v / 256 % 256) 0 0 p.new.0 q.new.0 [] [] p.result q.result 0 0 p.ensures.0
           p.ensures.1 q.ensures.0 q.ensures.1,
     )
 
@@ -72,9 +72,9 @@ returns-3 c =
     let q = b11.put2 in
     let r = b6.put3 in
     let s = c.before.before.put4 in
-    rw (output.four-wide a.size b19.requires.1 b13.if1.false b8.if2.false) (
+    rw (output.four_wide a.size b19.requires.1 b13.if1.false b8.if2.false) (
       omega (arith, p.ensures.0, q.ensures.0, r.ensures.0, s.ensures.0),
-      output.four-puts a.out.now a.n (a.v % 256) (a.v / 256 % 256) (a.v / 65536 % 256) (a.v / 16777216 % 256) p.new.0 q.new.0 r.new.0
+      output.four_puts a.out.now a.n (a.v % 256) (a.v / 256 % 256) (a.v / 65536 % 256) (a.v / 16777216 % 256) p.new.0 q.new.0 r.new.0
           s.new.0
           p.result q.result r.result s.result p.ensures.0 p.ensures.1 q.ensures.0 r.ensures.0 q.ensures.1 r.ensures.1
           s.ensures.1,

@@ -97,7 +97,7 @@ factor-relation-requires t c κs =
     let b4 = c.before.before.before.before in
     let b7 = b4.before.before.before in
     let a = b7.args in
-    let r = (readers.was-start a.text.now a.at a.left b4.begins.result b4.begins.ensures _ c.before.before.s2.given.1) in
+    let r = (readers.was_start a.text.now a.at a.left b4.begins.result b4.begins.ensures _ c.before.before.s2.given.1) in
     (r.within, omega (arith, r.forward, b7.requires.1.1), r.no_blank, r.no_open)
 
 factor-enum-known-s-3 : (t : ℕ) → factor-lts.Need-enum-known-s-3 (factor-calls t) (factor_at t) factor.Post
@@ -108,14 +108,14 @@ factor-sub-sum t c =
     let b3 = c.before.before.before in
     let b6 = b3.before.before.before in
     let a = b6.args in
-    (readers.was-start a.text.now a.at a.left b3.begins.result b3.begins.ensures _ c.before.s3.given.1).room
+    (readers.was_start a.text.now a.at a.left b3.begins.result b3.begins.ensures _ c.before.s3.given.1).room
 
 factor-sum-requires : (t : ℕ) → factor-lts.Need-sum-requires (factor-calls t) (factor_at t) factor.Post
 factor-sum-requires t c κs =
     let b4 = c.before.before.before.before in
     let b7 = b4.before.before.before in
     let a = b7.args in
-    let o = (readers.was-start a.text.now a.at a.left b4.begins.result b4.begins.ensures _ c.before.before.s3.given.1) in
+    let o = (readers.was_start a.text.now a.at a.left b4.begins.result b4.begins.ensures _ c.before.before.s3.given.1) in
     (omega (arith, o.room, b7.requires.0), (o.within, omega (arith, o.forward, b7.requires.1.1)))
 
 factor-enum-known-i : (t : ℕ) → factor-lts.Need-enum-known-i (factor-calls t) (factor_at t) factor.Post
@@ -130,7 +130,7 @@ factor-close-requires t c κs =
     let b8 = b5.before.before.before in
     let b13 = b8.before.before.before.before.before in
     let a = b13.args in
-    (readers.sum-at a.text.now b8.s3.given.0.0 (a.left - 1) a.out.now a.n b5.sum.result b5.sum.new.1.1.1.0
+    (readers.sum_at a.text.now b8.s3.given.0.0 (a.left - 1) a.out.now a.n b5.sum.result b5.sum.new.1.1.1.0
     c.before.i2.given.0.0 c.before.i2.given.0.1.0 b5.sum.ensures c.before.i2.given.1).within
 
 factor-returns : (t : ℕ) → factor-lts.Need-returns (factor-calls t) (factor_at t) factor.Post
@@ -138,7 +138,7 @@ factor-returns t c =
     let b3 = c.before.before.before in
     let b6 = b3.before.before.before in
     let a = b6.args in
-    (readers.was-start a.text.now a.at a.left b3.begins.result b3.begins.ensures _ c.before.s.given.1)
+    (readers.was_start a.text.now a.at a.left b3.begins.result b3.begins.ensures _ c.before.s.given.1)
 
 factor-same-length : (t : ℕ) → factor-lts.Need-same-length (factor-calls t) (factor_at t) factor.Post
 factor-same-length t c = c.before.before.relation.auto.1.1.0
@@ -149,8 +149,8 @@ factor-returns-2 t c =
     let b7 = b5.before.before in
     let b10 = b7.before.before.before in
     let a = b10.args in
-    readers.factor-relation a.text.now a.at a.left a.out.now a.n b5.s2.given.0.0
-    (readers.was-start a.text.now a.at a.left b7.begins.result b7.begins.ensures _ b5.s2.given.1)
+    readers.factor_relation a.text.now a.at a.left a.out.now a.n b5.s2.given.0.0
+    (readers.was_start a.text.now a.at a.left b7.begins.result b7.begins.ensures _ b5.s2.given.1)
     c.before.before.relation.result _ c.before.before.relation.ensures
 
 factor-same-length-2 : (t : ℕ) → factor-lts.Need-same-length-2 (factor-calls t) (factor_at t) factor.Post
@@ -163,10 +163,10 @@ factor-returns-3 t c =
     let b10 = b8.before.before in
     let b13 = b10.before.before.before in
     let a = b13.args in
-    readers.factor-inner-wrong a.text.now a.at a.left a.out.now a.n b8.s3.given.0.0
-    (readers.was-start a.text.now a.at a.left b10.begins.result b10.begins.ensures _ b8.s3.given.1) c.before.i.given.0.0
+    readers.factor_inner_wrong a.text.now a.at a.left a.out.now a.n b8.s3.given.0.0
+    (readers.was_start a.text.now a.at a.left b10.begins.result b10.begins.ensures _ b8.s3.given.1) c.before.i.given.0.0
     c.before.i.given.0.1.0 b5.sum.new.1.1.1.0
-    (readers.sum-bad a.text.now b8.s3.given.0.0 (a.left - 1) a.out.now a.n b5.sum.result b5.sum.new.1.1.1.0
+    (readers.sum_bad a.text.now b8.s3.given.0.0 (a.left - 1) a.out.now a.n b5.sum.result b5.sum.new.1.1.1.0
     c.before.i.given.0.0 c.before.i.given.0.1.0 b5.sum.ensures c.before.i.given.1)
 
 factor-same-length-3 : (t : ℕ) → factor-lts.Need-same-length-3 (factor-calls t) (factor_at t) factor.Post
@@ -179,10 +179,10 @@ factor-returns-4 t c =
     let b11 = b9.before.before in
     let b14 = b11.before.before.before in
     let a = b14.args in
-    readers.factor-close a.text.now a.at a.left a.out.now a.n b9.s3.given.0.0
-    (readers.was-start a.text.now a.at a.left b11.begins.result b11.begins.ensures _ b9.s3.given.1)
+    readers.factor_close a.text.now a.at a.left a.out.now a.n b9.s3.given.0.0
+    (readers.was_start a.text.now a.at a.left b11.begins.result b11.begins.ensures _ b9.s3.given.1)
     c.before.before.i2.given.0.0 c.before.before.i2.given.0.1.0 b6.sum.new.1.1.1.0
-    (readers.sum-at a.text.now b9.s3.given.0.0 (a.left - 1) a.out.now a.n b6.sum.result b6.sum.new.1.1.1.0
+    (readers.sum_at a.text.now b9.s3.given.0.0 (a.left - 1) a.out.now a.n b6.sum.result b6.sum.new.1.1.1.0
     c.before.before.i2.given.0.0 c.before.before.i2.given.0.1.0 b6.sum.ensures c.before.before.i2.given.1)
     c.close.result c.close.ensures
 
@@ -206,9 +206,9 @@ product-loop-holds t c =
     let b5 = c.before.before.before.before.before in
     let b9 = b5.before.before.before.before in
     let a = b9.args in
-    let f = (readers.factor-at a.text.now a.at a.left a.out.now a.n b5.factor.result b5.factor.new.1.1.1.0
+    let f = (readers.factor_at a.text.now a.at a.left a.out.now a.n b5.factor.result b5.factor.new.1.1.1.0
     c.before.f2.given.0.0 c.before.f2.given.0.1.0 b5.factor.ensures c.before.f2.given.1) in
-    readers.grown-none a.text.now a.left c.before.f2.given.0.0 c.before.f2.given.0.1.0 b5.factor.new.1.1.1.0
+    readers.grown_none a.text.now a.left c.before.f2.given.0.0 c.before.f2.given.0.1.0 b5.factor.new.1.1.1.0
     (omega (arith, f.few, f.count, b9.requires.1.1)) f.within
 
 product-blanks-requires : (t : ℕ) → product-lts.Need-blanks-requires (product-calls t) (product_at t) product.Post product-Inv-loop product-μ-loop
@@ -237,11 +237,11 @@ product-returns t c =
     let b14 = b10.before.before.before.before in
     let a = b14.args in
     let l = b4.loop in
-    readers.product-ends a.text.now a.left b6.f2.given.0.0 b6.f2.given.0.1.0 b10.factor.new.1.1.1.0 l.p l.m l.out l.invariant
+    readers.product_ends a.text.now a.left b6.f2.given.0.0 b6.f2.given.0.1.0 b10.factor.new.1.1.1.0 l.p l.m l.out l.invariant
     b3.blanks.result b3.blanks.ensures a.at a.out.now a.n
-    (readers.factor-at a.text.now a.at a.left a.out.now a.n b10.factor.result b10.factor.new.1.1.1.0 b6.f2.given.0.0
+    (readers.factor_at a.text.now a.at a.left a.out.now a.n b10.factor.result b10.factor.new.1.1.1.0 b6.f2.given.0.0
     b6.f2.given.0.1.0 b10.factor.ensures b6.f2.given.1)
-    (readers.was-joiner a.text.now b3.blanks.result 38 c.before.before.join-at.result c.before.before.join-at.ensures _
+    (readers.was_joiner a.text.now b3.blanks.result 38 c.before.before.join-at.result c.before.before.join-at.ensures _
     c.enum_told.given.1)
 
 product-enum-told-2 : (t : ℕ) → product-lts.Need-enum-told-2 (product-calls t) (product_at t) product.Post product-Inv-loop product-μ-loop
@@ -256,8 +256,8 @@ product-add-t23 t c =
     let l = b4.loop in
     omega (
       arith,
-      laws.byte-in a.text.now b3.blanks.result 38
-          (readers.was-joiner a.text.now b3.blanks.result 38 c.before.before.join-at.result c.before.before.join-at.ensures _
+      laws.byte_in a.text.now b3.blanks.result 38
+          (readers.was_joiner a.text.now b3.blanks.result 38 c.before.before.join-at.result c.before.before.join-at.ensures _
           c.enum-told2.given.1).0 (omega arith),
       b14.well-formed.0.0,
     )
@@ -279,11 +279,11 @@ product-returns-2 t c =
     let b14 = b10.before.before.before.before in
     let a = b14.args in
     let l = b4.loop in
-    let w1 = readers.was-joiner a.text.now b3.blanks.result 38 c.before.before.join-at.result c.before.before.join-at.ensures _
+    let w1 = readers.was_joiner a.text.now b3.blanks.result 38 c.before.before.join-at.result c.before.before.join-at.ensures _
     c.enum-told2.given.1 in
-    readers.product-half a.text.now a.left b6.f2.given.0.0 b6.f2.given.0.1.0 b10.factor.new.1.1.1.0 l.p l.m l.out l.invariant
+    readers.product_half a.text.now a.left b6.f2.given.0.0 b6.f2.given.0.1.0 b10.factor.new.1.1.1.0 l.p l.m l.out l.invariant
     b3.blanks.result b3.blanks.ensures w1.0 a.at a.out.now a.n l.out
-    (readers.factor-at a.text.now a.at a.left a.out.now a.n b10.factor.result b10.factor.new.1.1.1.0 b6.f2.given.0.0
+    (readers.factor_at a.text.now a.at a.left a.out.now a.n b10.factor.result b10.factor.new.1.1.1.0 b6.f2.given.0.0
     b6.f2.given.0.1.0 b10.factor.ensures b6.f2.given.1) w1.1
 
 product-enum-told-3 : (t : ℕ) → product-lts.Need-enum-told-3 (product-calls t) (product_at t) product.Post product-Inv-loop product-μ-loop
@@ -298,7 +298,7 @@ product-add-factor t c =
     let b14 = b10.before.before.before.before in
     let a = b14.args in
     let l = b4.loop in
-    let w1 = readers.was-joiner a.text.now b3.blanks.result 38 c.before.before.join-at.result c.before.before.join-at.ensures _
+    let w1 = readers.was_joiner a.text.now b3.blanks.result 38 c.before.before.join-at.result c.before.before.join-at.ensures _
     c.enum-told3.given.1 in
     omega (
       arith,
@@ -317,7 +317,7 @@ product-factor-requires-2 t c κs =
     let b15 = b11.before.before.before.before in
     let a = b15.args in
     let l = b5.loop in
-    let w1 = readers.was-joiner a.text.now b4.blanks.result 38 b3.join-at.result b3.join-at.ensures _ c.before.enum-told3.given.1 in (
+    let w1 = readers.was_joiner a.text.now b4.blanks.result 38 b3.join-at.result b3.join-at.ensures _ c.before.enum-told3.given.1 in (
       omega (arith, b15.requires.0),
       (
         readers.and_in a.text.now a.left b7.f2.given.0.0 b7.f2.given.0.1.0 b11.factor.new.1.1.1.0 l.p
@@ -350,13 +350,13 @@ product-returns-3 t c =
     let b21 = b17.before.before.before.before in
     let a = b21.args in
     let l = b11.loop in
-    let w1 = readers.was-joiner a.text.now b10.blanks.result 38 b9.join-at.result b9.join-at.ensures _ b7.enum-told3.given.1 in
-    readers.product-wrong a.text.now a.left b13.f2.given.0.0 b13.f2.given.0.1.0 b17.factor.new.1.1.1.0 l.p l.m l.out
+    let w1 = readers.was_joiner a.text.now b10.blanks.result 38 b9.join-at.result b9.join-at.ensures _ b7.enum-told3.given.1 in
+    readers.product_wrong a.text.now a.left b13.f2.given.0.0 b13.f2.given.0.1.0 b17.factor.new.1.1.1.0 l.p l.m l.out
     l.invariant b10.blanks.result b10.blanks.ensures w1.0 w1.1 a.at a.out.now a.n b5.factor2.new.1.1.1.0
     c.before.g.given.0.0 c.before.g.given.0.1.0
-    (readers.factor-at a.text.now a.at a.left a.out.now a.n b17.factor.result b17.factor.new.1.1.1.0
+    (readers.factor_at a.text.now a.at a.left a.out.now a.n b17.factor.result b17.factor.new.1.1.1.0
     b13.f2.given.0.0 b13.f2.given.0.1.0 b17.factor.ensures b13.f2.given.1)
-    (readers.factor-bad a.text.now (b10.blanks.result + 2) a.left l.out l.m b5.factor2.result
+    (readers.factor_bad a.text.now (b10.blanks.result + 2) a.left l.out l.m b5.factor2.result
     b5.factor2.new.1.1.1.0 c.before.g.given.0.0 c.before.g.given.0.1.0 b5.factor2.ensures
     c.before.g.given.1)
 
@@ -371,7 +371,7 @@ product-put-requires t c κs =
     let b22 = b12.before.before.before.before.before.before.before.before.before.before in
     let a = b22.args in
     let l = b12.loop in
-    let f = (readers.factor-at a.text.now (b11.blanks.result + 2) a.left l.out l.m b6.factor2.result b6.factor2.new.1.1.1.0
+    let f = (readers.factor_at a.text.now (b11.blanks.result + 2) a.left l.out l.m b6.factor2.result b6.factor2.new.1.1.1.0
     c.before.before.g2.given.0.0 c.before.before.g2.given.0.1.0 b6.factor2.ensures c.before.before.g2.given.1) in
     omega (arith, f.few, f.within, f.count, l.invariant.behind, b22.well-formed.0.1, b11.blanks.ensures.forward)
 
@@ -384,7 +384,7 @@ product-loop-less t c =
     let b25 = b15.before.before.before.before.before.before.before.before.before.before in
     let a = b25.args in
     let l = b15.loop in
-    let f = (readers.factor-at a.text.now (b14.blanks.result + 2) a.left l.out l.m b9.factor2.result b9.factor2.new.1.1.1.0
+    let f = (readers.factor_at a.text.now (b14.blanks.result + 2) a.left l.out l.m b9.factor2.result b9.factor2.new.1.1.1.0
     b5.g2.given.0.0 b5.g2.given.0.1.0 b9.factor2.ensures b5.g2.given.1) in
     omega (arith, f.few, f.within, b14.blanks.ensures.forward)
 
@@ -401,11 +401,11 @@ product-loop-again t c =
     let b25 = b21.before.before.before.before in
     let a = b25.args in
     let l = b15.loop in
-    let w1 = readers.was-joiner a.text.now b14.blanks.result 38 b13.join-at.result b13.join-at.ensures _ b11.enum-told3.given.1 in
-    readers.grown-more a.text.now a.left b17.f2.given.0.0 b17.f2.given.0.1.0 b21.factor.new.1.1.1.0 l.p l.m l.out l.invariant
+    let w1 = readers.was_joiner a.text.now b14.blanks.result 38 b13.join-at.result b13.join-at.ensures _ b11.enum-told3.given.1 in
+    readers.grown_more a.text.now a.left b17.f2.given.0.0 b17.f2.given.0.1.0 b21.factor.new.1.1.1.0 l.p l.m l.out l.invariant
     b14.blanks.result b14.blanks.ensures w1.0 w1.1 b5.g2.given.0.0 b5.g2.given.0.1.0 c.before.before.put.result
     b9.factor2.new.1.1.1.0 c.before.before.put.new.0
-    (readers.factor-at a.text.now (b14.blanks.result + 2) a.left l.out l.m b9.factor2.result b9.factor2.new.1.1.1.0
+    (readers.factor_at a.text.now (b14.blanks.result + 2) a.left l.out l.m b9.factor2.result b9.factor2.new.1.1.1.0
     b5.g2.given.0.0 b5.g2.given.0.1.0 b9.factor2.ensures b5.g2.given.1) c.before.before.put.ensures.0
     c.before.before.put.ensures.1
 
@@ -417,7 +417,7 @@ product-returns-4 t c =
     let b5 = c.before.before.before.before.before in
     let b9 = b5.before.before.before.before in
     let a = b9.args in
-    λ o ls h. (readers.factor-bad a.text.now a.at a.left a.out.now a.n b5.factor.result b5.factor.new.1.1.1.0
+    λ o ls h. (readers.factor_bad a.text.now a.at a.left a.out.now a.n b5.factor.result b5.factor.new.1.1.1.0
     c.before.f.given.0.0 c.before.f.given.0.1.0 b5.factor.ensures c.before.f.given.1) (level o none) ls h
 
 abbrev sum-Inv-loop : sum-lts.invariant-loop
@@ -440,7 +440,7 @@ sum-loop-holds t c =
     let b5 = c.before.before.before.before.before in
     let b9 = b5.before.before.before.before in
     let a = b9.args in
-    readers.summed-none a.text.now a.at a.left a.out.now a.n c.before.f2.given.0.0 c.before.f2.given.0.1.0
+    readers.summed_none a.text.now a.at a.left a.out.now a.n c.before.f2.given.0.0 c.before.f2.given.0.1.0
     b5.product.new.1.1.1.0 b9.requires.1.1 (readers.product_at a.text.now a.at a.left a.out.now a.n b5.product.result
     b5.product.new.1.1.1.0 c.before.f2.given.0.0 c.before.f2.given.0.1.0 b5.product.ensures c.before.f2.given.1)
 
@@ -466,10 +466,10 @@ sum-returns t c =
     let b13 = b9.before.before.before.before in
     let a = b13.args in
     let l = b3.loop in
-    readers.sum-ends a.text.now a.left b5.f2.given.0.0 b5.f2.given.0.1.0 b9.product.new.1.1.1.0 l.p l.m l.out l.invariant
+    readers.sum_ends a.text.now a.left b5.f2.given.0.0 b5.f2.given.0.1.0 b9.product.new.1.1.1.0 l.p l.m l.out l.invariant
     a.at a.out.now a.n (readers.product_at a.text.now a.at a.left a.out.now a.n b9.product.result
     b9.product.new.1.1.1.0 b5.f2.given.0.0 b5.f2.given.0.1.0 b9.product.ensures b5.f2.given.1)
-    (readers.was-joiner a.text.now l.p 124 c.before.before.join-at.result c.before.before.join-at.ensures _
+    (readers.was_joiner a.text.now l.p 124 c.before.before.join-at.result c.before.before.join-at.ensures _
     c.enum_told.given.1)
 
 sum-enum-told-2 : (t : ℕ) → sum-lts.Need-enum-told-2 (sum-calls t) (sum_at t) sum.Post sum-Inv-loop sum-μ-loop
@@ -483,7 +483,7 @@ sum-add-t22 t c =
     let l = b3.loop in
     omega (
       arith,
-      laws.byte-in a.text.now l.p 124 (readers.was-joiner a.text.now l.p 124 c.before.before.join-at.result
+      laws.byte_in a.text.now l.p 124 (readers.was_joiner a.text.now l.p 124 c.before.before.join-at.result
           c.before.before.join-at.ensures _ c.enum-told2.given.1).0 (omega arith),
       b13.well-formed.0.0,
     )
@@ -504,9 +504,9 @@ sum-returns-2 t c =
     let b13 = b9.before.before.before.before in
     let a = b13.args in
     let l = b3.loop in
-    let w1 = readers.was-joiner a.text.now l.p 124 c.before.before.join-at.result c.before.before.join-at.ensures _
+    let w1 = readers.was_joiner a.text.now l.p 124 c.before.before.join-at.result c.before.before.join-at.ensures _
     c.enum-told2.given.1 in
-    readers.sum-half a.text.now a.left b5.f2.given.0.0 b5.f2.given.0.1.0 b9.product.new.1.1.1.0 l.p l.m l.out l.invariant
+    readers.sum_half a.text.now a.left b5.f2.given.0.0 b5.f2.given.0.1.0 b9.product.new.1.1.1.0 l.p l.m l.out l.invariant
     w1.0 a.at a.out.now a.n l.out (readers.product_at a.text.now a.at a.left a.out.now a.n b9.product.result
     b9.product.new.1.1.1.0 b5.f2.given.0.0 b5.f2.given.0.1.0 b9.product.ensures b5.f2.given.1) w1.1
 
@@ -521,11 +521,11 @@ sum-add-product t c =
     let b13 = b9.before.before.before.before in
     let a = b13.args in
     let l = b3.loop in
-    let w1 = readers.was-joiner a.text.now l.p 124 c.before.before.join-at.result c.before.before.join-at.ensures _
+    let w1 = readers.was_joiner a.text.now l.p 124 c.before.before.join-at.result c.before.before.join-at.ensures _
     c.enum-told3.given.1 in
     omega (
       arith,
-      readers.or-in a.text.now a.left b5.f2.given.0.0 b5.f2.given.0.1.0 b9.product.new.1.1.1.0 l.p l.m l.out
+      readers.or_in a.text.now a.left b5.f2.given.0.0 b5.f2.given.0.1.0 b9.product.new.1.1.1.0 l.p l.m l.out
           l.invariant w1.0 w1.1,
       b13.well-formed.0.0,
     )
@@ -539,10 +539,10 @@ sum-product-requires-2 t c κs =
     let b14 = b10.before.before.before.before in
     let a = b14.args in
     let l = b4.loop in
-    let w1 = readers.was-joiner a.text.now l.p 124 b3.join-at.result b3.join-at.ensures _ c.before.enum-told3.given.1 in (
+    let w1 = readers.was_joiner a.text.now l.p 124 b3.join-at.result b3.join-at.ensures _ c.before.enum-told3.given.1 in (
       omega (arith, b14.requires.0),
       (
-        readers.or-in a.text.now a.left b6.f2.given.0.0 b6.f2.given.0.1.0 b10.product.new.1.1.1.0 l.p
+        readers.or_in a.text.now a.left b6.f2.given.0.0 b6.f2.given.0.1.0 b10.product.new.1.1.1.0 l.p
             l.m l.out l.invariant w1.0 w1.1,
         omega (arith, l.invariant.behind),
       ),
@@ -571,12 +571,12 @@ sum-returns-3 t c =
     let b20 = b16.before.before.before.before in
     let a = b20.args in
     let l = b10.loop in
-    let w1 = readers.was-joiner a.text.now l.p 124 b9.join-at.result b9.join-at.ensures _ b7.enum-told3.given.1 in
-    readers.sum-wrong a.text.now a.left b12.f2.given.0.0 b12.f2.given.0.1.0 b16.product.new.1.1.1.0 l.p l.m l.out l.invariant
+    let w1 = readers.was_joiner a.text.now l.p 124 b9.join-at.result b9.join-at.ensures _ b7.enum-told3.given.1 in
+    readers.sum_wrong a.text.now a.left b12.f2.given.0.0 b12.f2.given.0.1.0 b16.product.new.1.1.1.0 l.p l.m l.out l.invariant
     w1.0 w1.1 a.at a.out.now a.n b5.product2.new.1.1.1.0 c.before.g.given.0.0 c.before.g.given.0.1.0
     (readers.product_at a.text.now a.at a.left a.out.now a.n b16.product.result b16.product.new.1.1.1.0
     b12.f2.given.0.0 b12.f2.given.0.1.0 b16.product.ensures b12.f2.given.1)
-    (readers.product-bad a.text.now (l.p + 2) a.left l.out l.m b5.product2.result b5.product2.new.1.1.1.0
+    (readers.product_bad a.text.now (l.p + 2) a.left l.out l.m b5.product2.result b5.product2.new.1.1.1.0
     c.before.g.given.0.0 c.before.g.given.0.1.0 b5.product2.ensures c.before.g.given.1)
 
 sum-enum-known-g-2 : (t : ℕ) → sum-lts.Need-enum-known-g-2 (sum-calls t) (sum_at t) sum.Post sum-Inv-loop sum-μ-loop
@@ -617,8 +617,8 @@ sum-loop-again t c =
     let b24 = b20.before.before.before.before in
     let a = b24.args in
     let l = b14.loop in
-    let w1 = readers.was-joiner a.text.now l.p 124 b13.join-at.result b13.join-at.ensures _ b11.enum-told3.given.1 in
-    readers.summed-more a.text.now a.left b16.f2.given.0.0 b16.f2.given.0.1.0 b20.product.new.1.1.1.0 l.p l.m l.out
+    let w1 = readers.was_joiner a.text.now l.p 124 b13.join-at.result b13.join-at.ensures _ b11.enum-told3.given.1 in
+    readers.summed_more a.text.now a.left b16.f2.given.0.0 b16.f2.given.0.1.0 b20.product.new.1.1.1.0 l.p l.m l.out
     l.invariant w1.0 w1.1 b5.g2.given.0.0 b5.g2.given.0.1.0 c.before.before.put.result b9.product2.new.1.1.1.0
     c.before.before.put.new.0 (readers.product_at a.text.now (l.p + 2) a.left l.out l.m b9.product2.result
     b9.product2.new.1.1.1.0 b5.g2.given.0.0 b5.g2.given.0.1.0 b9.product2.ensures b5.g2.given.1)
@@ -632,7 +632,7 @@ sum-returns-4 t c =
     let b5 = c.before.before.before.before.before in
     let b9 = b5.before.before.before.before in
     let a = b9.args in
-    λ ls h. (readers.product-bad a.text.now a.at a.left a.out.now a.n b5.product.result b5.product.new.1.1.1.0
+    λ ls h. (readers.product_bad a.text.now a.at a.left a.out.now a.n b5.product.result b5.product.new.1.1.1.0
     c.before.f.given.0.0 c.before.f.given.0.1.0 b5.product.ensures c.before.f.given.1) none ls h
 
 pub +factor-product-sum-spec : {M : Type 1} → statement M

@@ -14,7 +14,7 @@ returns c =
     let a = c.before.before.before.before.before.args in
     let q = c.before.before.before.blanks in
     let b = c.before.before.byte_of in
-    readers.start-deep a.text.now a.at a.left q.result q.ensures b.result b.ensures c.before.if1.true c.if2.true
+    readers.start_deep a.text.now a.at a.left q.result q.ensures b.result b.ensures c.before.if1.true c.if2.true
 
 add-t8 : tie.Need-overflow-add-t8
 add-t8 c = search rules
@@ -24,14 +24,14 @@ returns-2 c =
     let a = c.before.before.before.before.before.args in
     let q = c.before.before.before.blanks in
     let b = c.before.before.byte_of in
-    readers.start-open a.text.now a.at a.left q.result q.ensures b.result b.ensures c.before.if1.true c.if2.false
+    readers.start_open a.text.now a.at a.left q.result q.ensures b.result b.ensures c.before.if1.true c.if2.false
 
 returns-3 : tie.Need-returns-3
 returns-3 c =
     let a = c.before.before.before.before.args in
     let q = c.before.before.blanks in
     let b = c.before.byte_of in
-    readers.start-relation a.text.now a.at a.left q.result q.ensures b.result b.ensures c.if1.false
+    readers.start_relation a.text.now a.at a.left q.result q.ensures b.result b.ensures c.if1.false
 
 pub begins-spec : {M : Type 1} → statement M
 begins-spec =

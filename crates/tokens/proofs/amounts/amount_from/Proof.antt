@@ -17,7 +17,7 @@ decreases-loop text at first e₀ v₀ e v = length text - e
 loop-holds : tie.Need-loop-init invariant-loop decreases-loop
 loop-holds c =
     let a = c.before.args in
-    laws.counting-none a.text.now a.at a.first c.before.requires (omega (arith, c.before.well-formed.1.1.0))
+    laws.counting_none a.text.now a.at a.first c.before.requires (omega (arith, c.before.well-formed.1.1.0))
 
 byte-of-requires : tie.Need-byte-of-requires invariant-loop decreases-loop
 byte-of-requires c κs = search rules
@@ -35,19 +35,19 @@ sub-w : tie.Need-overflow-sub-w invariant-loop decreases-loop
 sub-w c =
     let b = c.before.before.byte_of in
     let d = c.before.is_digit in
-    tests.digit-least b.result (sym d.ensures ∙ c.if1.true)
+    tests.digit_least b.result (sym d.ensures ∙ c.if1.true)
 
 cast-w-2 : tie.Need-overflow-cast-w-2 invariant-loop decreases-loop
 cast-w-2 c =
     let b = c.before.before.byte_of in
     let d = c.before.is_digit in
-    omega (arith, tests.digit-most b.result (sym d.ensures ∙ c.if1.true))
+    omega (arith, tests.digit_most b.result (sym d.ensures ∙ c.if1.true))
 
 add-w : tie.Need-overflow-add-w invariant-loop decreases-loop
 add-w c =
     let b = c.before.before.byte_of in
     let d = c.before.is_digit in
-    omega (arith, tests.digit-most b.result (sym d.ensures ∙ c.if1.true), c.before.before.before.loop.invariant.small)
+    omega (arith, tests.digit_most b.result (sym d.ensures ∙ c.if1.true), c.before.before.before.loop.invariant.small)
 
 cast-v : tie.Need-overflow-cast-v invariant-loop decreases-loop
 cast-v c = omega (arith, c.if2.true)
@@ -58,7 +58,7 @@ add-e c =
     let l = c.before.before.before.before.loop in
     let b = c.before.before.before.byte_of in
     let d = c.before.before.is_digit in
-    omega (arith, laws.counting-in a.text.now a.at a.first l.e l.v l.invariant b.result b.ensures (sym d.ensures ∙ c.before.if1.true))
+    omega (arith, laws.counting_in a.text.now a.at a.first l.e l.v l.invariant b.result b.ensures (sym d.ensures ∙ c.before.if1.true))
 
 loop-less : tie.Need-loop-smaller invariant-loop decreases-loop
 loop-less c =
@@ -66,7 +66,7 @@ loop-less c =
     let l = c.before.before.before.before.loop in
     let b = c.before.before.before.byte_of in
     let d = c.before.before.is_digit in
-    omega (arith, laws.counting-in a.text.now a.at a.first l.e l.v l.invariant b.result b.ensures (sym d.ensures ∙ c.before.if1.true))
+    omega (arith, laws.counting_in a.text.now a.at a.first l.e l.v l.invariant b.result b.ensures (sym d.ensures ∙ c.before.if1.true))
 
 loop-again : tie.Need-loop-preserved invariant-loop decreases-loop
 loop-again c =
@@ -89,7 +89,7 @@ returns c =
     let l = b4.loop in
     let b = b3.byte_of in
     let d = c.before.before.is_digit in
-    laws.counting-large a.text.now a.at a.first l.e l.v l.invariant b.result b.ensures (sym d.ensures ∙ c.before.if1.true)
+    laws.counting_large a.text.now a.at a.first l.e l.v l.invariant b.result b.ensures (sym d.ensures ∙ c.before.if1.true)
     c.if2.false
 
 returns-2 : tie.Need-returns-2 invariant-loop decreases-loop
@@ -98,7 +98,7 @@ returns-2 c =
     let l = c.before.before.before.loop in
     let b = c.before.before.byte_of in
     let d = c.before.is_digit in
-    laws.counting-done a.text.now a.at a.first l.e l.v l.invariant b.result b.ensures (sym d.ensures ∙ c.if1.false)
+    laws.counting_done a.text.now a.at a.first l.e l.v l.invariant b.result b.ensures (sym d.ensures ∙ c.if1.false)
 
 pub amount-from-spec : {M : Type 1} → statement M
 amount-from-spec =

@@ -18,11 +18,11 @@ add-amount-from c =
     let a = c.before.before.before.before.args in
     let b = c.before.before.byte_of in
     let d = sym c.before.is_digit.ensures ∙ c.if1.true in
-    let h = places.byte-in a.text.now a.at b.result (sym b.ensures) (omega (arith, tests.digit-least b.result d)) in
+    let h = places.byte_in a.text.now a.at b.result (sym b.ensures) (omega (arith, tests.digit_least b.result d)) in
     omega (arith, h, c.before.before.before.before.well-formed.0.0)
 
 sub-amount-from : tie.Need-overflow-sub-amount-from
-sub-amount-from c = tests.digit-least c.before.before.byte_of.result (sym c.before.is_digit.ensures ∙ c.if1.true)
+sub-amount-from c = tests.digit_least c.before.before.byte_of.result (sym c.before.is_digit.ensures ∙ c.if1.true)
 
 cast-amount-from : tie.Need-overflow-cast-amount-from
 cast-amount-from c = search rules
@@ -32,7 +32,7 @@ amount-from-requires c κs =
     let a = c.before.before.before.before.args in
     let b = c.before.before.byte_of in
     let d = sym c.before.is_digit.ensures ∙ c.if1.true in
-    let h = places.byte-in a.text.now a.at b.result (sym b.ensures) (omega (arith, tests.digit-least b.result d)) in
+    let h = places.byte_in a.text.now a.at b.result (sym b.ensures) (omega (arith, tests.digit_least b.result d)) in
     omega (arith, h)
 
 enum-known-a : tie.Need-enum-known-a
@@ -48,7 +48,7 @@ size-at-requires c κs =
     let d = sym c.before.before.before.before.before.is_digit.ensures ∙ c.before.before.before.before.if1.true in
     let m = c.before.before.before.amount-from in
     let g = c.before.a2.given in
-    laws.amount-in a.text.now a.at a.id b.result b.ensures d m.result m.ensures g.0.0 g.0.1.0 g.1
+    laws.amount_in a.text.now a.at a.id b.result b.ensures d m.result m.ensures g.0.0 g.0.1.0 g.1
 
 enum-known-s : tie.Need-enum-known-s
 enum-known-s c = search rules
@@ -63,7 +63,7 @@ returns c =
     let d = sym c.before.before.before.before.before.is_digit.ensures ∙ c.before.before.before.before.if1.true in
     let m = c.before.before.before.amount-from in
     let g = c.before.a.given in
-    laws.number-large a.text.now a.at a.id b.result b.ensures d m.result m.ensures g.0.0 g.1
+    laws.number_large a.text.now a.at a.id b.result b.ensures d m.result m.ensures g.0.0 g.1
 
 returns-2 : tie.Need-returns-2
 returns-2 c =
@@ -81,7 +81,7 @@ returns-2 c =
     let g = b5.a2.given in
     let z = b3.size-at in
     let k = c.before.s.given in
-    laws.number-width a.text.now a.at a.id b.result b.ensures d m.result m.ensures g.0.0 g.0.1.0 g.1 z.result z.ensures
+    laws.number_width a.text.now a.at a.id b.result b.ensures d m.result m.ensures g.0.0 g.0.1.0 g.1 z.result z.ensures
     k.0.0 k.1
 
 returns-3 : tie.Need-returns-3
@@ -107,7 +107,7 @@ returns-4 : tie.Need-returns-4
 returns-4 c =
     let a = c.before.before.before.before.args in
     let b = c.before.before.byte_of in
-    laws.number-none a.text.now a.at a.id b.result b.ensures (sym c.before.is_digit.ensures ∙ c.if1.false)
+    laws.number_none a.text.now a.at a.id b.result b.ensures (sym c.before.is_digit.ensures ∙ c.if1.false)
 
 pub number-at-spec : {M : Type 1} → statement M
 number-at-spec =

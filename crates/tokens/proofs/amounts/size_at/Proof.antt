@@ -24,7 +24,7 @@ sub-t10 : tie.Need-overflow-sub-t10
 sub-t10 c =
     let d = c.before.before.byte-of2 in
     let w = c.before.is-width in
-    laws.width-least d.result c.before.before.before.before.before.before.args.v (sym w.ensures ∙ c.if2.true)
+    laws.width_least d.result c.before.before.before.before.before.before.args.v (sym w.ensures ∙ c.if2.true)
 
 add-t11 : tie.Need-overflow-add-t11
 add-t11 c = search rules

@@ -14,7 +14,7 @@ decreases-loop text at n₀ v₀ n v = 4 - n
 loop-holds : tie.Need-loop-init invariant-loop decreases-loop
 loop-holds c =
     let a = c.before.args in
-    laws.hashing-none a.text.now a.at c.before.requires
+    laws.hashing_none a.text.now a.at c.before.requires
 
 add-byte-of : tie.Need-overflow-add-byte-of invariant-loop decreases-loop
 add-byte-of c = omega (arith, c.before.loop.invariant.within, c.before.before.before.well-formed.0.0)
@@ -49,7 +49,7 @@ loop-again c =
     let l = b4.loop in
     let b = c.before.before.byte_of in
     let h = c.before.hex-value in
-    laws.hashing-more a.text.now a.at l.n l.v l.invariant b.result h.result b.ensures h.ensures b3.loop-test.true c.if1.true
+    laws.hashing_more a.text.now a.at l.n l.v l.invariant b.result h.result b.ensures h.ensures b3.loop-test.true c.if1.true
 
 add-t11 : tie.Need-overflow-add-t11 invariant-loop decreases-loop
 add-t11 c = omega (arith, c.before.before.before.before.loop.invariant.within, c.before.before.before.before.before.before.well-formed.0.0)
@@ -63,7 +63,7 @@ returns c =
     let l = b4.loop in
     let b = c.before.before.byte_of in
     let h = c.before.hex-value in
-    laws.hashing-wrong a.text.now a.at l.n l.v l.invariant b.result h.result b.ensures h.ensures b3.loop-test.true c.if1.false
+    laws.hashing_wrong a.text.now a.at l.n l.v l.invariant b.result h.result b.ensures h.ensures b3.loop-test.true c.if1.false
 
 add-t12 : tie.Need-overflow-add-t12 invariant-loop decreases-loop
 add-t12 c = omega (arith, c.before.loop.invariant.within, c.before.before.before.well-formed.0.0)
@@ -72,7 +72,7 @@ returns-2 : tie.Need-returns-2 invariant-loop decreases-loop
 returns-2 c =
     let a = c.before.before.before.args in
     let l = c.before.loop in
-    laws.hashing-done a.text.now a.at l.n l.v l.invariant c.loop-test.false
+    laws.hashing_done a.text.now a.at l.n l.v l.invariant c.loop-test.false
 
 pub hash-from-spec : {M : Type 1} → statement M
 hash-from-spec =

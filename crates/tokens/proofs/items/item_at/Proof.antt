@@ -10,7 +10,7 @@ use Rattle.tokens.proofs.items.item_at.Tie as tie
 returns : tie.Need-returns
 returns c =
     let a = c.before.before.args in
-    laws.item-end a.text.now a.at c.if1.true
+    laws.item_end a.text.now a.at c.if1.true
 
 byte-of-requires : tie.Need-byte-of-requires
 byte-of-requires c κs = search rules
@@ -25,7 +25,7 @@ returns-2 : tie.Need-returns-2
 returns-2 c =
     let a = c.before.before.before.before.before.args in
     let b = c.before.before.byte_of in
-    laws.item-hash a.text.now a.at b.result b.ensures c.before.if2.true c.hash-from.result c.hash-from.ensures
+    laws.item_hash a.text.now a.at b.result b.ensures c.before.if2.true c.hash-from.result c.hash-from.ensures
 
 sub-find-name : tie.Need-overflow-sub-find-name
 sub-find-name c = search rules
@@ -66,7 +66,7 @@ add-t16 c =
     let f = b3.find-name in
     let t = take_all (length a.text.now - a.at) (drop a.at a.text.now) (omega (arith, length-drop a.at a.text.now)) in
     let g = c.before.f2.given in
-    let h = laws.unknown-in a.text.now a.at (omega (arith, b7.if1.false)) f.result _ t f.ensures g.0.0 g.1 in
+    let h = laws.unknown_in a.text.now a.at (omega (arith, b7.if1.false)) f.result _ t f.ensures g.0.0 g.1 in
     omega (arith, h, b9.well-formed.0.0)
 
 returns-3 : tie.Need-returns-3
@@ -80,7 +80,7 @@ returns-3 c =
     let t = take_all (length a.text.now - a.at) (drop a.at a.text.now) (omega (arith, length-drop a.at a.text.now)) in
     let b = b6.byte_of in
     let g = c.before.f.given in
-    laws.item-known a.text.now a.at b.result b.ensures b5.if2.false f.result _ t f.ensures g.0.0 g.0.1.0 g.1
+    laws.item_known a.text.now a.at b.result b.ensures b5.if2.false f.result _ t f.ensures g.0.0 g.0.1.0 g.1
 
 returns-4 : tie.Need-returns-4
 returns-4 c =
@@ -93,7 +93,7 @@ returns-4 c =
     let t = take_all (length a.text.now - a.at) (drop a.at a.text.now) (omega (arith, length-drop a.at a.text.now)) in
     let b = b6.byte_of in
     let g = c.before.f2.given in
-    laws.item-unknown a.text.now a.at b.result b.ensures b5.if2.false f.result _ t f.ensures g.0.0 g.1
+    laws.item_unknown a.text.now a.at b.result b.ensures b5.if2.false f.result _ t f.ensures g.0.0 g.1
 
 pub item-at-spec : {M : Type 1} → statement M
 item-at-spec =

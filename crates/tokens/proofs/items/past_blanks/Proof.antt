@@ -31,7 +31,7 @@ add-e c =
     let l = b3.loop in
     let b = c.before.before.byte_of in
     let k = c.before.is-blank in
-    omega (arith, places.blank-in a.text.now l.e b.result b.ensures (sym k.ensures ∙ c.if1.true), b5.well-formed.0.0)
+    omega (arith, places.blank_in a.text.now l.e b.result b.ensures (sym k.ensures ∙ c.if1.true), b5.well-formed.0.0)
 
 loop-less : tie.Need-loop-smaller invariant-loop decreases-loop
 loop-less c =
@@ -39,7 +39,7 @@ loop-less c =
     let l = c.before.before.before.loop in
     let b = c.before.before.byte_of in
     let k = c.before.is-blank in
-    omega (arith, places.blank-in a.text.now l.e b.result b.ensures (sym k.ensures ∙ c.if1.true))
+    omega (arith, places.blank_in a.text.now l.e b.result b.ensures (sym k.ensures ∙ c.if1.true))
 
 loop-again : tie.Need-loop-preserved invariant-loop decreases-loop
 loop-again c =
@@ -47,7 +47,7 @@ loop-again c =
     let l = c.before.before.before.loop in
     let b = c.before.before.byte_of in
     let k = c.before.is-blank in
-    sym (places.blanks-more a.text.now l.e b.result b.ensures (sym k.ensures ∙ c.if1.true)) ∙ l.invariant
+    sym (places.blanks_more a.text.now l.e b.result b.ensures (sym k.ensures ∙ c.if1.true)) ∙ l.invariant
 
 returns : tie.Need-returns invariant-loop decreases-loop
 returns c =
@@ -55,7 +55,7 @@ returns c =
     let l = c.before.before.before.loop in
     let b = c.before.before.byte_of in
     let k = c.before.is-blank in
-    places.blanks-end a.text.now l.e b.result b.ensures (sym k.ensures ∙ c.if1.false) ∙ l.invariant
+    places.blanks_end a.text.now l.e b.result b.ensures (sym k.ensures ∙ c.if1.false) ∙ l.invariant
 
 pub past-blanks-spec : {M : Type 1} → statement M
 past-blanks-spec =

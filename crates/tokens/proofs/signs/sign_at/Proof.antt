@@ -15,14 +15,14 @@ add-order-at : tie.Need-overflow-add-order-at
 add-order-at c =
     let a = c.before.before.before.args in
     let b = c.before.byte_of in
-    let h = places.byte-in a.text.now a.at 60 (sym b.ensures ∙ c.if1.true) (omega arith) in
+    let h = places.byte_in a.text.now a.at 60 (sym b.ensures ∙ c.if1.true) (omega arith) in
     omega (arith, h, c.before.before.before.well-formed.0.0)
 
 order-at-requires : tie.Need-order-at-requires
 order-at-requires c κs =
     let a = c.before.before.before.args in
     let b = c.before.byte_of in
-    let h = places.byte-in a.text.now a.at 60 (sym b.ensures ∙ c.if1.true) (omega arith) in
+    let h = places.byte_in a.text.now a.at 60 (sym b.ensures ∙ c.if1.true) (omega arith) in
     omega (arith, h)
 
 returns : tie.Need-returns
@@ -38,14 +38,14 @@ add-order-at-2 : tie.Need-overflow-add-order-at-2
 add-order-at-2 c =
     let a = c.before.before.before.before.args in
     let b = c.before.before.byte_of in
-    let h = places.byte-in a.text.now a.at 62 (sym b.ensures ∙ c.if2.true) (omega arith) in
+    let h = places.byte_in a.text.now a.at 62 (sym b.ensures ∙ c.if2.true) (omega arith) in
     omega (arith, h, c.before.before.before.before.well-formed.0.0)
 
 order-at-requires-2 : tie.Need-order-at-requires-2
 order-at-requires-2 c κs =
     let a = c.before.before.before.before.args in
     let b = c.before.before.byte_of in
-    let h = places.byte-in a.text.now a.at 62 (sym b.ensures ∙ c.if2.true) (omega arith) in
+    let h = places.byte_in a.text.now a.at 62 (sym b.ensures ∙ c.if2.true) (omega arith) in
     omega (arith, h)
 
 returns-2 : tie.Need-returns-2
@@ -61,14 +61,14 @@ add-second-at : tie.Need-overflow-add-second-at
 add-second-at c =
     let a = c.before.before.before.before.before.args in
     let b = c.before.before.before.byte_of in
-    let h = places.byte-in a.text.now a.at 61 (sym b.ensures ∙ c.if3.true) (omega arith) in
+    let h = places.byte_in a.text.now a.at 61 (sym b.ensures ∙ c.if3.true) (omega arith) in
     omega (arith, h, c.before.before.before.before.before.well-formed.0.0)
 
 second-at-requires : tie.Need-second-at-requires
 second-at-requires c κs =
     let a = c.before.before.before.before.before.args in
     let b = c.before.before.before.byte_of in
-    let h = places.byte-in a.text.now a.at 61 (sym b.ensures ∙ c.if3.true) (omega arith) in
+    let h = places.byte_in a.text.now a.at 61 (sym b.ensures ∙ c.if3.true) (omega arith) in
     omega (arith, h)
 
 returns-3 : tie.Need-returns-3
@@ -92,14 +92,14 @@ add-second-at-2 : tie.Need-overflow-add-second-at-2
 add-second-at-2 c =
     let a = c.before.before.before.before.before.before.args in
     let b = c.before.before.before.before.byte_of in
-    let h = places.byte-in a.text.now a.at 33 (sym b.ensures ∙ c.if4.true) (omega arith) in
+    let h = places.byte_in a.text.now a.at 33 (sym b.ensures ∙ c.if4.true) (omega arith) in
     omega (arith, h, c.before.before.before.before.before.before.well-formed.0.0)
 
 second-at-requires-2 : tie.Need-second-at-requires-2
 second-at-requires-2 c κs =
     let a = c.before.before.before.before.before.before.args in
     let b = c.before.before.before.before.byte_of in
-    let h = places.byte-in a.text.now a.at 33 (sym b.ensures ∙ c.if4.true) (omega arith) in
+    let h = places.byte_in a.text.now a.at 33 (sym b.ensures ∙ c.if4.true) (omega arith) in
     omega (arith, h)
 
 returns-4 : tie.Need-returns-4

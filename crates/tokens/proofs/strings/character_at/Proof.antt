@@ -23,13 +23,13 @@ add-escape-at : tie.Need-overflow-add-escape-at
 add-escape-at c =
     let a = c.before.before.before.before.before.args in
     let b = c.before.before.before.byte_of in
-    let h = places.byte-in a.text.now a.at 92 (sym b.ensures ∙ c.before.if2.true) (omega arith) in
+    let h = places.byte_in a.text.now a.at 92 (sym b.ensures ∙ c.before.if2.true) (omega arith) in
     omega (arith, h, c.before.before.before.before.before.well-formed.0.0)
 
 escape-at-requires : tie.Need-escape-at-requires
 escape-at-requires c κs =
     let a = c.before.before.before.before.before.args in
-    omega (arith, places.byte-in a.text.now a.at 92 (sym c.before.before.before.byte_of.ensures ∙ c.before.if2.true) (omega arith))
+    omega (arith, places.byte_in a.text.now a.at 92 (sym c.before.before.before.byte_of.ensures ∙ c.before.if2.true) (omega arith))
 
 returns-2 : tie.Need-returns-2
 unfolding character_at
@@ -65,8 +65,8 @@ added-at-requires : tie.Need-added-at-requires
 added-at-requires c κs =
     let a = c.before.before.before.before.before.before.args in
     let b = c.before.before.before.before.byte_of in
-    let p = tests.printed-least b.result (sym c.before.is-printed.ensures ∙ c.if4.true) in
-    let h = places.byte-in a.text.now a.at b.result (sym b.ensures) (omega (arith, p)) in
+    let p = tests.printed_least b.result (sym c.before.is-printed.ensures ∙ c.if4.true) in
+    let h = places.byte_in a.text.now a.at b.result (sym b.ensures) (omega (arith, p)) in
     omega (arith, h, c.before.before.before.before.before.before.well-formed.0.0)
 
 returns-4 : tie.Need-returns-4

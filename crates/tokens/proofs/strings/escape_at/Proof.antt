@@ -41,7 +41,7 @@ add-code-at c = search rules
 code-at-requires : tie.Need-code-at-requires
 code-at-requires c κs =
     let a = c.before.before.before.before.before.args in
-    omega (arith, places.byte-in a.text.now a.at 120 (sym c.before.before.before.byte_of.ensures ∙ c.if3.true) (omega arith))
+    omega (arith, places.byte_in a.text.now a.at 120 (sym c.before.before.before.byte_of.ensures ∙ c.if3.true) (omega arith))
 
 returns-3 : tie.Need-returns-3
 unfolding escape_at

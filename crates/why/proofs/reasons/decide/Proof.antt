@@ -17,7 +17,7 @@ decreases-loop steps truths row₀ bits₀ from₀ d₀ n₀ i₀ k₀ row bits 
 loop-holds : tie.Need-loop-init invariant-loop decreases-loop
 loop-holds c =
     let a = c.before.before.before.args in
-    passes.pass-start a.steps.now a.truths.now a.row.now c.before.before.before.requires.0 c.before.before.before.requires.2
+    passes.pass_start a.steps.now a.truths.now a.row.now c.before.before.before.requires.0 c.before.before.before.requires.2
 
 mul-s : tie.Need-overflow-mul-s invariant-loop decreases-loop
 mul-s c = omega arith
@@ -40,14 +40,14 @@ returns : tie.Need-returns invariant-loop decreases-loop
 returns c =
     let l = c.before.before.before.before.before.loop in
     let a = c.before.before.before.before.before.before.before.before.before.args in
-    passes.pass-full a.steps.now a.truths.now l.bits l.from l.row l.d l.n l.i l.k l.invariant
+    passes.pass_full a.steps.now a.truths.now l.bits l.from l.row l.d l.n l.i l.k l.invariant
     c.before.before.before.before.loop-test.true c.before.before.if1.true _ c.before.if2.true
 
 shared-slice-read-bits : tie.Need-shared-slice-read-bits invariant-loop decreases-loop
 shared-slice-read-bits c =
     let l = c.before.before.before.before.before.loop in
     let a = c.before.before.before.before.before.before.before.before.before.args in
-    let r = passes.push-room a.steps.now a.truths.now l.bits l.from l.row l.d l.n l.i l.k l.invariant
+    let r = passes.push_room a.steps.now a.truths.now l.bits l.from l.row l.d l.n l.i l.k l.invariant
     c.before.before.before.before.loop-test.true c.before.before.if1.true in
     omega (arith, r.0, r.1, l.invariant.row_size, c.before.before.before.before.before.before.before.before.before.requires.1)
 
@@ -64,7 +64,7 @@ add-k : tie.Need-overflow-add-k invariant-loop decreases-loop
 add-k c =
     let l = c.before.before.before.before.before.loop in
     let a = c.before.before.before.before.before.before.before.before.before.args in
-    let r = passes.push-room a.steps.now a.truths.now l.bits l.from l.row l.d l.n l.i l.k l.invariant
+    let r = passes.push_room a.steps.now a.truths.now l.bits l.from l.row l.d l.n l.i l.k l.invariant
     c.before.before.before.before.loop-test.true c.before.before.if1.true in
     omega (arith, r.0, r.1, l.invariant.row_size, c.before.before.before.before.before.before.before.before.before.requires.1)
 
@@ -72,7 +72,7 @@ cast-row : tie.Need-overflow-cast-row invariant-loop decreases-loop
 cast-row c =
     let l = c.before.before.before.before.before.loop in
     let a = c.before.before.before.before.before.before.before.before.before.args in
-    let r = passes.push-room a.steps.now a.truths.now l.bits l.from l.row l.d l.n l.i l.k l.invariant
+    let r = passes.push_room a.steps.now a.truths.now l.bits l.from l.row l.d l.n l.i l.k l.invariant
     c.before.before.before.before.loop-test.true c.before.before.if1.true in
     omega (arith, r.0, r.1, l.invariant.row_size, c.before.before.before.before.before.before.before.before.before.requires.1)
 
@@ -80,7 +80,7 @@ mul-row : tie.Need-overflow-mul-row invariant-loop decreases-loop
 mul-row c =
     let l = c.before.before.before.before.before.loop in
     let a = c.before.before.before.before.before.before.before.before.before.args in
-    let r = passes.push-room a.steps.now a.truths.now l.bits l.from l.row l.d l.n l.i l.k l.invariant
+    let r = passes.push_room a.steps.now a.truths.now l.bits l.from l.row l.d l.n l.i l.k l.invariant
     c.before.before.before.before.loop-test.true c.before.before.if1.true in
     omega (arith, r.0, r.1, l.invariant.row_size, c.before.before.before.before.before.before.before.before.before.requires.1)
 
@@ -88,7 +88,7 @@ slice-write-row : tie.Need-slice-write-row invariant-loop decreases-loop
 slice-write-row c =
     let l = c.before.before.before.before.before.loop in
     let a = c.before.before.before.before.before.before.before.before.before.args in
-    let r = passes.push-room a.steps.now a.truths.now l.bits l.from l.row l.d l.n l.i l.k l.invariant
+    let r = passes.push_room a.steps.now a.truths.now l.bits l.from l.row l.d l.n l.i l.k l.invariant
     c.before.before.before.before.loop-test.true c.before.before.if1.true in
     omega (arith, r.0, r.1, l.invariant.row_size, c.before.before.before.before.before.before.before.before.before.requires.1)
 
@@ -96,7 +96,7 @@ add-n : tie.Need-overflow-add-n invariant-loop decreases-loop
 add-n c =
     let l = c.before.before.before.before.before.loop in
     let a = c.before.before.before.before.before.before.before.before.before.args in
-    let r = passes.push-room a.steps.now a.truths.now l.bits l.from l.row l.d l.n l.i l.k l.invariant
+    let r = passes.push_room a.steps.now a.truths.now l.bits l.from l.row l.d l.n l.i l.k l.invariant
     c.before.before.before.before.loop-test.true c.before.before.if1.true in
     omega (arith, r.0, r.1, l.invariant.row_size, c.before.before.before.before.before.before.before.before.before.requires.1)
 
@@ -110,7 +110,7 @@ loop-again : tie.Need-loop-preserved invariant-loop decreases-loop
 loop-again c =
     let l = c.before.before.before.before.before.loop in
     let a = c.before.before.before.before.before.before.before.before.before.args in
-    passes.pass-rel a.steps.now a.truths.now l.bits l.from l.row l.d l.n l.i l.k l.invariant
+    passes.pass_rel a.steps.now a.truths.now l.bits l.from l.row l.d l.n l.i l.k l.invariant
     c.before.before.before.before.loop-test.true c.before.before.if1.true (omega (arith, c.before.if2.false))
 
 nothing-requires-2 : tie.Need-nothing-requires-2 invariant-loop decreases-loop
@@ -125,7 +125,7 @@ returns-2 : tie.Need-returns-2 invariant-loop decreases-loop
 returns-2 c =
     let l = c.before.before.before.before.before.loop in
     let a = c.before.before.before.before.before.before.before.before.before.args in
-    passes.pass-bad a.steps.now a.truths.now l.bits l.from l.row l.d l.n l.i l.k l.invariant
+    passes.pass_bad a.steps.now a.truths.now l.bits l.from l.row l.d l.n l.i l.k l.invariant
     c.before.before.before.before.loop-test.true _ c.before.if3.true
 
 nothing-requires-3 : tie.Need-nothing-requires-3 invariant-loop decreases-loop
@@ -140,7 +140,7 @@ returns-3 : tie.Need-returns-3 invariant-loop decreases-loop
 returns-3 c =
     let l = c.before.before.before.before.before.before.loop in
     let a = c.before.before.before.before.before.before.before.before.before.before.args in
-    passes.pass-few a.steps.now a.truths.now l.bits l.from l.row l.d l.n l.i l.k l.invariant
+    passes.pass_few a.steps.now a.truths.now l.bits l.from l.row l.d l.n l.i l.k l.invariant
     c.before.before.before.before.before.loop-test.true c.before.before.before.if1.false c.before.before.if3.false _
     c.before.if4.true
 
@@ -207,7 +207,7 @@ loop-again-2 c =
     let l = c.before.before.before.before.before.before.before.before.before.before.before.before.loop in
     let a = c.before.before.before.before.before.before.before.before.before.before.before.before.before.before.before.before.args in
     let j = c.before.before.before.join in
-    passes.pass-join a.steps.now a.truths.now l.bits l.from l.row l.d l.n l.i l.k l.invariant
+    passes.pass_join a.steps.now a.truths.now l.bits l.from l.row l.d l.n l.i l.k l.invariant
     c.before.before.before.before.before.before.before.before.before.before.before.loop-test.true
     c.before.before.before.before.before.before.before.before.before.if1.false
     c.before.before.before.before.before.before.before.before.if3.false
@@ -228,7 +228,7 @@ returns-4 : tie.Need-returns-4 invariant-loop decreases-loop
 returns-4 c =
     let l = c.before.loop in
     let a = c.before.before.before.before.before.args in
-    passes.pass-end a.steps.now a.truths.now l.bits l.from l.row l.d l.n l.i l.k l.invariant c.loop-test.false
+    passes.pass_end a.steps.now a.truths.now l.bits l.from l.row l.d l.n l.i l.k l.invariant c.loop-test.false
 
 pub decide-spec : {M : Type 1} → statement M
 decide-spec =
