@@ -57,7 +57,7 @@ def is_law_file(path, root):
     parts = os.path.relpath(path, root).split(os.sep)
     if parts[2] == "specs":
         return True
-    return parts[2] == "proofs" and parts[-1] not in ("Proof.antt", "Invariants.antt", "Answers.antt")
+    return parts[2] == "proofs" and (len(parts) == 4 or parts[-1] not in ("Proof.antt", "Invariants.antt", "Answers.antt"))
 
 
 def declared(text):

@@ -37,8 +37,8 @@ use Rattle.back.proofs.Formulas.{all_ready, all_room}
 -- ---- an accepted equation
 
 module _ (bytes : List ℕ) (small : (k : ℕ) → get_or bytes k 0 < 256) (h : length bytes ≤ 2047) (t : Tree) (e : parse bytes ≡ some t) where
-  pub accepted-steps : Accepted bytes (steps_of bytes)
-  accepted-steps =
+  pub accepted_steps : Accepted bytes (steps_of bytes)
+  accepted_steps =
       record {
         formula = formula_of t;
         is = symbols_by_law bytes h ∙ parsed_symbols bytes t e;
@@ -54,34 +54,34 @@ zeros = replicate 2560 0
 
 module _ (bytes steps out : List ℕ) (w : Accepted bytes steps) (h : length bytes ≤ 256) (r : Place) (text : List ℕ)
     (q : (v : Room bytes steps (length steps) 0 2560) → Wrote (text_at 0 v.ready.formula) v.ready.before 2560 zeros r text) where
-  the-text : Piece (text_of w.formula) 2560 zeros r.n text
+  the_text : Piece (text_of w.formula) 2560 zeros r.n text
   unfolding all_room all_ready text_at
-  the-text = (q (all_room bytes steps w h)).piece
+  the_text = (q (all_room bytes steps w h)).piece
 
-  pub start-within : r.n ≤ 2560
-  start-within = omega (arith, the-text.place)
+  pub start_within : r.n ≤ 2560
+  start_within = omega (arith, the_text.place)
 
   size_is : 2560 - r.n ≡ length (text_of w.formula)
-  size_is = omega (arith, the-text.place)
+  size_is = omega (arith, the_text.place)
 
   slice_is : take (2560 - r.n) (drop r.n text) ≡ text_of w.formula
   slice_is =
       let l : length zeros ≡ 2560 = length-replicate {A = ℕ} 2560 0 in
-      let s = sets-eq (text_of w.formula) zeros r.n (omega (arith, the-text.place)) in
-      let k : length (take r.n zeros) ≡ r.n = length-take-le r.n zeros (omega (arith, start-within)) in
+      let s = sets-eq (text_of w.formula) zeros r.n (omega (arith, the_text.place)) in
+      let k : length (take r.n zeros) ≡ r.n = length-take-le r.n zeros (omega (arith, start_within)) in
       let d : drop r.n text ≡ text_of w.formula ++ drop (r.n + length (text_of w.formula)) zeros =
-      ap (drop r.n) (the-text.bytes ∙ s ∙ append_assoc (take r.n zeros) (text_of w.formula) (drop (r.n + length (text_of w.formula)) zeros))
+      ap (drop r.n) (the_text.bytes ∙ s ∙ append_assoc (take r.n zeros) (text_of w.formula) (drop (r.n + length (text_of w.formula)) zeros))
       ∙ drop_at (take r.n zeros) (text_of w.formula ++ drop (r.n + length (text_of w.formula)) zeros) r.n k in
       ap (take (2560 - r.n)) d ∙ take_at (text_of w.formula) (drop (r.n + length (text_of w.formula)) zeros) (2560 - r.n) (sym size_is)
 
-  pub deliver-short : length out < 2560 - r.n → answers (answer.Refused 33) out ≡ delivered (text_of w.formula) out
+  pub deliver_short : length out < 2560 - r.n → answers (answer.Refused 33) out ≡ delivered (text_of w.formula) out
   unfolding delivered
-  deliver-short l = rw (lt-leb (length (text_of w.formula)) (length out) (omega (arith, size_is)))
+  deliver_short l = rw (lt-leb (length (text_of w.formula)) (length out) (omega (arith, size_is)))
 
-  pub deliver-text : 2560 - r.n ≤ length out → (now : List ℕ) → now ≡ stored_at out 0 (take (2560 - r.n) (drop r.n text))
+  pub deliver_text : 2560 - r.n ≤ length out → (now : List ℕ) → now ≡ stored_at out 0 (take (2560 - r.n) (drop r.n text))
       → answers (answer.Text (2560 - r.n)) now ≡ delivered (text_of w.formula) out
   unfolding delivered
-  deliver-text l now e =
+  deliver_text l now e =
       let z : 0 + length (text_of w.formula) ≡ length (text_of w.formula) = omega arith in
       let f : 0 + length (text_of w.formula) ≤ length out = omega (arith, size_is) in
       let o : now ≡ text_of w.formula ++ drop (length (text_of w.formula)) out =
@@ -92,26 +92,26 @@ module _ (bytes steps out : List ℕ) (w : Accepted bytes steps) (h : length byt
 -- ---- the answer of an accepted equation
 
 module _ (f : Formula) (n m : ℕ) (out : List ℕ) where
-  pub answer-mark : m < n → answers answer.Mark out ≡ written f n m out
+  pub answer_mark : m < n → answers answer.Mark out ≡ written f n m out
   unfolding written
-  answer-mark h = rw (lt-ltb m n h)
+  answer_mark h = rw (lt-ltb m n h)
 
-  pub answer-deeper : n ≤ m → 16 < nesting f → answers answer.Deeper out ≡ written f n m out
+  pub answer_deeper : n ≤ m → 16 < nesting f → answers answer.Deeper out ≡ written f n m out
   unfolding written
-  answer-deeper h i = rw (le-ltb m n h, lt-ltb 16 (nesting f) i)
+  answer_deeper h i = rw (le-ltb m n h, lt-ltb 16 (nesting f) i)
 
   pub answer_bytes : n ≤ m → nesting f ≤ 16 → 256 < n → answers answer.Bytes out ≡ written f n m out
   unfolding written
   answer_bytes h i j = rw (le-ltb m n h, le-ltb 16 (nesting f) i, lt-ltb 256 n j)
 
-  pub answer-text : n ≤ m → nesting f ≤ 16 → n ≤ 256 → delivered (text_of f) out ≡ written f n m out
+  pub answer_text : n ≤ m → nesting f ≤ 16 → n ≤ 256 → delivered (text_of f) out ≡ written f n m out
   unfolding written
-  answer-text h i j = rw (le-ltb m n h, le-ltb 16 (nesting f) i, le-ltb 256 n j)
+  answer_text h i j = rw (le-ltb m n h, le-ltb 16 (nesting f) i, le-ltb 256 n j)
 
-pub whole-nesting : (bytes steps : List ℕ) (w : Accepted bytes steps) (r : Nesting)
+pub whole_nesting : (bytes steps : List ℕ) (w : Accepted bytes steps) (r : Nesting)
     → ((bytes : List ℕ) (v : Ready bytes steps (length steps)) → Measured (nesting_at 0 v.formula) v.before r) → r.deep ≡ nesting w.formula
 unfolding all_ready nesting_at
-whole-nesting bytes steps w r q = (q bytes (all_ready bytes steps w)).deep
+whole_nesting bytes steps w r q = (q bytes (all_ready bytes steps w)).deep
 
 -- ---- the public function
 
@@ -120,23 +120,23 @@ module _ (bytes steps : List ℕ) (p : Parsed) (small : (k : ℕ) → get_or byt
     abbrev part : List ℕ
     part = take (p.count - 0) (drop 0 steps)
 
-    pub count-within : p.count ≤ length steps
-    count-within = (taken bytes (replicate 2047 0) steps p e z).fits
+    pub count_within : p.count ≤ length steps
+    count_within = (taken bytes (replicate 2047 0) steps p e z).fits
 
-    pub part-accepted : Accepted bytes part
-    part-accepted =
+    pub part_accepted : Accepted bytes part
+    part_accepted =
         let t = taken bytes (replicate 2047 0) steps p e z in
         let a = accepted bytes t.valid in
-        subst (Accepted bytes) (sym t.listed) (accepted-steps bytes small t.short a.tree a.parsed)
+        subst (Accepted bytes) (sym t.listed) (accepted_steps bytes small t.short a.tree a.parsed)
 
-    pub whole-answer : (r : Answer) (out now : List ℕ)
+    pub whole_answer : (r : Answer) (out now : List ℕ)
         → ((w : Accepted bytes part) → answers r now ≡ written w.formula (length bytes) (length (unmarked bytes)) out)
         → answers r now ≡ written_of bytes out
-    unfolding written_of written_by accepted-steps
-    whole-answer r out now q =
+    unfolding written_of written_by accepted_steps
+    whole_answer r out now q =
         let t = taken bytes (replicate 2047 0) steps p e z in
         let a = accepted bytes t.valid in
-        let s = accepted-steps bytes small t.short a.tree a.parsed in
+        let s = accepted_steps bytes small t.short a.tree a.parsed in
         let f : ((w : Accepted bytes (steps_of bytes)) → answers r now ≡ written w.formula (length bytes) (length (unmarked bytes)) out) =
         subst (λ (l : List ℕ). (w : Accepted bytes l) → answers r now ≡ written w.formula (length bytes) (length (unmarked bytes)) out) t.listed q in
         rw (le-ltb 2047 (length bytes) t.short, a.parsed) (f s)

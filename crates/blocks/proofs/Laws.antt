@@ -13,7 +13,7 @@ use Rattle.blocks.specs.Owners.{blocks, reserved_owner, released_owner, released
 use Rattle.blocks.specs.Contents.{held, stored}
 use Rattle.blocks.specs.Check.{Agrees}
 use Rattle.blocks.specs.Answers.{make_number, make_owner, make_map, reserve_number, reserve_map, reserve_owner, release_number, release_map, release_owner, window_number, write_disk, read_out}
-use Rattle.blocks.proofs.Answers.{done, refused, make-done, reserve-done, window-done, StoreFits, DiskFits, fits-store, fits-disk}
+use Rattle.blocks.proofs.Answers.{done, refused, make_done, reserve_done, window_done, StoreFits, DiskFits, fits_store, fits_disk}
 use Rattle.blocks.proofs.Agreement.{made_agrees}
 use Rattle.blocks.proofs.Held.{length_held, length_stored, held_stored, held_unstored, past_stored}
 use Rattle.blocks.proofs.Reserving.{Reserves, Releases, reserve_laws, release_laws}
@@ -25,19 +25,19 @@ pub sound_fits : (map owner : List ℕ) (files place : ℕ) → Agrees map owner
     → StoreFits (length map) (length owner) place
 sound_fits map owner files place a h k l =
     let w = a.words in
-    record { some = h; words-most = omega arith; bits = omega arith; place_most = l }
+    record { some = h; words_most = omega arith; bits = omega arith; place_most = l }
 
 -- so a reservation is refused only by 13, where fewer than n blocks are free, and a release never
 pub reserve_answer : (map : List ℕ) (size place n : ℕ) → StoreFits (length map) size place → reserve_number map size place n ≡ cond (leb n (free_count map)) 0 13
-reserve_answer map size place n f = rw (fits-store (length map) size place f)
+reserve_answer map size place n f = rw (fits_store (length map) size place f)
 
 pub release_answer : (words n place : ℕ) → StoreFits words n place → release_number words n place ≡ 0
-release_answer words n place f = rw (fits-store words n place f)
+release_answer words n place f = rw (fits_store words n place f)
 
 -- and a window is refused only by 35, where it does not lie in the place's blocks
 pub window_answer : (size : ℕ) (owner : List ℕ) (place at n : ℕ) → DiskFits size (length owner) place
     → window_number size owner place at n ≡ cond (leb (at + n) (256 * blocks (place + 1) owner)) 0 35
-window_answer size owner place at n f = rw (fits-disk size (length owner) place f)
+window_answer size owner place at n f = rw (fits_disk size (length owner) place f)
 
 -- the number free, of a map within the table
 pub free_whole : (map : List ℕ) → length map ≤ 64 → free_count (take 64 map) ≡ free_count map
@@ -51,7 +51,7 @@ unfolding make_map make_owner
 make_leaves map owner files z =
     let n = make_number (length map) (length owner) in
     let o = done n (replicate (length owner) 0) owner z in
-    let m = done n (map_of (length map) (replicate (length owner) 0)) map z ∙ ap (λ (k : ℕ). map_of k (replicate (length owner) 0)) (make-done (length map) (length owner) z).exact in
+    let m = done n (map_of (length map) (replicate (length owner) 0)) map z ∙ ap (λ (k : ℕ). map_of k (replicate (length owner) 0)) (make_done (length map) (length owner) z).exact in
     (rw (o, m) (made_agrees (length owner) files), o)
 
 pub make_refused : (map owner : List ℕ) → (make_number (length map) (length owner) ≡ 0 → ⊥) → (make_map map owner ≡ map) × (make_owner map owner ≡ owner)
@@ -67,7 +67,7 @@ pub reserve_leaves : (map owner : List ℕ) (files place n : ℕ) → Agrees map
 unfolding reserve_map reserve_owner
 reserve_leaves map owner files place n a l z =
     let k = reserve_number map (length owner) place n in
-    let r = reserve_laws map owner files place n a l (reserve-done map (length owner) place n z).room in
+    let r = reserve_laws map owner files place n a l (reserve_done map (length owner) place n z).room in
     rw (done k (reserved_map n map) map z, done k (reserved_owner (place + 1) n map owner) owner z) (rw add-one r)
 
 pub reserve_refused : (map owner : List ℕ) (place n : ℕ) → (reserve_number map (length owner) place n ≡ 0 → ⊥)
@@ -107,7 +107,7 @@ pub write_leaves : (disk owner : List ℕ) (place at : ℕ) (xs : List ℕ) → 
     → Writes disk owner (write_disk disk owner place at xs) (place + 1) at xs
 unfolding write_disk
 write_leaves disk owner place at xs z =
-    let w = window-done (length disk) owner place at (length xs) z in
+    let w = window_done (length disk) owner place at (length xs) z in
     rw (done (window_number (length disk) owner place at (length xs)) (stored (place + 1) owner disk at xs) disk z) (record {
       size = length_stored (place + 1) owner disk at xs;
       own = held_stored (place + 1) owner disk at xs w.sizes.bytes w.room;
@@ -126,7 +126,7 @@ pub read_gives : (disk owner : List ℕ) (place at : ℕ) (out : List ℕ) → w
     → (read_out disk owner place at out ≡ take (length out) (drop at (held (place + 1) owner disk))) × (length (read_out disk owner place at out) ≡ length out)
 unfolding read_out
 read_gives disk owner place at out z =
-    let w = window-done (length disk) owner place at (length out) z in
+    let w = window_done (length disk) owner place at (length out) z in
     let e = done (window_number (length disk) owner place at (length out)) (take (length out) (drop at (held (place + 1) owner disk))) out z in
     let h = length_held (place + 1) owner disk w.sizes.bytes in
     let r = w.room in

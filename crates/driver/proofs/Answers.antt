@@ -29,25 +29,25 @@ use Rattle.driver.specs.Driver.{call_by}
 
 -- ---- the driver's own mistake: counts too short
 
-ready-is : (fit : Bool) (w : List ℕ) (counts : ℕ) → 54 ≤ length w → is_state w ≡ true
+ready_is : (fit : Bool) (w : List ℕ) (counts : ℕ) → 54 ≤ length w → is_state w ≡ true
     → ready_of fit w counts ≡ cond (ltb counts 2) (Refuse 33) (cond fit Go (Refuse 33))
 unfolding ready_of
-ready-is fit w counts h e = rw (le-ltb (length w) 54 h, e)
+ready_is fit w counts h e = rw (le-ltb (length w) 54 h, e)
 
 module _ (w : List ℕ) (l : Lent) (room : 54 ≤ length w) (words_are : is_state w ≡ true) where
-  pub call-short : (c : Call) (counts : List ℕ) → length counts < 2 → call_by w l c counts ≡ received (told 33 w counts) l (out_in c)
+  pub call_short : (c : Call) (counts : List ℕ) → length counts < 2 → call_by w l c counts ≡ received (told 33 w counts) l (out_in c)
   unfolding call_by open_by on_open receive_by on_receive request_by on_request lose_by on_lose
-  call-short (login session clock out) counts h = rw (ready-is (fits_at w l) w (length counts) room words_are, lt-ltb (length counts) 2 h)
-  call-short (receive session clock input out) counts h = rw (ready-is (fits_at w l) w (length counts) room words_are, lt-ltb (length counts) 2 h)
-  call-short (request session out) counts h = rw (ready-is (fits_at w l) w (length counts) room words_are, lt-ltb (length counts) 2 h)
-  call-short (lose session) counts h = rw (ready-is (fits_at w l) w (length counts) room words_are, lt-ltb (length counts) 2 h)
+  call_short (login session clock out) counts h = rw (ready_is (fits_at w l) w (length counts) room words_are, lt-ltb (length counts) 2 h)
+  call_short (receive session clock input out) counts h = rw (ready_is (fits_at w l) w (length counts) room words_are, lt-ltb (length counts) 2 h)
+  call_short (request session out) counts h = rw (ready_is (fits_at w l) w (length counts) room words_are, lt-ltb (length counts) 2 h)
+  call_short (lose session) counts h = rw (ready_is (fits_at w l) w (length counts) room words_are, lt-ltb (length counts) 2 h)
 
   pub call_own : fits_at w l ≡ true → (c : Call) (counts : List ℕ) → 2 ≤ length counts → call_by w l c counts ≡ received_by w counts (call_of (server_at w) l c)
   unfolding call_by open_by on_open receive_by on_receive request_by on_request lose_by on_lose
-  call_own fit (login session clock out) counts h = rw (ready-is (fits_at w l) w (length counts) room words_are, le-ltb (length counts) 2 h, fit)
-  call_own fit (receive session clock input out) counts h = rw (ready-is (fits_at w l) w (length counts) room words_are, le-ltb (length counts) 2 h, fit)
-  call_own fit (request session out) counts h = rw (ready-is (fits_at w l) w (length counts) room words_are, le-ltb (length counts) 2 h, fit)
-  call_own fit (lose session) counts h = rw (ready-is (fits_at w l) w (length counts) room words_are, le-ltb (length counts) 2 h, fit)
+  call_own fit (login session clock out) counts h = rw (ready_is (fits_at w l) w (length counts) room words_are, le-ltb (length counts) 2 h, fit)
+  call_own fit (receive session clock input out) counts h = rw (ready_is (fits_at w l) w (length counts) room words_are, le-ltb (length counts) 2 h, fit)
+  call_own fit (request session out) counts h = rw (ready_is (fits_at w l) w (length counts) room words_are, le-ltb (length counts) 2 h, fit)
+  call_own fit (lose session) counts h = rw (ready_is (fits_at w l) w (length counts) room words_are, le-ltb (length counts) 2 h, fit)
 
   pub free_own : (counts : List ℕ) → 2 ≤ length counts → Good (server_at w) l
       → free_by w l.map counts ≡ filled 0 (with_counts (free_count (map_part (server_at w) l)) (server_at w).blocks counts)
@@ -57,7 +57,7 @@ module _ (w : List ℕ) (l : Lent) (room : 54 ≤ length w) (words_are : is_stat
       let sizes = (both_true (sizes_fit sv.blocks sv.files sv.sessions sv.most) _ g.fits).0 in
       let maps = (good_facts sv l g).room.map in
       rw (
-        ready-is (map_fits sv (length l.map)) w (length counts) room words_are,
+        ready_is (map_fits sv (length l.map)) w (length counts) room words_are,
         le-ltb (length counts) 2 h,
         sizes,
         le-leb (words sv.blocks) (length l.map) maps,
@@ -71,36 +71,36 @@ by_end answer_of serverOf same r sv f (through p) e = absurd (let z : ◌≡◌ 
 by_end answer_of serverOf same r sv f (refused n h p) e = ap serverOf p ∙ f n
 
 module _ (sv : Server) (l : Lent) where
-  refused-same : (c : Call) → is_refused (call_of sv l c).done.answer ≡ true → (call_of sv l c).done.server ≡ sv
-  refused-same (login session clock out) =
+  refused_same : (c : Call) → is_refused (call_of sv l c).done.answer ≡ true → (call_of sv l c).done.server ≡ sv
+  refused_same (login session clock out) =
       by_end (λ (o : Opened). o.done.answer) (λ (o : Opened). o.done.server) _ _ sv (λ n. refl) (login_ended sv l session out clock)
-  refused-same (receive session clock input out) =
+  refused_same (receive session clock input out) =
       by_end (λ (o : Outcome). o.done.answer) (λ (o : Outcome). o.done.server) _ _ sv (λ n. refl) (receive_ended sv l session out clock input)
-  refused-same (request session out) =
+  refused_same (request session out) =
       by_end (λ (o : Opened). o.done.answer) (λ (o : Opened). o.done.server) _ _ sv (λ n. refl) (request_ended sv l session out)
-  refused-same (lose session) =
+  refused_same (lose session) =
       by_end (λ (o : Lost). o.done.answer) (λ (o : Lost). o.done.server) _ _ sv (λ n. refl) (lose_ended sv l session)
 
 -- so the words afterwards are those of the server afterwards, on a refusal too
-tell-words : (a : Answer) (sv : Server) (w counts : List ℕ) → is_state w ≡ true → (is_refused a ≡ true → sv ≡ server_at w)
+tell_words : (a : Answer) (sv : Server) (w counts : List ℕ) → is_state w ≡ true → (is_refused a ≡ true → sv ≡ server_at w)
     → (tell_of a sv w counts).state ≡ encode_of sv w
 unfolding tell_of
-tell-words (answer.Quiet taken) sv w counts e f = refl
-tell-words (answer.Sent taken size) sv w counts e f = refl
-tell-words (answer.Closed taken) sv w counts e f = refl
-tell-words (answer.Refused n) sv w counts e f = sym (ap (λ (x : Server). encode_of x w) (f refl) ∙ written_back w e)
+tell_words (answer.Quiet taken) sv w counts e f = refl
+tell_words (answer.Sent taken size) sv w counts e f = refl
+tell_words (answer.Closed taken) sv w counts e f = refl
+tell_words (answer.Refused n) sv w counts e f = sym (ap (λ (x : Server). encode_of x w) (f refl) ∙ written_back w e)
 
-pub call-words : (w counts : List ℕ) (l : Lent) (c : Call) → is_state w ≡ true
+pub call_words : (w counts : List ℕ) (l : Lent) (c : Call) → is_state w ≡ true
     → (received_by w counts (call_of (server_at w) l c)).told.state ≡ encode_of (call_of (server_at w) l c).done.server w
-call-words w counts l c e =
-    tell-words (call_of (server_at w) l c).done.answer (call_of (server_at w) l c).done.server w counts e (refused-same (server_at w) l c)
+call_words w counts l c e =
+    tell_words (call_of (server_at w) l c).done.answer (call_of (server_at w) l c).done.server w counts e (refused_same (server_at w) l c)
 
 -- ---- the numbers
 
 -- the number of an answer is n, above 2, only where the call was refused by n
-pub code-refused : (a : Answer) (sv : Server) (w counts : List ℕ) (n : ℕ) → 2 < n → (tell_of a sv w counts).code ≡ n → a ≡ answer.Refused n
+pub code_refused : (a : Answer) (sv : Server) (w counts : List ℕ) (n : ℕ) → 2 < n → (tell_of a sv w counts).code ≡ n → a ≡ answer.Refused n
 unfolding tell_of
-code-refused (answer.Quiet taken) sv w counts n h e = absurd (omega arith)
-code-refused (answer.Sent taken size) sv w counts n h e = absurd (omega arith)
-code-refused (answer.Closed taken) sv w counts n h e = absurd (omega arith)
-code-refused (answer.Refused k) sv w counts n h e = ap (λ (x : ℕ). answer.Refused x) e
+code_refused (answer.Quiet taken) sv w counts n h e = absurd (omega arith)
+code_refused (answer.Sent taken size) sv w counts n h e = absurd (omega arith)
+code_refused (answer.Closed taken) sv w counts n h e = absurd (omega arith)
+code_refused (answer.Refused k) sv w counts n h e = ap (λ (x : ℕ). answer.Refused x) e

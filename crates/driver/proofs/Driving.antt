@@ -34,7 +34,7 @@ use Rattle.driver.specs.Driver as driver
 use Rattle.driver.specs.Driver.{Memory, memory, made, Asked, answered, Calls, nothing, ◌▹◌, reached, Clocked, Clocks, further, calls_of, StandsFor, EveryDriver, EveryMake, Plays, DriverPlays}
 use Rattle.driver.proofs.Given.{Kept, call_kept}
 use Rattle.driver.proofs.Fits.{good_fits}
-use Rattle.driver.proofs.Answers.{call-short, call_own, free_own, call-words, code-refused}
+use Rattle.driver.proofs.Answers.{call_short, call_own, free_own, call_words, code_refused}
 
 -- ---- memory that holds a state
 
@@ -72,7 +72,7 @@ module _ (w : List ℕ) (l : Lent) (a : Asked) (h : Holds (memory w l) (state (s
       let o = call_of (server_at w) l a.call in
       let e : memory (answered (memory w l) a).told.state (answered (memory w l) a).lent ≡ memory (encode_of o.done.server w) o.lent =
       ap (λ (r : Received). memory r.told.state r.lent) (call_own w l h.room h.words h.good.fits a.call a.counts two)
-      ∙ ap (λ (x : List ℕ). memory x o.lent) (call-words w a.counts l a.call h.words) in
+      ∙ ap (λ (x : List ℕ). memory x o.lent) (call_words w a.counts l a.call h.words) in
       subst (λ (x : Memory). Holds x (next (state (server_at w) l) a.call)) (sym e)
       (encoded_holds o.done.server o.lent w (good_kept (server_at w) l h.good a.call) (call_kept (server_at w) l h.good h.kept a.call c))
 
@@ -81,7 +81,7 @@ module _ (w : List ℕ) (l : Lent) (a : Asked) (h : Holds (memory w l) (state (s
       → Holds (memory (answered (memory w l) a).told.state (answered (memory w l) a).lent) (state (server_at w) l)
   short_holds short =
       let e : memory (answered (memory w l) a).told.state (answered (memory w l) a).lent ≡ memory w l =
-      ap (λ (r : Received). memory r.told.state r.lent) (call-short w l h.room h.words a.call a.counts short) in
+      ap (λ (r : Received). memory r.told.state r.lent) (call_short w l h.room h.words a.call a.counts short) in
       subst (λ (x : Memory). Holds x (state (server_at w) l)) (sym e) h
 
 -- memory that holds a state holds the one that its words are read as
@@ -174,9 +174,9 @@ module _ (m : Memory) (t : State) (h : Holds m t) where
           → ((length a.counts < 2) × (n ≡ 33)) ⊎ ((call_of t.server t.lent a.call).done.answer ≡ answer.Refused n)
       go true p =
           let short = ltb-true (length a.counts) 2 p in
-          inl (short, sym e ∙ ap (λ (r : Received). r.told.code) (call-short m.words m.lent h.room h.words a.call a.counts short))
+          inl (short, sym e ∙ ap (λ (r : Received). r.told.code) (call_short m.words m.lent h.room h.words a.call a.counts short))
       go false p =
-          inr (code-refused _ _ m.words a.counts n above
+          inr (code_refused _ _ m.words a.counts n above
           (sym (ap (λ (r : Received). r.told.code) (own a (ltb-false (length a.counts) 2 p))) ∙ e))
 
   unsound_never : (a : Asked) → (answered m a).told.code ≡ 35 → ⊥
@@ -201,7 +201,7 @@ module _ (m : Memory) (t : State) (h : Holds m t) where
         room = h.room;
         is = h.is;
         own = own;
-        short = λ a short. call-short m.words m.lent h.room h.words a.call a.counts short;
+        short = λ a short. call_short m.words m.lent h.room h.words a.call a.counts short;
         never_35 = unsound_never;
         only_counts = counts_alone;
         free = λ counts two.

@@ -7,7 +7,7 @@ use Prim.Native.Nat.{ℕ, ◌+◌, ◌≤◌}
 use native.Mathlib.Omega.{arith}
 use lib.ListN.{length, drop, length-append, length-take, length-drop}
 use Rattle.blocks.specs.Contents.{held}
-use Rattle.blocks.proofs.Answers.{disk-fits}
+use Rattle.blocks.proofs.Answers.{disk_fits_law}
 use Rattle.blocks.proofs.Owners.{blocks_le}
 use Rattle.blocks.proofs.Held.{length_held}
 use Rattle.header.specs.Entries.{entry_of}
@@ -29,7 +29,7 @@ module _ (long : Bool) (disk owner : List ℕ) (place received : ℕ) where
 
       go : (t : Bool) → sizes_fit disk owner place ≡ t → Short
       go true f =
-          let s = disk-fits (length disk) (length owner) place f in
+          let s = disk_fits_law (length disk) (length owner) place f in
           let m = s.most in
           let w = entry_within long (file_at disk owner place received) in
           let t = length-take received (held (place + 1) owner disk) in

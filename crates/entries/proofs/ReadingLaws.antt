@@ -13,7 +13,7 @@ use Rattle.numbers.proofs.NumberLaws.{stored_at_law}
 use Rattle.blocks.specs.Owners.{blocks}
 use Rattle.blocks.specs.Contents.{held}
 use Rattle.blocks.specs.Answers.{window_number, read_out}
-use Rattle.blocks.proofs.Answers.{disk-fits, done}
+use Rattle.blocks.proofs.Answers.{disk_fits_law, done}
 use Rattle.blocks.proofs.Held.{length_held}
 use Rattle.blocks.proofs.Laws.{read_gives, read_refused as read_kept}
 use Rattle.header.specs.Header.{header_length, check_items, place_of, header_of, refused_with}
@@ -81,7 +81,7 @@ module _ (disk owner : List ℕ) (place received : ℕ) (f : sizes_fit disk owne
       → read_out disk owner place at xs ≡ take (length xs) (drop at (file_at disk owner place received))
   unfolding read_out
   read_window at xs h =
-      let g = disk-fits (length disk) (length owner) place f in
+      let g = disk_fits_law (length disk) (length owner) place f in
       let l = length_held (place + 1) owner disk g.bytes in
       let k : at + length xs ≤ 256 * blocks (place + 1) owner = omega (arith, length-take received (held (place + 1) owner disk)) in
       let z : window_number (length disk) owner place at (length xs) ≡ 0 = rw (f, le-leb (at + length xs) (256 * blocks (place + 1) owner) k) in

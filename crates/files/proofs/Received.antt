@@ -116,7 +116,7 @@ module _ (map disk owner table : List ℕ) (last latest : ℕ) (s : Sound map ow
       let h = room_is f (length xs) (after_second (place_number p f) _ g) in
       let k = window_number (length disk) owner p f.received (length xs) in
       let z : k ≡ 0 = after_second a _ e in
-      let w = answers.window-done (length disk) owner p f.received (length xs) z in
+      let w = answers.window_done (length disk) owner p f.received (length xs) z in
       let l = place_below table p n in
       let r = write_leaves disk owner p f.received xs z in
       let d = write_disk disk owner p f.received xs in

@@ -293,12 +293,12 @@ module _ (eq : List ℕ) (number : ℕ) (disk owner table : List ℕ) (most : �
           let l : leb most older ≡ false = rw e at b in
           subst (λ (n : ℕ). In n (numbers_at table (chosen most eq disk owner table))) number_is
           (number_back table (chosen most eq disk owner table) a.place
-          (chosen_back eq disk owner table (store_of disk owner (length eq) (length table) most a.fit) a.fit.most-places short dt a.place most
+          (chosen_back eq disk owner table (store_of disk owner (length eq) (length table) most a.fit) a.fit.most_places short dt a.place most
           (let k = a.complete in omega arith) (matches ∙ e) (leb-false most older l)))
 
       there : In number (numbers_at table (chosen most eq disk owner table)) → (m ≡ true) × (cond m (leb most older) false ≡ false)
       there i =
-          let c = chosen_in eq disk owner table (store_of disk owner (length eq) (length table) most a.fit) a.fit.most-places short dt a.place most
+          let c = chosen_in eq disk owner table (store_of disk owner (length eq) (length table) most a.fit) a.fit.most_places short dt a.place most
           (number_in table (chosen most eq disk owner table) number a.place dn a.found i) in
           let e : m ≡ true = sym matches ∙ c.0 in
           (e, rw e (lt-leb most older c.1))

@@ -10,7 +10,7 @@ use lib.ListN.{length, drop, replicate}
 use borrow.Author.Tests.{eqb-true, eq-eqb, leb-true, le-leb}
 use Rattle.blocks.specs.Owners.{blocks}
 use Rattle.blocks.specs.Contents.{held, stored}
-use Rattle.blocks.proofs.Answers.{disk-fits}
+use Rattle.blocks.proofs.Answers.{disk_fits_law}
 use Rattle.header.specs.Items.{fields_of}
 use Rattle.header.specs.Header.{verdict, check_items}
 use Rattle.header.specs.Fields.{fields_set}
@@ -62,7 +62,7 @@ module _ (disk owner : List ℕ) (place received number time : ℕ) where
       → Changed disk owner (set_disk disk owner place received number time) (place + 1) received (fields_set number time (file_at disk owner place received))
   done_changed e =
       let s = sets_of disk owner place received e in
-      let b = (disk-fits (length disk) (length owner) place s.sizes).bytes in
+      let b = (disk_fits_law (length disk) (length owner) place s.sizes).bytes in
       rw (done_disk e)
       (stored_changed disk owner (place + 1) received (fields_set number time (file_at disk owner place received)) b
       (set_length number time (file_at disk owner place received) ∙ file_length disk owner place received s.sizes b s.room disk refl) s.room)

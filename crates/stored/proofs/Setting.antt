@@ -10,7 +10,7 @@ use Rattle.numbers.specs.Numbers.{two, stored_at}
 use Rattle.blocks.specs.Owners.{blocks}
 use Rattle.blocks.specs.Contents.{stored}
 use Rattle.blocks.specs.Answers.{write_disk}
-use Rattle.blocks.proofs.Answers.{disk-fits}
+use Rattle.blocks.proofs.Answers.{disk_fits_law}
 use Rattle.header.specs.Header.{check_items, header_of}
 use Rattle.header.specs.Items.{Field}
 use Rattle.header.specs.Fields.{server_set, with_fields, fields_set, row_at}
@@ -28,7 +28,7 @@ use Rattle.stored.proofs.Disks.{Changed, changed_one, changed_none, changed_writ
 
 module _ (disk owner : List ℕ) (place received at : ℕ) (s : Settable disk owner place received at) (b : Bytes disk) where
   bytes : 256 * length owner ≤ length disk
-  bytes = (disk-fits (length disk) (length owner) place s.sizes).bytes
+  bytes = (disk_fits_law (length disk) (length owner) place s.sizes).bytes
 
   size : length (file_at disk owner place received) ≡ received
   size = file_length disk owner place received s.sizes bytes s.room disk refl

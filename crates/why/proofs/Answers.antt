@@ -22,12 +22,12 @@ use Rattle.why.specs.Answer.{whys, refused_by, sizes_fit, items_at, time_at, old
 pub record Fit (bytes disk blocks words most : ℕ) : Type 0 where
   pub short : bytes ≤ 2047
   pub some_blocks : 1 ≤ blocks
-  pub most-blocks : blocks ≤ 4096
+  pub most_blocks : blocks ≤ 4096
   pub whole : 256 * blocks ≤ disk
-  pub some-places : 1 ≤ words / 4
-  pub most-places : words / 4 ≤ 256
-  pub some-listed : 1 ≤ most
-  pub most-listed : most ≤ 50
+  pub some_places : 1 ≤ words / 4
+  pub most_places : words / 4 ≤ 256
+  pub some_listed : 1 ≤ most
+  pub most_listed : most ≤ 50
 
 both_true : (a b : Bool) → a && b ≡ true → (a ≡ true) × (b ≡ true)
 both_true true b e = (refl, e)
@@ -46,16 +46,16 @@ fit_of bytes disk blocks words most e =
     record {
       short = leb-true bytes 2047 e1.0;
       some_blocks = leb-true 1 blocks e2.0;
-      most-blocks = leb-true blocks 4096 e3.0;
+      most_blocks = leb-true blocks 4096 e3.0;
       whole = leb-true (256 * blocks) disk e4.0;
-      some-places = leb-true 1 (words / 4) e5.0;
-      most-places = leb-true (words / 4) 256 e6.0;
-      some-listed = leb-true 1 most e7.0;
-      most-listed = leb-true most 50 e7.1;
+      some_places = leb-true 1 (words / 4) e5.0;
+      most_places = leb-true (words / 4) 256 e6.0;
+      some_listed = leb-true 1 most e7.0;
+      most_listed = leb-true most 50 e7.1;
     }
 
 pub store_of : (disk owner : List ℕ) (bytes words most : ℕ) → Fit bytes (length disk) (length owner) words most → Store disk owner
-store_of disk owner bytes words most f = record { some = f.some_blocks; most = f.most-blocks; bytes = f.whole }
+store_of disk owner bytes words most f = record { some = f.some_blocks; most = f.most_blocks; bytes = f.whole }
 
 -- ---- on a file
 
@@ -64,16 +64,16 @@ module _ (eq : List ℕ) (t : Tree) (disk owner table : List ℕ) (most : ℕ) (
   rs = reasons_on (items_at disk owner table place) t
 
   -- the older files count only where the file matched
-  told-where : (m : Bool) (older o n : ℕ) → o ≡ cond m older 0 → told m o most n ≡ told m older most n
+  told_where : (m : Bool) (older o n : ℕ) → o ≡ cond m older 0 → told m o most n ≡ told m older most n
   unfolding told
-  told-where true older o n e = rw e
-  told-where false older o n e = refl
+  told_where true older o n e = rw e
+  told_where false older o n e = refl
 
   pub file_short : (n : ℕ) → n ≡ length rs → length named < n → whys (refused_by 33) named ≡ file_why eq t disk owner table most named place
   unfolding file_why deliver
   file_short n e h = rw (lt-leb (length rs) (length named) (omega arith))
 
-  pub file-told : (m : Bool) (o n : ℕ) (named' : List ℕ) (a : Explained)
+  pub file_told : (m : Bool) (o n : ℕ) (named' : List ℕ) (a : Explained)
       → m ≡ truth_on (items_at disk owner table place) t
       → o ≡ cond m (older_of eq disk owner table (time_at table place)) 0
       → n ≡ length rs
@@ -82,9 +82,9 @@ module _ (eq : List ℕ) (t : Tree) (disk owner table : List ℕ) (most : ℕ) (
       → a ≡ told m o most n
       → whys a named' ≡ file_why eq t disk owner table most named place
   unfolding file_why deliver
-  file-told m o n named' a em eo en h e ea =
+  file_told m o n named' a em eo en h e ea =
       let w : a ≡ told (truth_on (items_at disk owner table place) t) (older_of eq disk owner table (time_at table place)) most (length rs) =
-      ea ∙ told-where m (older_of eq disk owner table (time_at table place)) o n eo
+      ea ∙ told_where m (older_of eq disk owner table (time_at table place)) o n eo
       ∙ ap (λ (b : Bool). told b (older_of eq disk owner table (time_at table place)) most n) em
       ∙ ap (told (truth_on (items_at disk owner table place) t) (older_of eq disk owner table (time_at table place)) most) en in
       let f : named' ≡ rs ++ drop (length rs) named = e ∙ ap (λ (k : ℕ). rs ++ drop k named) en in
@@ -92,26 +92,26 @@ module _ (eq : List ℕ) (t : Tree) (disk owner table : List ℕ) (most : ℕ) (
 
   -- ---- on the file at a place
 
-  pub place-partial : time_at table place ≡ 0 → whys (refused_by 11) named ≡ found_why eq t disk owner table most named (At place)
+  pub place_partial : time_at table place ≡ 0 → whys (refused_by 11) named ≡ found_why eq t disk owner table most named (At place)
   unfolding found_why
-  place-partial e = rw (eq-eqb (time_at table place) 0 e)
+  place_partial e = rw (eq-eqb (time_at table place) 0 e)
 
-  pub place-complete : (time_at table place ≡ 0 → ⊥) → file_why eq t disk owner table most named place ≡ found_why eq t disk owner table most named (At place)
+  pub place_complete : (time_at table place ≡ 0 → ⊥) → file_why eq t disk owner table most named place ≡ found_why eq t disk owner table most named (At place)
   unfolding found_why
-  place-complete h = rw (ne_eqb (time_at table place) 0 h)
+  place_complete h = rw (ne_eqb (time_at table place) 0 h)
 
 -- ---- on the file of a number
 
 module _ (eq : List ℕ) (number : ℕ) (disk owner table : List ℕ) (most : ℕ) (named : List ℕ) where
-  pub number-tree : (t : Tree) (found : Found) → parse eq ≡ some t → found ≡ find_of (files table) number
+  pub number_tree : (t : Tree) (found : Found) → parse eq ≡ some t → found ≡ find_of (files table) number
       → found_why eq t disk owner table most named found ≡ tree_why eq (parse eq) number disk owner table most named
   unfolding tree_why
-  number-tree t found e f = rw (e, f)
+  number_tree t found e f = rw (e, f)
 
   pub number_none : (t : Tree) → parse eq ≡ some t → Nothing ≡ find_of (files table) number
       → whys (refused_by 4) named ≡ tree_why eq (parse eq) number disk owner table most named
   unfolding found_why
-  number_none t e f = number-tree t Nothing e f
+  number_none t e f = number_tree t Nothing e f
 
   -- ---- the whole
 
@@ -122,13 +122,13 @@ module _ (eq : List ℕ) (number : ℕ) (disk owner table : List ℕ) (most : �
   unfolding why_of
   why_fits e = rw e
 
-  pub why-sizes : fits ≡ false → whys (refused_by 33) named ≡ why_of eq number disk owner table most named
+  pub why_sizes : fits ≡ false → whys (refused_by 33) named ≡ why_of eq number disk owner table most named
   unfolding why_of
-  why-sizes e = rw e
+  why_sizes e = rw e
 
-  pub why-refused : fits ≡ true → (n : ℕ) → n ≡ validity_of eq → (n ≡ 0 → ⊥) → whys (refused_by n) named ≡ why_of eq number disk owner table most named
+  pub why_refused : fits ≡ true → (n : ℕ) → n ≡ validity_of eq → (n ≡ 0 → ⊥) → whys (refused_by n) named ≡ why_of eq number disk owner table most named
   unfolding validity_of refusal tree_why
-  why-refused e n v z =
+  why_refused e n v z =
       let f = fit_of (length eq) (length disk) (length owner) (length table) most e in
       go (parse eq) refl (rw (le-ltb 2047 (length eq) f.short) at v) ∙ why_fits e
     where

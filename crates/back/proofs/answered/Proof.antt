@@ -14,7 +14,7 @@ size-unmarked-requires c κs = search rules
 
 returns : tie.Need-returns
 returns c =
-    λ w. replies.answer-mark w.formula (length c.before.before.before.before.before.args.bytes.now)
+    λ w. replies.answer_mark w.formula (length c.before.before.before.before.before.args.bytes.now)
     (length (unmarked c.before.before.before.before.before.args.bytes.now)) c.before.before.before.before.before.args.out.now
     (omega (arith, c.before.size-unmarked.ensures, c.if1.true))
 
@@ -29,13 +29,13 @@ returns-2 : tie.Need-returns-2
 returns-2 c =
     let a = c.before.before.before.before.before.before.before.before.args in
     let the_depth = c.before.before.depth in
-    λ w. replies.answer-deeper w.formula (length a.bytes.now) (length (unmarked a.bytes.now)) a.out.now (omega (
+    λ w. replies.answer_deeper w.formula (length a.bytes.now) (length (unmarked a.bytes.now)) a.out.now (omega (
       arith,
       c.before.before.before.before.size-unmarked.ensures,
       c.before.before.before.if1.false,
     )) (omega (
       arith,
-      replies.whole-nesting a.bytes.now
+      replies.whole_nesting a.bytes.now
           a.steps.now w the_depth.result the_depth.ensures,
       c.if2.true,
     ))
@@ -50,7 +50,7 @@ returns-3 c =
       c.before.before.before.before.if1.false,
     )) (omega (
       arith,
-      replies.whole-nesting a.bytes.now a.steps.now w the_depth.result the_depth.ensures,
+      replies.whole_nesting a.bytes.now a.steps.now w the_depth.result the_depth.ensures,
       c.before.if2.false,
     )) c.if3.true
 
@@ -64,14 +64,14 @@ returns-4 : tie.Need-returns-4
 returns-4 c =
     let a = c.before.before.before.before.before.before.before.before.before.before.before.before.before.args in
     let the_depth = c.before.before.before.before.before.before.before.depth in
-    λ w. c.before.before.deliver.ensures w ∙ replies.answer-text w.formula (length a.bytes.now) (length (unmarked a.bytes.now)) a.out.now
+    λ w. c.before.before.deliver.ensures w ∙ replies.answer_text w.formula (length a.bytes.now) (length (unmarked a.bytes.now)) a.out.now
     (omega (
       arith,
       c.before.before.before.before.before.before.before.before.before.size-unmarked.ensures,
       c.before.before.before.before.before.before.before.before.if1.false,
     )) (omega (
       arith,
-      replies.whole-nesting a.bytes.now
+      replies.whole_nesting a.bytes.now
           a.steps.now w the_depth.result the_depth.ensures,
       c.before.before.before.before.before.if2.false,
     ))

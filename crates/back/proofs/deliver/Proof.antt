@@ -18,7 +18,7 @@ sub-size : tie.Need-overflow-sub-size
 sub-size c =
     omega (
       arith,
-      replies.start-within c.before.before.before.before.before.before.args.bytes.now
+      replies.start_within c.before.before.before.before.before.before.args.bytes.now
           c.before.before.before.before.before.before.args.steps.now c.before.before.before.before.before.before.args.out.now
           c.before.before.before.before.before.before.requires.0 c.before.before.before.before.before.before.requires.1
           c.before.put-formula.result
@@ -27,7 +27,7 @@ sub-size c =
 
 returns : tie.Need-returns
 returns c =
-    λ w. replies.deliver-short c.before.before.before.before.before.before.before.args.bytes.now
+    λ w. replies.deliver_short c.before.before.before.before.before.before.before.args.bytes.now
     c.before.before.before.before.before.before.before.args.steps.now c.before.before.before.before.before.before.before.args.out.now w
     c.before.before.before.before.before.before.before.requires.1 c.before.before.put-formula.result
     c.before.before.put-formula.new.1.1.1.1.0 c.before.before.put-formula.ensures c.if1.true
@@ -36,7 +36,7 @@ sub-store : tie.Need-overflow-sub-store
 sub-store c =
     omega (
       arith,
-      replies.start-within c.before.before.before.before.before.before.before.before.args.bytes.now
+      replies.start_within c.before.before.before.before.before.before.before.before.args.bytes.now
           c.before.before.before.before.before.before.before.before.args.steps.now
           c.before.before.before.before.before.before.before.before.args.out.now
           c.before.before.before.before.before.before.before.before.requires.0
@@ -49,7 +49,7 @@ part-store-start : tie.Need-slice-bounds-store-start
 part-store-start c =
     omega (
       arith,
-      replies.start-within c.before.before.before.before.before.before.before.before.before.args.bytes.now
+      replies.start_within c.before.before.before.before.before.before.before.before.before.args.bytes.now
           c.before.before.before.before.before.before.before.before.before.args.steps.now
           c.before.before.before.before.before.before.before.before.before.args.out.now
           c.before.before.before.before.before.before.before.before.before.requires.0
@@ -71,7 +71,7 @@ returns-2 c =
     let a = c.before.before.before.before.before.before.before.before.before.before.before.before.before.args in
     let the-put-formula = c.before.before.before.before.before.before.before.before.put-formula in
     let the-store = c.before.before.store in
-    λ w. replies.deliver-text a.bytes.now a.steps.now
+    λ w. replies.deliver_text a.bytes.now a.steps.now
     a.out.now w c.before.before.before.before.before.before.before.before.before.before.before.before.before.requires.1
     the-put-formula.result the-put-formula.new.1.1.1.1.0 the-put-formula.ensures
     c.before.before.before.before.before.before.if1.false the-store.new.0 the-store.ensures.1

@@ -18,14 +18,14 @@ part-answered-start c = search rules
 
 part-answered-end : tie.Need-slice-bounds-answered-end
 part-answered-end c =
-    replies.count-within c.before.before.before.before.before.before.before.before.args.bytes.now
+    replies.count_within c.before.before.before.before.before.before.before.before.args.bytes.now
     c.before.before.before.before.parse.new.1.0 c.before.before.before.before.parse.result
     (λ j. (c.before.before.before.before.before.before.before.shared-slice-known.given j).fits) c.before.before.before.before.parse.ensures
     c.before.if1.true
 
 answered-requires : tie.Need-answered-requires
 answered-requires c κs =
-    replies.part-accepted c.before.before.before.before.before.before.before.before.before.before.args.bytes.now
+    replies.part_accepted c.before.before.before.before.before.before.before.before.before.before.args.bytes.now
     c.before.before.before.before.before.before.parse.new.1.0 c.before.before.before.before.before.before.parse.result
     (λ j. (c.before.before.before.before.before.before.before.before.before.shared-slice-known.given j).fits)
     c.before.before.before.before.before.before.parse.ensures c.before.before.before.if1.true
@@ -38,7 +38,7 @@ returns c =
     let a = c.before.before.before.before.before.before.before.before.before.before.before.before.before.args in
     let the-parse = c.before.before.before.before.before.before.before.before.before.parse in
     let the-answered = c.before.before.answered in
-    replies.whole-answer a.bytes.now the-parse.new.1.0 the-parse.result
+    replies.whole_answer a.bytes.now the-parse.new.1.0 the-parse.result
     (λ j. (c.before.before.before.before.before.before.before.before.before.before.before.before.shared-slice-known.given j).fits)
     the-parse.ensures c.before.before.before.before.before.before.if1.true the-answered.result a.out.now the-answered.new.1.1.0
     the-answered.ensures

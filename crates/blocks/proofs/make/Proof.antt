@@ -4,7 +4,7 @@ use native.Mathlib.Omega.{arith}
 use lib.ListN.{length, replicate, length-replicate}
 use Rattle.blocks.specs.Owners.{map_of}
 use Rattle.blocks.specs.Answers.{make_number, make_map, make_owner}
-use Rattle.blocks.proofs.Answers.{make-done, done, refused}
+use Rattle.blocks.proofs.Answers.{make_done, done, refused}
 use borrow.Author.Rules.{rules}
 use Rattle.blocks.proofs.make.Statement.{statement}
 use Rattle.blocks.proofs.make.Tie as tie
@@ -19,7 +19,7 @@ fill-map-requires : tie.Need-fill-map-requires
 fill-map-requires c κs =
     let b = c.before.before.before.before.before.before in
     let a = b.before.before.before.before.args in
-    let d = make-done (length a.map.now) (length a.owner.now) (sym b.before.make-number.ensures ∙ b.if1.true) in
+    let d = make_done (length a.map.now) (length a.owner.now) (sym b.before.make-number.ensures ∙ b.if1.true) in
     let f = ap length c.before.before.before.before.free_all.ensures ∙ length-replicate (length a.owner.now) 0 in
     omega (arith, d.exact, f)
 

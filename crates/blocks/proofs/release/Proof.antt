@@ -3,7 +3,7 @@ use mathlib.Core.Path.{sym, ◌∙◌}
 use native.Mathlib.Omega.{arith}
 use lib.ListN.{length}
 use Rattle.blocks.specs.Answers.{release_map, release_owner}
-use Rattle.blocks.proofs.Answers.{store-fits}
+use Rattle.blocks.proofs.Answers.{store_fits_law}
 use borrow.Author.Rules.{rules}
 use Rattle.blocks.proofs.release.Statement.{statement}
 use Rattle.blocks.proofs.release.Tie as tie
@@ -14,7 +14,7 @@ store-fits-requires c κs = search rules
 add-mark-blocks : tie.Need-overflow-add-mark-blocks
 add-mark-blocks c =
     let a = c.before.before.before.before.before.before.args in
-    omega (arith, (store-fits (length a.map.now) (length a.owner.now) a.place (sym c.before.before.before.store-fits.ensures ∙ c.before.before.if1.true)).place-most)
+    omega (arith, (store_fits_law (length a.map.now) (length a.owner.now) a.place (sym c.before.before.before.store-fits.ensures ∙ c.before.before.if1.true)).place_most)
 
 mark-blocks-requires : tie.Need-mark-blocks-requires
 mark-blocks-requires c κs = search rules
@@ -23,7 +23,7 @@ add-clear-blocks : tie.Need-overflow-add-clear-blocks
 add-clear-blocks c =
     let b = c.before.before.before.before.before.before in
     let a = b.before.before.before.before.args in
-    omega (arith, (store-fits (length a.map.now) (length a.owner.now) a.place (sym b.before.store-fits.ensures ∙ b.if1.true)).place-most)
+    omega (arith, (store_fits_law (length a.map.now) (length a.owner.now) a.place (sym b.before.store-fits.ensures ∙ b.if1.true)).place_most)
 
 clear-blocks-requires : tie.Need-clear-blocks-requires
 clear-blocks-requires c κs = search rules

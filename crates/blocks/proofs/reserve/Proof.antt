@@ -6,7 +6,7 @@ use lib.ListN.{length}
 use Rattle.blocks.specs.FreeMap.{reserved_map}
 use Rattle.blocks.specs.Owners.{reserved_owner}
 use Rattle.blocks.specs.Answers.{reserve_number, reserve_map, reserve_owner}
-use Rattle.blocks.proofs.Answers.{reserve-done, done, refused}
+use Rattle.blocks.proofs.Answers.{reserve_done, done, refused}
 use borrow.Author.Rules.{rules}
 use Rattle.blocks.proofs.reserve.Statement.{statement}
 use Rattle.blocks.proofs.reserve.Tie as tie
@@ -18,15 +18,15 @@ add-take-blocks : tie.Need-overflow-add-take-blocks
 add-take-blocks c =
     let b = c.before.before in
     let a = b.before.before.before.before.before.args in
-    let d = reserve-done a.map.now (length a.owner.now) a.place a.n (sym b.before.reserve-number.ensures ∙ b.if1.true) in
-    omega (arith, d.sizes.place-most)
+    let d = reserve_done a.map.now (length a.owner.now) a.place a.n (sym b.before.reserve-number.ensures ∙ b.if1.true) in
+    omega (arith, d.sizes.place_most)
 
 take-blocks-requires : tie.Need-take-blocks-requires
 take-blocks-requires c κs =
     let b = c.before.before in
     let a = b.before.before.before.before.before.args in
-    let d = reserve-done a.map.now (length a.owner.now) a.place a.n (sym b.before.reserve-number.ensures ∙ b.if1.true) in
-    (d.sizes.words-most, d.room)
+    let d = reserve_done a.map.now (length a.owner.now) a.place a.n (sym b.before.reserve-number.ensures ∙ b.if1.true) in
+    (d.sizes.words_most, d.room)
 
 same_length : tie.Need-same-length
 same_length c = c.before.before.before.map.given

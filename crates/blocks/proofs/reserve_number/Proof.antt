@@ -4,7 +4,7 @@ use native.Mathlib.Omega.{arith}
 use lib.ListN.{length}
 use borrow.Author.Tests.{le-leb, lt-leb}
 use Rattle.blocks.specs.FreeMap.{free_count}
-use Rattle.blocks.proofs.Answers.{store-fits}
+use Rattle.blocks.proofs.Answers.{store_fits_law}
 use borrow.Author.Rules.{rules}
 use Rattle.blocks.proofs.reserve_number.Statement.{statement}
 use Rattle.blocks.proofs.reserve_number.Tie as tie
@@ -15,7 +15,7 @@ store-fits-requires c κs = search rules
 count-bits-requires : tie.Need-count-bits-requires
 count-bits-requires c κs =
     let a = c.before.before.before.args in
-    (store-fits (length a.map.now) a.size a.place (sym c.before.store-fits.ensures ∙ c.if1.true)).words-most
+    (store_fits_law (length a.map.now) a.size a.place (sym c.before.store-fits.ensures ∙ c.if1.true)).words_most
 
 returns : tie.Need-returns
 returns c =

@@ -6,7 +6,7 @@ use lib.ListN.{length}
 use borrow.Author.Tests.{le-leb, lt-leb}
 use Rattle.blocks.specs.Owners.{blocks}
 use Rattle.blocks.proofs.Owners.{blocks_le}
-use Rattle.blocks.proofs.Answers.{disk-fits}
+use Rattle.blocks.proofs.Answers.{disk_fits_law}
 use borrow.Author.Rules.{rules}
 use Rattle.blocks.proofs.window_number.Statement.{statement}
 use Rattle.blocks.proofs.window_number.Tie as tie
@@ -17,7 +17,7 @@ disk-fits-requires c κs = search rules
 add-count-of : tie.Need-overflow-add-count-of
 add-count-of c =
     let a = c.before.before.before.args in
-    omega (arith, (disk-fits a.size (length a.owner.now) a.place (sym c.before.disk-fits.ensures ∙ c.if1.true)).place-most)
+    omega (arith, (disk_fits_law a.size (length a.owner.now) a.place (sym c.before.disk-fits.ensures ∙ c.if1.true)).place_most)
 
 count-of-requires : tie.Need-count-of-requires
 count-of-requires c κs = search rules
@@ -25,7 +25,7 @@ count-of-requires c κs = search rules
 mul_most : tie.Need-overflow-mul-most
 mul_most c =
     let a = c.before.before.before.before.args in
-    let f = disk-fits a.size (length a.owner.now) a.place (sym c.before.before.disk-fits.ensures ∙ c.before.if1.true) in
+    let f = disk_fits_law a.size (length a.owner.now) a.place (sym c.before.before.disk-fits.ensures ∙ c.before.if1.true) in
     omega (arith, c.count_of.ensures, blocks_le (a.place + 1) a.owner.now, f.most)
 
 returns : tie.Need-returns

@@ -5,7 +5,7 @@ use native.Mathlib.Omega.{arith}
 use lib.ListN.{length}
 use Rattle.blocks.specs.Contents.{stored}
 use Rattle.blocks.specs.Answers.{window_number, write_disk}
-use Rattle.blocks.proofs.Answers.{window-done, done, refused}
+use Rattle.blocks.proofs.Answers.{window_done, done, refused}
 use borrow.Author.Rules.{rules}
 use Rattle.blocks.proofs.write.Statement.{statement}
 use Rattle.blocks.proofs.write.Tie as tie
@@ -17,13 +17,13 @@ add-put-runs : tie.Need-overflow-add-put-runs
 add-put-runs c =
     let b = c.before in
     let a = b.before.before.before.before.before.args in
-    omega (arith, (window-done (length a.disk.now) a.owner.now a.place a.at (length a.bytes.now) (sym b.before.window-number.ensures ∙ b.if1.true)).sizes.place-most)
+    omega (arith, (window_done (length a.disk.now) a.owner.now a.place a.at (length a.bytes.now) (sym b.before.window-number.ensures ∙ b.if1.true)).sizes.place_most)
 
 put-runs-requires : tie.Need-put-runs-requires
 put-runs-requires c κs =
     let b = c.before in
     let a = b.before.before.before.before.before.args in
-    let d = window-done (length a.disk.now) a.owner.now a.place a.at (length a.bytes.now) (sym b.before.window-number.ensures ∙ b.if1.true) in
+    let d = window_done (length a.disk.now) a.owner.now a.place a.at (length a.bytes.now) (sym b.before.window-number.ensures ∙ b.if1.true) in
     (d.sizes.most, d.sizes.bytes, d.room)
 
 same_length : tie.Need-same-length

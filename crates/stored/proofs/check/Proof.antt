@@ -5,7 +5,7 @@ use native.Mathlib.Omega.{arith}
 use lib.ListN.{length}
 use Rattle.blocks.specs.Owners.{blocks}
 use Rattle.blocks.proofs.Owners.{blocks_le}
-use Rattle.blocks.proofs.Answers.{disk-fits}
+use Rattle.blocks.proofs.Answers.{disk_fits_law}
 use Rattle.header.specs.Scan.{start_of, scan_from, scan_verdict}
 use Rattle.header.specs.declared.scan.Scan.{Scan}
 use Rattle.header.proofs.Written.{bytes_all}
@@ -25,7 +25,7 @@ block-count-requires c κs = search rules
 mul-least : tie.Need-overflow-mul-least
 mul-least c =
     let a = c.before.before.before.before.before.args in
-    let f = disk-fits (length a.disk.now) (length a.owner.now) a.place (sym c.before.before.sizes-fit.ensures ∙ c.before.if1.true) in
+    let f = disk_fits_law (length a.disk.now) (length a.owner.now) a.place (sym c.before.before.sizes-fit.ensures ∙ c.before.if1.true) in
     omega (arith, c.block-count.ensures, blocks_le (a.place + 1) a.owner.now, f.most)
 
 least-requires : tie.Need-least-requires
@@ -34,8 +34,8 @@ least-requires c κs = search rules
 scan-file-requires : tie.Need-scan-file-requires
 scan-file-requires c κs =
     let a = c.before.before.before.before.before.before.args in
-    let f = disk-fits (length a.disk.now) (length a.owner.now) a.place (sym c.before.before.before.sizes-fit.ensures ∙ c.before.before.if1.true) in
-    (f.most, f.bytes, f.place-most)
+    let f = disk_fits_law (length a.disk.now) (length a.owner.now) a.place (sym c.before.before.before.sizes-fit.ensures ∙ c.before.before.if1.true) in
+    (f.most, f.bytes, f.place_most)
 
 verdict-of-requires : tie.Need-verdict-of-requires
 verdict-of-requires c κs = search rules
@@ -46,7 +46,7 @@ returns c =
     let s = c.before.before.before.before.before in
     let a = s.before.before.before.args in
     let t = sym s.sizes-fit.ensures ∙ c.before.before.before.before.if1.true in
-    let f = disk-fits (length a.disk.now) (length a.owner.now) a.place t in
+    let f = disk_fits_law (length a.disk.now) (length a.owner.now) a.place t in
     let b = bytes_all a.disk.now (λ k. omega (arith, s.before.before.shared-slice-known.given k)) in
     let v = a.place + 1 in
     let n = c.before.before.least in

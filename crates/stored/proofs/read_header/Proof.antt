@@ -1,7 +1,7 @@
 -- `stored::read_header` meets its contract. Either the sizes do not fit, or the header is read.
 use mathlib.Core.Path.{sym, ◌∙◌}
 use lib.ListN.{length}
-use Rattle.blocks.proofs.Answers.{disk-fits}
+use Rattle.blocks.proofs.Answers.{disk_fits_law}
 use Rattle.stored.specs.Answers.{header_at}
 use borrow.Author.Rules.{rules}
 use Rattle.stored.proofs.read_header.Statement.{statement}
@@ -13,8 +13,8 @@ sizes-fit-requires c κs = search rules
 header-at-requires : tie.Need-header-at-requires
 header-at-requires c κs =
     let a = c.before.before.before.before.args in
-    let f = disk-fits (length a.disk.now) (length a.owner.now) a.place (sym c.before.sizes-fit.ensures ∙ c.if1.true) in
-    (f.most, f.bytes, f.place-most)
+    let f = disk_fits_law (length a.disk.now) (length a.owner.now) a.place (sym c.before.sizes-fit.ensures ∙ c.if1.true) in
+    (f.most, f.bytes, f.place_most)
 
 returns : tie.Need-returns
 unfolding header_at

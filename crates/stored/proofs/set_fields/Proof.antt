@@ -4,7 +4,7 @@ use Prim.Native.Nat.{◌+◌}
 use native.Mathlib.Omega.{arith}
 use lib.ListN.{length}
 use Rattle.blocks.proofs.Owners.{blocks_le}
-use Rattle.blocks.proofs.Answers.{disk-fits}
+use Rattle.blocks.proofs.Answers.{disk_fits_law}
 use Rattle.stored.proofs.Setting.{refused_sizes, refused_length, refused_items, settable, fields_done}
 use borrow.Author.Rules.{rules}
 use Rattle.stored.proofs.set_fields.Statement.{statement}
@@ -19,7 +19,7 @@ block-count-requires c κs = search rules
 mul-if2 : tie.Need-overflow-mul-if2
 mul-if2 c =
     let a = c.before.before.before.before.before.args in
-    let f = disk-fits (length a.disk.now) (length a.owner.now) a.place (sym c.before.before.sizes-fit.ensures ∙ c.before.if1.true) in
+    let f = disk_fits_law (length a.disk.now) (length a.owner.now) a.place (sym c.before.before.sizes-fit.ensures ∙ c.before.if1.true) in
     omega (arith, c.block-count.ensures, blocks_le (a.place + 1) a.owner.now, f.most)
 
 returns : tie.Need-returns
@@ -33,8 +33,8 @@ header-at-requires : tie.Need-header-at-requires
 header-at-requires c κs =
     let s = c.before.before.before.before in
     let a = s.before.before.before.args in
-    let f = disk-fits (length a.disk.now) (length a.owner.now) a.place (sym s.sizes-fit.ensures ∙ c.before.before.before.if1.true) in
-    (f.most, f.bytes, f.place-most)
+    let f = disk_fits_law (length a.disk.now) (length a.owner.now) a.place (sym s.sizes-fit.ensures ∙ c.before.before.before.if1.true) in
+    (f.most, f.bytes, f.place_most)
 
 write-fields-requires : tie.Need-write-fields-requires
 write-fields-requires c κs =

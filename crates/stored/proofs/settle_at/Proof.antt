@@ -1,7 +1,7 @@
 -- `stored::settle_at` meets its contract.
 use mathlib.Core.Path.{refl, sym, ◌∙◌}
 use lib.ListN.{length}
-use Rattle.blocks.proofs.Answers.{disk-fits}
+use Rattle.blocks.proofs.Answers.{disk_fits_law}
 use Rattle.stored.specs.Settled.{settle_number, settled_at}
 use borrow.Author.Rules.{rules}
 use Rattle.stored.proofs.settle_at.Statement.{statement}
@@ -13,8 +13,8 @@ sizes-fit-requires c κs = search rules
 settle-file-requires : tie.Need-settle-file-requires
 settle-file-requires c κs =
     let a = c.before.before.before.before.before.before.before.before.args in
-    let f = disk-fits (length a.disk.now) (length a.owner.now) a.place (sym c.before.before.sizes-fit.ensures ∙ c.before.if1.true) in
-    (f.most, f.bytes, f.place-most)
+    let f = disk_fits_law (length a.disk.now) (length a.owner.now) a.place (sym c.before.before.sizes-fit.ensures ∙ c.before.if1.true) in
+    (f.most, f.bytes, f.place_most)
 
 same_length : tie.Need-same-length
 same_length c = search rules

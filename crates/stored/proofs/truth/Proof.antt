@@ -2,7 +2,7 @@
 use mathlib.Core.Path.{sym, ◌∙◌, ap}
 use lib.ListN.{length}
 use borrow.Author.Tests.{lt-leb, le-leb}
-use Rattle.blocks.proofs.Answers.{disk-fits}
+use Rattle.blocks.proofs.Answers.{disk_fits_law}
 use Rattle.equation.specs.Parsed.{outcome_by}
 use Rattle.stored.specs.Answers.{truth_by}
 use borrow.Author.Rules.{rules}
@@ -22,8 +22,8 @@ slice-aggregate-settle-file c = search rules
 settle-file-requires : tie.Need-settle-file-requires
 settle-file-requires c κs =
     let a = c.before.before.before.before.before.before.before.before.args in
-    let f = disk-fits (length a.disk.now) (length a.owner.now) a.place (sym c.before.before.sizes-fit.ensures ∙ c.before.if2.true) in
-    (f.most, f.bytes, f.place-most)
+    let f = disk_fits_law (length a.disk.now) (length a.owner.now) a.place (sym c.before.before.sizes-fit.ensures ∙ c.before.if2.true) in
+    (f.most, f.bytes, f.place_most)
 
 slice-aggregate-outcome : tie.Need-slice-aggregate-outcome
 slice-aggregate-outcome c = search rules

@@ -2,7 +2,7 @@
 use mathlib.Core.Path.{ap, ◌∙◌}
 use native.Mathlib.Omega.{arith}
 use lib.ListN.{length}
-use Rattle.blocks.proofs.Answers.{disk-fits}
+use Rattle.blocks.proofs.Answers.{disk_fits_law}
 use Rattle.blocks.proofs.Held.{length_stored}
 use Rattle.header.proofs.Written.{bytes_all}
 use Rattle.stored.proofs.Setting.{sum_written}
@@ -18,9 +18,9 @@ header-at-requires c κs =
     let w = c.before.before.before in
     let a = w.before.before.before.before.args in
     let s = w.before.before.before.before.requires in
-    let f = disk-fits (length a.disk.now) (length a.owner.now) a.place s.sizes in
+    let f = disk_fits_law (length a.disk.now) (length a.owner.now) a.place s.sizes in
     let l = ap length w.write-rows.ensures ∙ length_stored _ a.owner.now a.disk.now 0 _ in
-    (f.most, omega (arith, l, f.bytes), f.place-most)
+    (f.most, omega (arith, l, f.bytes), f.place_most)
 
 write-sum-requires : tie.Need-write-sum-requires
 write-sum-requires c κs = search rules

@@ -6,7 +6,7 @@ use native.Mathlib.Omega.{arith}
 use lib.ListN.{length, replicate}
 use Rattle.equation.proofs.Parsing.{taken, judged}
 use Rattle.why.specs.Answer.{whys}
-use Rattle.why.proofs.Answers.{fit_of, store_of, why_fits, why-sizes, why-refused}
+use Rattle.why.proofs.Answers.{fit_of, store_of, why_fits, why_sizes, why_refused}
 use borrow.Author.Rules.{rules}
 use Rattle.why.proofs.why.Statement.{statement}
 use Rattle.why.proofs.why.Tie as tie
@@ -42,7 +42,7 @@ why-number-requires c κs =
     ∙ c.before.before.before.before.before.before.before.before.if1.true) in (
       record { listed = t.listed; valid = t.valid },
       store_of a.disk.now a.owner.now (length a.eq.now) (length a.table.now) a.most f,
-      f.most-places,
+      f.most_places,
     )
 
 same_length : tie.Need-same-length
@@ -64,7 +64,7 @@ returns-2 c =
     let a = c.before.before.before.before.before.before.before.before.before.before.before.before.before.args in
     let j = judged a.eq.now (replicate 2047 0) _ _ c.before.before.before.before.parse.ensures (λ h. omega arith) in
     ap (λ x. whys x a.named.now) c.refused-by.ensures
-    ∙ why-refused a.eq.now a.number a.disk.now a.owner.now a.table.now a.most a.named.now
+    ∙ why_refused a.eq.now a.number a.disk.now a.owner.now a.table.now a.most a.named.now
     (sym c.before.before.before.before.before.before.before.sizes-fit.ensures ∙ c.before.before.before.before.before.before.if1.true)
     _ j c.before.if2.false
 
@@ -75,7 +75,7 @@ returns-3 : tie.Need-returns-3
 returns-3 c =
     let a = c.before.before.before.before.before.before.before.before.args in
     ap (λ x. whys x a.named.now) c.refused-by2.ensures
-    ∙ why-sizes a.eq.now a.number a.disk.now a.owner.now a.table.now a.most a.named.now (sym c.before.before.sizes-fit.ensures
+    ∙ why_sizes a.eq.now a.number a.disk.now a.owner.now a.table.now a.most a.named.now (sym c.before.before.sizes-fit.ensures
     ∙ c.before.if1.false)
 
 pub why-spec : {M : Type 1} → statement M

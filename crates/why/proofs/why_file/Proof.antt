@@ -15,7 +15,7 @@ use Rattle.table.specs.Table.{uploaded}
 use Rattle.why.specs.Answer.{whys, items_at, time_at, older_of, reasons_on}
 use Rattle.why.specs.Run.{result_on, Tells}
 use Rattle.why.proofs.Rows.{take_fits}
-use Rattle.why.proofs.Answers.{file_short, file-told}
+use Rattle.why.proofs.Answers.{file_short, file_told}
 use borrow.Author.Rules.{rules}
 use Rattle.why.proofs.why_file.Statement.{statement}
 use Rattle.why.proofs.why_file.Tie as tie
@@ -85,7 +85,7 @@ returns-2 c t e =
     (c.before.before.upload-time-of.ensures ∙ ap uploaded g) in
     let n = c.before.before.before.before.before.copy.ensures ∙ ap (λ (l : List ℕ). l ++ drop
     c.before.before.before.before.before.before.before.before.before.before.decide-file.result.count a.named.now) d.2 in
-    file-told a.eq.now t a.disk.now a.owner.now a.table.now a.most a.named.now a.place
+    file_told a.eq.now t a.disk.now a.owner.now a.table.now a.most a.named.now a.place
     c.before.before.before.before.before.before.before.before.before.before.decide-file.result.matched
     c.before.older-where.result c.before.before.before.before.before.before.before.before.before.before.decide-file.result.count _ _
     d.0 o d.1 c.before.before.before.before.before.before.before.before.if1.false n c.tell.ensures

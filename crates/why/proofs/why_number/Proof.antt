@@ -3,7 +3,7 @@ use mathlib.Core.Path.{◌≡◌, sym, ap, ◌∙◌}
 use Rattle.equation.proofs.Trees.{accepted}
 use Rattle.table.specs.declared.Found.TheVariants.{At}
 use Rattle.why.specs.Answer.{whys}
-use Rattle.why.proofs.Answers.{number-tree, number_none}
+use Rattle.why.proofs.Answers.{number_tree, number_none}
 use borrow.Author.Rules.{rules}
 use Rattle.why.proofs.why_number.Statement.{statement}
 use Rattle.why.proofs.why_number.Tie as tie
@@ -39,7 +39,7 @@ returns-2 c =
     let a = c.before.before.before.before.before.before.before.before.before.before.before.before.before.before.args in
     let y = accepted a.eq.now c.before.before.before.before.before.before.before.before.before.before.before.before.before.before.requires.0.valid in
     c.before.before.why-place.ensures y.tree y.parsed
-    ∙ number-tree a.eq.now a.number a.disk.now a.owner.now a.table.now a.most a.named.now y.tree
+    ∙ number_tree a.eq.now a.number a.disk.now a.owner.now a.table.now a.most a.named.now y.tree
     (At c.before.before.before.before.before.found.given.0.0) y.parsed
     (sym c.before.before.before.before.before.found.given.1 ∙ c.before.before.before.before.before.before.before.find.ensures)
 

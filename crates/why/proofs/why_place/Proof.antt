@@ -3,7 +3,7 @@ use mathlib.Core.Path.{◌≡◌, sym, ap, ◌∙◌}
 use Rattle.table.specs.Table.{uploaded}
 use Rattle.why.specs.Answer.{whys}
 use Rattle.why.proofs.Older.{place_in}
-use Rattle.why.proofs.Answers.{place-partial, place-complete}
+use Rattle.why.proofs.Answers.{place_partial, place_complete}
 use borrow.Author.Rules.{rules}
 use Rattle.why.proofs.why_place.Statement.{statement}
 use Rattle.why.proofs.why_place.Tie as tie
@@ -22,7 +22,7 @@ returns c t e =
     let a = c.before.before.before.before.before.before.before.before.before.before.args in
     let u = c.before.before.upload-time-of.ensures ∙ ap uploaded c.before.before.before.get.ensures in
     ap (λ x. whys x a.named.now) c.refused-by.ensures
-    ∙ place-partial a.eq.now t a.disk.now a.owner.now a.table.now a.most a.named.now a.place (sym u ∙ c.before.if1.true)
+    ∙ place_partial a.eq.now t a.disk.now a.owner.now a.table.now a.most a.named.now a.place (sym u ∙ c.before.if1.true)
 
 why-file-requires : tie.Need-why-file-requires
 why-file-requires c κs =
@@ -40,7 +40,7 @@ returns-2 c t e =
     let u = c.before.before.before.before.before.upload-time-of.ensures ∙ ap uploaded
     c.before.before.before.before.before.before.get.ensures in
     c.before.before.why-file.ensures t e
-    ∙ place-complete a.eq.now t a.disk.now a.owner.now a.table.now a.most a.named.now a.place
+    ∙ place_complete a.eq.now t a.disk.now a.owner.now a.table.now a.most a.named.now a.place
     (λ z. c.before.before.before.before.if1.false (u ∙ z))
 
 pub why-place-spec : {M : Type 1} → statement M
