@@ -1,6 +1,8 @@
 // An accepted equation written back as on paper (crates/grammar), with the fewest brackets. It is proved (crates/readback) that the text reads back as the same
 // bytes, that no text with these bytes has fewer pairs of brackets, and that an equation is refused as nested too deep only where every text is.
 // The text is put together from its end, over the steps of the equation (crates/equation), and then moved to the front of the lent output.
+#![tactic(auto)]
+
 ghost use Rattle.std.specs.Prelude.{◌≡◌, true, List, [], ◌∷◌, ◌++◌, ℕ, ◌+◌, ◌≤◌, ◌<◌, ◌/◌, ◌%◌, max, ltb, length};
 ghost use Rattle.numbers.specs.Numbers.{number};
 ghost use Rattle.numbers.specs.Hex.{hex_digit};
@@ -26,7 +28,7 @@ use numbers::{hex_digit, number16, number32, store};
 
 // How an equation is answered: the number of bytes of its text; refused by 33 or 8; it ends in an end mark; its text would nest deeper than 16; it has
 // more than 256 bytes.
-#[derive(Drop)]
+#[derive(Clone, Copy)]
 pub enum Answer {
     Text(usize),
     Refused(u8),
@@ -36,14 +38,14 @@ pub enum Answer {
 }
 
 // Where a formula's steps begin, and where its text does.
-#[derive(Drop)]
+#[derive(Clone, Copy)]
 struct Place {
     at: usize,
     n: usize,
 }
 
 // Where a formula's steps begin, and how deep brackets are nested in its text.
-#[derive(Drop)]
+#[derive(Clone, Copy)]
 struct Nesting {
     at: usize,
     deep: usize,

@@ -8,6 +8,8 @@
 // bytes past the place's blocks by 35, each by a cheap test of its own; a refusal changes nothing. No function checks the whole store but
 // `agrees`: what the others do where the map and the owners disagree is defined too, and the laws in proofs/ say what they do where they agree.
 // A call's cost is linear in the blocks and in the bytes that it moves: no block is searched for anew from the first one.
+#![tactic(auto)]
+
 ghost use Rattle.std.specs.Prelude.{◌≡◌, cond, List, ℕ, ◌+◌, ◌-◌, ◌*◌, ◌/◌, ◌%◌, ◌^◌, ◌≤◌, ◌<◌, length, get_or, set, take, drop, replicate, eqb};
 ghost use Rattle.std.proofs.lemmas.List.Edits.{sets};
 ghost use Rattle.blocks.specs.FreeMap.{free_count, lowest, cleared, marked, reserved_map};
@@ -236,7 +238,7 @@ pub fn next_block(owner: &[u16], place: u16, from: usize) -> usize
 }
 
 // Where the search for a block of an owner goes on, and how many of the owner's blocks it still has to pass.
-#[derive(Drop)]
+#[derive(Clone, Copy)]
 struct Spot {
     from: usize,
     left: usize,

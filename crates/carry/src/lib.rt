@@ -1,4 +1,6 @@
 // Acts carried out: what a decided packet does to its session, to the store and to the selection, and the reply to it.
+#![tactic(auto)]
+
 pub mod download;
 pub mod turn;
 mod upload;

@@ -7,13 +7,13 @@ use session::reply::Reply;
 use session::state::{Downlink, Session, Uplink};
 
 // The last file number and the last upload time given.
-#[derive(Drop)]
+#[derive(Clone, Copy)]
 pub struct Last {
     pub number: u32,
     pub time: u32,
 }
 
-#[derive(Drop)]
+#[derive(Clone, Copy)]
 pub struct Turn {
     pub session: Session,
     pub last: Last,

@@ -138,7 +138,7 @@ fn accept(
 }
 
 // What DATA_END gives a file: the number of a refusal, or the upload time.
-#[derive(Drop)]
+#[derive(Clone, Copy)]
 enum Judged {
     Rejected(u8),
     Accepted(u32),

@@ -1,6 +1,8 @@
 // The program of a class: runs a script as passday does, against a server of 128 blocks, 32 files, 4 sessions and MAXSEL 50, and answers lines of `why`
 // and `why-bytes`. In whatever pieces the input comes, the program goes on until the script ends, and what it then has written is the sheet of the script
 // that it read (specs/Sheet.antt, Whole.antt).
+#![tactic(auto)]
+
 mod turn;
 
 ghost use Rattle.std.specs.Prelude.{◌≡◌, false, length};

@@ -2,7 +2,7 @@
 use session::reply::Reply;
 use session::state::Listed;
 
-#[derive(Drop)]
+#[derive(Clone, Copy)]
 pub enum Act {
     // The link is closed.
     Close,

@@ -1,5 +1,7 @@
 // Decisions: what a packet asks for, in the state that its session is in. Reads the session, the file table and the selection, and
 // changes nothing; the server carries the act out.
+#![tactic(auto)]
+
 pub mod act;
 mod downlink;
 mod uplink;

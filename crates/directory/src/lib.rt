@@ -1,5 +1,7 @@
 // The files that a directory names: one, or the next ones of the session's selection. A directory keeps which they are until its DATA_END goes out.
 // Both functions take any numbers and slices of any length.
+#![tactic(auto)]
+
 ghost use Rattle.std.specs.Prelude.{◌≡◌, ◌-◌, min, length, get_or};
 ghost use Rattle.table.specs.declared.Found.TheVariants.{Nothing};
 ghost use Rattle.table.specs.Table.{files};

@@ -3,6 +3,8 @@
 // A slice passes as a pointer and a length. The server's state stands in the caller's memory as 64-bit words. Every function takes any
 // slices and any numbers and asks nothing of its caller. A call answers by a number: 0 nothing is sent, 1 a packet is in the output, 2 the
 // link is closed, 32 to 35 refused, where nothing at all changes. The words that a call leaves are a state again.
+#![tactic(auto)]
+
 mod words;
 
 ghost use Rattle.std.specs.Prelude.{◌≡◌, true, ◌≤◌, length};

@@ -14,7 +14,7 @@ use server::check::Lengths;
 use session::state::{Downlink, Listed, Session, Uplink};
 
 // The words are a state, or the call is refused.
-#[derive(Drop)]
+#[derive(Clone, Copy)]
 pub enum Ready {
     Go,
     Refuse(u8),

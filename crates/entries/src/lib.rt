@@ -2,6 +2,8 @@
 // the header's items and no buffer of a header's size. The layer promises that what it puts are the bytes of the stored header, or of the part of them that
 // the short form names, that nothing else of what is lent changes, and the entry's length. No function asks anything of its caller: sizes outside the table,
 // and a file whose items DATA_END refuses, have an empty entry.
+#![tactic(auto)]
+
 ghost use Rattle.std.specs.Prelude.{◌≡◌, ◌-◌, ◌≤◌, length, drop};
 ghost use Rattle.entries.specs.Entry.{put_front, reads, read_of};
 ghost use Rattle.entries.specs.Reading.{least_of, read_front, short_read};

@@ -12,7 +12,7 @@ use crate::steps::list_steps;
 use header::items::{Head, read_head};
 
 // The truth of an equation; Refused(8) for one that is none, Refused(33) above 2,047 bytes.
-#[derive(Drop)]
+#[derive(Clone, Copy)]
 pub enum Truth {
     No,
     Yes,
@@ -20,7 +20,7 @@ pub enum Truth {
 }
 
 // What parsing an equation answers: 0 for accepted, or the number of the refusal; and how many steps it has.
-#[derive(Drop)]
+#[derive(Clone, Copy)]
 pub struct Parsed {
     pub refused: u8,
     pub count: usize,

@@ -3,7 +3,7 @@ ghost use Rattle.std.specs.Prelude.{◌≡◌, ◌+◌, ◌<◌, length, get_or,
 ghost use Rattle.equation.specs.Symbols.{stars_in, good_text, good_number, good, connective_of, relation_at, token_of};
 
 // What stands at a place of an equation. A relation: its first byte, its item's id, its constant's length.
-#[derive(Drop)]
+#[derive(Clone, Copy)]
 pub enum Token {
     Bad,
     End,

@@ -1,6 +1,8 @@
 // The program `equations`: reads lines from standard input, and prints for each the line that crates/replies defines. A line that can't be read prints
 // `error` and its number, and ends the program. In whatever pieces the input comes, the program goes on until the input ends, and what it then has
 // written is the output for the input that it read (specs/Output.antt, Whole.antt).
+#![tactic(auto)]
+
 mod progress;
 
 ghost use Rattle.std.specs.Prelude.{◌≡◌, length};

@@ -18,7 +18,7 @@ const ROOM: usize = 4096;
 
 // Where the bytes that are not yet read as lines stand in the input, whether the input has ended, the number of lines answered, and how many bytes of
 // the text wait to be written.
-#[derive(Drop)]
+#[derive(Clone, Copy)]
 pub struct Progress {
     from: usize,
     end: usize,
@@ -29,7 +29,7 @@ pub struct Progress {
 }
 
 // Going on; with all lines answered and only writing left; over with all written; or over because writing failed.
-#[derive(Drop)]
+#[derive(Clone, Copy)]
 pub enum Stage {
     Going,
     Last,
@@ -38,7 +38,7 @@ pub enum Stage {
 }
 
 // What a turn does.
-#[derive(Drop)]
+#[derive(Clone, Copy)]
 enum Next {
     Line(usize),
     Flush,

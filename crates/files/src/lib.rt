@@ -6,6 +6,8 @@
 // Every function takes any slices and asks nothing of its caller. A refusal is a number of document 01's table and leaves everything as it
 // was. No function but `sound` checks the whole store: what the others do where it is broken is defined too, and the laws in proofs/ say
 // what they do where it is sound: it stays sound, no file but the call's own changes, and the local refusals 33 and 35 do not appear.
+#![tactic(auto)]
+
 ghost use Rattle.std.specs.Prelude.{◌≡◌, ◌+◌, ◌≤◌, ◌<◌, cond, ◌++◌, length, set, take, drop, replicate};
 ghost use Rattle.std.proofs.lemmas.List.Edits.{sets};
 ghost use Rattle.equation.specs.Parsed.{steps_of};
@@ -22,7 +24,7 @@ use table::{File, Found, Given};
 // ---- a new file
 
 // What beginning a file answers: the number of a refusal, or the place of the file.
-#[derive(Drop)]
+#[derive(Clone, Copy)]
 pub enum Begun {
     Refused(u8),
     Started(usize),
@@ -230,7 +232,7 @@ pub fn destinations(disk: &[u8], owner: &[u16], table: &[u32], place: usize) -> 
 // ---- a selection
 
 // The number of a refusal, 0 for none, and how many files were selected.
-#[derive(Drop)]
+#[derive(Clone, Copy)]
 pub struct Selection {
     pub refused: u8,
     pub count: usize,

@@ -3,7 +3,9 @@
 // text's truth on every file.
 
 // How a relation compares, with the file on the left.
-#[derive(Drop)]
+#![tactic(auto)]
+
+#[derive(Clone, Copy)]
 pub enum Comparison {
     Equal,
     Greater,
@@ -14,7 +16,7 @@ pub enum Comparison {
 }
 
 // What is wrong at the first wrong place of a text.
-#[derive(Drop)]
+#[derive(Clone, Copy)]
 pub enum Reason {
     Item,
     Deeper,

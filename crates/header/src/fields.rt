@@ -7,7 +7,7 @@ ghost use Rattle.header.specs.Fields.{server_set, row_of, row_at};
 use numbers::hex_digit;
 
 // A field: where its data begins, how many bytes it has, and the bytes, with zeros behind them.
-#[derive(Drop)]
+#[derive(Clone, Copy)]
 pub struct FieldRow {
     pub at: usize,
     pub size: usize,

@@ -3,7 +3,7 @@ ghost use Rattle.std.specs.Prelude.{◌≡◌, drop};
 ghost use Rattle.header.specs.Items.{head_of};
 
 // What stands at a place: neither an item nor the end mark; the end mark; an item, by its id and its data's length.
-#[derive(Drop)]
+#[derive(Clone, Copy)]
 pub enum Head {
     Broken,
     End,

@@ -1,6 +1,8 @@
 // File headers: what stands in a file's first bytes, whether DATA_END accepts the file, and the fields that the server sets.
 // Each answer is a definition of specs/Header.antt or specs/Fields.antt over the list of the file's bytes, whatever the bytes are.
 // A file in one piece is read by the functions here; a file in several pieces by `scan`, of which they are made.
+#![tactic(auto)]
+
 pub mod fields;
 pub mod items;
 pub mod scan;

@@ -6,7 +6,7 @@ ghost use Rattle.header.specs.Scan.{after_length, next_phase, in_header, in_body
 
 // Where the next byte stands: the two bytes of the mark, an item's id, length and data, the body after the end mark; or the items
 // are broken, or the file is not marked.
-#[derive(Drop)]
+#[derive(Clone, Copy)]
 pub enum Phase {
     First,
     Second,
@@ -20,7 +20,7 @@ pub enum Phase {
 }
 
 // Of the header's bytes so far: their number, the last four as a number, their sum.
-#[derive(Drop)]
+#[derive(Clone, Copy)]
 pub struct Passed {
     pub pos: usize,
     pub recent: u32,
@@ -28,7 +28,7 @@ pub struct Passed {
 }
 
 // Where the data of an item begins, and its length.
-#[derive(Drop)]
+#[derive(Clone, Copy)]
 pub struct Place {
     pub found: bool,
     pub at: usize,
@@ -37,7 +37,7 @@ pub struct Place {
 
 // What the items so far say: whether lengths and order are right, the last id of 01 to 0b, how many of these, of upload_time and
 // of destinations, the data of file_size, body_checksum, header_checksum and body_offset, and where the wanted item is.
-#[derive(Drop)]
+#[derive(Clone, Copy)]
 pub struct Seen {
     pub ok: bool,
     pub last: u16,
@@ -52,7 +52,7 @@ pub struct Seen {
 }
 
 // A scan: the id of the wanted item, and what the bytes so far said.
-#[derive(Drop)]
+#[derive(Clone, Copy)]
 pub struct Scan {
     pub want: u16,
     pub phase: Phase,
@@ -63,7 +63,7 @@ pub struct Scan {
 
 // What a header says: the refusal of its items (0 for none), its length and sum, how many destinations it has, and where the first
 // item with the wanted id is; nothing but the refusal where there is one.
-#[derive(Drop)]
+#[derive(Clone, Copy)]
 pub struct Header {
     pub refusal: u8,
     pub size: usize,

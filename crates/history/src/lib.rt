@@ -2,3 +2,4 @@
 //
 // What a call answers and leaves is one definition in crates/server, which the call is proved to meet. So a theorem on these definitions is a
 // theorem on the calls. Proved here: a state that calls made is always sound, so that 35 is never given for it.
+#![tactic(auto)]

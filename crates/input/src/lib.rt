@@ -1,5 +1,7 @@
 // The lines of a script in the bytes read so far, in whatever pieces they come: where the first line ends, its command, and the rest moved to the front.
 // The layer promises that a line is found by its newline, wherever that stands, and that every place handed in is cut to what is lent.
+#![tactic(auto)]
+
 pub mod parts;
 
 ghost use Rattle.std.specs.Prelude.{◌≡◌, ◌+◌, ◌<◌, ◌≤◌, length, nat_lt};
@@ -15,7 +17,7 @@ use std::num::wrapping_sub_u8;
 pub const LINE: usize = 131072;
 
 // What stands in the input: a part of a line, which may go on; a line of so many bytes; a line that is too long to be read; or nothing more.
-#[derive(Drop)]
+#[derive(Clone, Copy)]
 pub enum Found {
     Part,
     Line(usize),

@@ -7,14 +7,14 @@ ghost use Rattle.lines.specs.Reading.{field_end, rx_read};
 use crate::numeral::{Digits, Pairs, decimal, hex};
 
 // A field that is a decimal number of at most 32 bits, or none.
-#[derive(Drop)]
+#[derive(Clone, Copy)]
 pub enum Number {
     Bad,
     Value(u32),
 }
 
 // A line's command: the clock, or the session; for `rx` also how many bytes it has.
-#[derive(Drop)]
+#[derive(Clone, Copy)]
 pub enum Command {
     Unreadable,
     Time(u32),

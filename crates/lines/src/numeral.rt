@@ -7,14 +7,14 @@ ghost use Rattle.lines.specs.Pairs.{all_hex, pairs_in, pair_byte};
 use std::num::wrapping_sub_u8;
 
 // A decimal number that was read: its value and the place behind its last digit. Bad where no digit stands there or 32 bits are passed.
-#[derive(Drop)]
+#[derive(Clone, Copy)]
 pub enum Digits {
     Bad,
     Value(u32, usize),
 }
 
 // How many bytes were read from hex. Bad where other than pairs of digits stand there, or the bytes do not fit.
-#[derive(Drop)]
+#[derive(Clone, Copy)]
 pub enum Pairs {
     Bad,
     Bytes(usize),

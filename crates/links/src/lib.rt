@@ -4,6 +4,8 @@
 // those in use has an upload of a partial file, within the bytes that the file has, a download, a directory and a selection of complete ones, and an
 // unfinished packet that is unfinished. `Facts` in proofs/ has these facts one by one; what calls keep besides, and refusal 35 does not ask,
 // stands in specs/Kept.antt.
+#![tactic(auto)]
+
 ghost use Rattle.std.specs.Prelude.{◌≡◌, ◌+◌, ◌*◌, ◌≤◌, length, take, drop};
 ghost use Rattle.table.specs.Table.{files, numbers, find_of};
 ghost use Rattle.table.specs.Fit.{Distinct};

@@ -1,5 +1,7 @@
 // A directory on its way: the entries of the files that it names run on, one behind the other, and the next bytes of them are put where they are wanted.
 // The cost is the bytes put and one walk over each header that they touch.
+#![tactic(auto)]
+
 ghost use Rattle.std.specs.Prelude.{◌≡◌, ◌+◌, ◌≤◌, ◌<◌};
 ghost use Rattle.table.specs.Table.{files};
 ghost use Rattle.entries.specs.Entry.{reads};
@@ -10,7 +12,7 @@ use session::state::Listed;
 use table::Found;
 
 // How many of a directory's files lie behind, how many bytes of the next one's entry, and how many bytes are collected.
-#[derive(Drop)]
+#[derive(Clone, Copy)]
 struct Progress {
     done: usize,
     sent: usize,
@@ -18,7 +20,7 @@ struct Progress {
 }
 
 // The next bytes of a directory, `size` of them with zeros behind, and how many of its files lie behind then, and bytes of the next one's entry.
-#[derive(Drop)]
+#[derive(Clone, Copy)]
 pub struct Filled {
     pub done: usize,
     pub sent: usize,

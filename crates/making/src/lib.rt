@@ -1,4 +1,6 @@
 // Making a server: its sizes, and the empty store in what is lent. Sizes outside the table and slices that are too short are refused by 33.
+#![tactic(auto)]
+
 ghost use Rattle.std.specs.Prelude.{◌≡◌, ◌*◌, ◌≤◌, length};
 ghost use Rattle.server.specs.State.{words};
 ghost use Rattle.server.specs.Making.{new_server, EmptyPre, emptied, empty_of, makes, make_of};

@@ -5,6 +5,8 @@
 // the pupil wrote. The pupil's answer is compared while the server's fields are produced: as long as both agree nothing is held but how far, since
 // what is produced then stands in the answer itself; from the first difference on what is produced is put into the text at once. So no buffer is
 // needed for what the server answers, however long that is. The same steps write the right sheet of a script.
+#![tactic(auto)]
+
 pub mod fields;
 pub mod put;
 pub mod verdict;
@@ -19,21 +21,21 @@ use script::{Day, Stepped};
 use verdict::Verdict;
 
 // What is printed: the desk's verdicts on an answer sheet, or the right sheet of a script.
-#[derive(Drop)]
+#[derive(Clone, Copy)]
 pub enum Kind {
     Desk,
     Sheet,
 }
 
 // Where the pupil's answer stands in the input: from a place to another.
-#[derive(Drop)]
+#[derive(Clone, Copy)]
 pub struct Part {
     pub from: usize,
     pub to: usize,
 }
 
 // After a step of a line: the script, the verdict so far, and how many bytes were put into the text.
-#[derive(Drop)]
+#[derive(Clone, Copy)]
 pub struct Marked {
     pub day: Day,
     pub verdict: Verdict,

@@ -11,7 +11,7 @@ use std::num::wrapping_add_usize;
 
 // No line is being run; the server's fields are so far the first so many bytes of the pupil's answer, and nothing is put into the text yet; or what
 // they are is put there as they come.
-#[derive(Drop)]
+#[derive(Clone, Copy)]
 pub enum Verdict {
     Rest,
     Open(usize),
@@ -19,14 +19,14 @@ pub enum Verdict {
 }
 
 // The verdict after some of the server's fields, and how many bytes were put into the text.
-#[derive(Drop)]
+#[derive(Clone, Copy)]
 pub struct Judged {
     pub verdict: Verdict,
     pub written: usize,
 }
 
 // Whether a line was right, and how many bytes were put into the text.
-#[derive(Drop)]
+#[derive(Clone, Copy)]
 pub struct Finished {
     pub right: bool,
     pub written: usize,

@@ -7,7 +7,7 @@ ghost use Rattle.names.specs.Rows.{nameless, row_at, row_of, shared, found};
 use crate::bytes::lowered;
 
 // A name in capitals, the first `size` of the letters, with its id and usual width; of size 0 where there is none.
-#[derive(Drop)]
+#[derive(Clone, Copy)]
 pub struct Row {
     pub letters: [u8; 23],
     pub size: usize,
@@ -16,7 +16,7 @@ pub struct Row {
 }
 
 // The name that a text begins with, by its id and its length; or how many bytes of the text a name begins with.
-#[derive(Drop)]
+#[derive(Clone, Copy)]
 pub enum Found {
     Known(u16, usize),
     Unknown(usize),

@@ -1,12 +1,14 @@
 // Numbers of 16 and 32 bits in bytes, least significant byte first: what headers, equations and packets are made of; and hexadecimal digits.
 // The layer promises that a number read is the one that its bytes stand for, that a number written reads back, and that a place that is too near the end
 // is refused by 33 and changes nothing.
+#![tactic(auto)]
+
 ghost use Rattle.std.specs.Prelude.{◌≡◌, [], ◌∷◌, ◌+◌, ◌*◌, length};
 ghost use Rattle.numbers.specs.Numbers.{number, two, four, number_at, fits_at, stored_at};
 ghost use Rattle.numbers.specs.Hex.{hex_digit};
 
 // A number that was read; Short where its bytes are not all there (refusal 33).
-#[derive(Drop)]
+#[derive(Clone, Copy)]
 pub enum Number {
     Short,
     Value(u32),

@@ -7,7 +7,7 @@ ghost use Rattle.packet.specs.Feed.{mark_of, wanted_of, least_of, fed_in, feed_o
 use numbers::store;
 
 // What the bytes came to.
-#[derive(Drop)]
+#[derive(Clone, Copy)]
 pub enum Frame {
     // The packet is not at its end.
     Open,
@@ -20,7 +20,7 @@ pub enum Frame {
 }
 
 // The answer of a call: how many bytes it took, how many the part holds now, and a whole packet's information, padded with zeros.
-#[derive(Drop)]
+#[derive(Clone, Copy)]
 pub struct Framed {
     pub taken: usize,
     pub held: usize,
@@ -29,7 +29,7 @@ pub struct Framed {
 }
 
 // What the first bytes of a part come to: more is wanted, the announced length is too long, or they end a packet.
-#[derive(Drop)]
+#[derive(Clone, Copy)]
 enum Mark {
     More,
     Long,
@@ -37,7 +37,7 @@ enum Mark {
 }
 
 // Where feeding stopped: bytes taken, bytes in the part, and why.
-#[derive(Drop)]
+#[derive(Clone, Copy)]
 struct Fed {
     taken: usize,
     held: usize,

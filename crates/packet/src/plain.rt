@@ -5,14 +5,14 @@ ghost use Rattle.packet.specs.Packet.{write_answer, left_in, read_answer};
 use numbers::store;
 
 // What the writer answers: a refusal's number, or the packet's length.
-#[derive(Drop)]
+#[derive(Clone, Copy)]
 pub enum Written {
     Refused(u8),
     Packet(usize),
 }
 
 // What the reader answers: a refusal's number, or the type and the information's length; the information begins at byte 2.
-#[derive(Drop)]
+#[derive(Clone, Copy)]
 pub enum Plain {
     Refused(u8),
     Packet(u8, usize),

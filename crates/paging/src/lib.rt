@@ -3,3 +3,4 @@
 //
 // All is said of the machine of crates/model, which the server is (crates/refines). What a client sends is bytes, in any pieces, and a page is what the
 // answer to them leaves. The examples P1 to P12 of document 01 stand here too, over the definitions that the contracts of all layers cite.
+#![tactic(auto)]

@@ -1,5 +1,7 @@
 // Equations as on paper (crates/grammar), turned into postfix bytes. The layer promises that a text of the grammar whose bytes are at most 256 gives these
 // bytes, and that any other text gives its first wrong place and the reason; a refusal writes nothing.
+#![tactic(auto)]
+
 mod constant;
 mod output;
 mod sums;
@@ -11,7 +13,7 @@ use grammar::Reason;
 use readings::Reading;
 
 // How a text is answered: the number of its bytes; the first wrong place, counted from 1, and the reason; its bytes are above 256; or refused by 33.
-#[derive(Drop)]
+#[derive(Clone, Copy)]
 pub enum Answer {
     Bytes(usize),
     Wrong(usize, Reason),

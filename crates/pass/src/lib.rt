@@ -1,6 +1,8 @@
 // A script program between two turns, and all of a turn that neither reads nor writes: what is due, a step of the line that is being run, the next line,
 // the last lines, and where the program stands after a read or a write. The layer promises that each is what specs/Pass.antt gives it, and that a program
 // of such turns prints the sheet of the script that it reads, whatever more words it knows than passday (EveryProgram in specs/Run.antt).
+#![tactic(auto)]
+
 ghost use Rattle.std.specs.Prelude.{◌≡◌, ◌+◌, ◌-◌, true, false, if◌then◌else◌, ◌==◌};
 ghost use Rattle.input.specs.Parts.{least_of, wrapped};
 ghost use Rattle.input.specs.Input.{find_of};
@@ -19,7 +21,7 @@ use std::num::wrapping_add_usize;
 
 // The script, where the bytes that are not yet read as lines stand in the input, whether the input has ended, the number of lines begun, and how
 // many bytes of the text wait to be written.
-#[derive(Drop)]
+#[derive(Clone, Copy)]
 pub struct Pass {
     pub day: Day,
     pub from: usize,
@@ -31,7 +33,7 @@ pub struct Pass {
 }
 
 // Going on; with the last lines put and only writing left; over with all written; or over because writing failed.
-#[derive(Drop)]
+#[derive(Clone, Copy)]
 pub enum Stage {
     Going,
     Last,
@@ -40,7 +42,7 @@ pub enum Stage {
 }
 
 // What a turn does.
-#[derive(Drop)]
+#[derive(Clone, Copy)]
 pub enum Next {
     Step,
     Line(usize),

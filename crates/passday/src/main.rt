@@ -1,6 +1,8 @@
 // The script program: reads a script's lines from standard input, runs them against a server of 128 blocks, 32 files, 4 sessions and MAXSEL 50, and
 // prints what it answers. All but reading and writing is done by the crate script. In whatever pieces the input comes, the program goes on until the
 // script ends, and what it then has written is the sheet of the script that it read (specs/Run.antt, Whole.antt).
+#![tactic(auto)]
+
 mod pass;
 
 ghost use Rattle.std.specs.Prelude.{◌≡◌, false, length};

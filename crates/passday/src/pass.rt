@@ -21,7 +21,7 @@ use std::num::wrapping_add_usize;
 
 // The script, where the bytes that are not yet read as lines stand in the input, whether the input has ended, the number of lines begun, and how
 // many bytes of the text wait to be written.
-#[derive(Drop)]
+#[derive(Clone, Copy)]
 pub struct Pass {
     day: Day,
     from: usize,
@@ -33,7 +33,7 @@ pub struct Pass {
 }
 
 // Going on; with the last lines put and only writing left; over with all written; or over because writing failed.
-#[derive(Drop)]
+#[derive(Clone, Copy)]
 pub enum Stage {
     Going,
     Last,
@@ -42,7 +42,7 @@ pub enum Stage {
 }
 
 // What a turn does.
-#[derive(Drop)]
+#[derive(Clone, Copy)]
 enum Next {
     Step,
     Line(usize),

@@ -4,6 +4,8 @@
 // as a pointer and a length. It takes any slices and any numbers, asks nothing of its caller, and promises what the call below promises:
 // the contracts cite the same definitions. An answer of several cases becomes one number: a refusal's number stands below 256, and 256 plus
 // a place or a count is an answer that is no refusal.
+#![tactic(auto)]
+
 ghost use Rattle.std.specs.Prelude.{◌≡◌, cond, ◌≤◌, ◌<◌, length, take};
 ghost use Rattle.blocks.specs.FreeMap.{free_count};
 ghost use Rattle.blocks.specs.Answers.{make_number, make_map, make_owner, window_number, read_out};

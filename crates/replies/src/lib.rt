@@ -1,5 +1,7 @@
 // What the program `equations` prints for a line: an equation as on paper turned into its bytes, or bytes written back as on paper. The layer promises that
 // each line gets the line that specs/Reply.antt gives it.
+#![tactic(auto)]
+
 ghost use Rattle.std.specs.Prelude.{◌≡◌, ◌+◌, ◌*◌, ◌≤◌, leb, length, take};
 ghost use Rattle.std.proofs.lemmas.List.Edits.{sets};
 ghost use Rattle.lines.specs.Numerals.{bytes_in};
@@ -19,14 +21,14 @@ use numbers::{hex_digit, store};
 use paper::to_bytes;
 
 // A line can't be read; or a line of so many bytes stands at the front of the text, 0 where the text is too short for it.
-#[derive(Drop)]
+#[derive(Clone, Copy)]
 pub enum Reply {
     Unreadable,
     Line(usize),
 }
 
 // A reason's word: the first `size` of the bytes, the others zero.
-#[derive(Drop)]
+#[derive(Clone, Copy)]
 pub struct Word {
     bytes: [u8; 10],
     size: usize,

@@ -9,7 +9,7 @@ use server::{Done, Server};
 use session::reply::Answer;
 
 // What is handed over: nothing, or for a session the bytes of the line from a place to another.
-#[derive(Drop)]
+#[derive(Clone, Copy)]
 enum Heard {
     Nothing,
     Part(u32, usize, usize),

@@ -6,7 +6,7 @@ use input::parts::rest;
 use session::reply::Answer;
 
 // Nothing; or opening or dropping a session's link, handing over the bytes of a line from a place to their number, or asking for what is due.
-#[derive(Drop)]
+#[derive(Clone, Copy)]
 pub enum Doing {
     Rest,
     Opening(u32),

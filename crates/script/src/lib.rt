@@ -5,6 +5,8 @@
 //
 // The caller keeps the script and the slices from step to step, and nobody else writes to them. So each call is told that the state is sound; from a
 // server just made on, each is the server's own call, with the test of 35 (EveryScript in specs/Reached.antt).
+#![tactic(auto)]
+
 mod calling;
 pub mod doing;
 mod printing;
@@ -23,7 +25,7 @@ use lines::Command;
 use server::{Done, Server};
 
 // The script between two calls: the server, the clock, and what is being done.
-#[derive(Drop)]
+#[derive(Clone, Copy)]
 pub struct Day {
     pub server: Server,
     pub clock: u32,
@@ -31,7 +33,7 @@ pub struct Day {
 }
 
 // The script after a step, and how many bytes were printed.
-#[derive(Drop)]
+#[derive(Clone, Copy)]
 pub struct Stepped {
     pub day: Day,
     pub written: usize,

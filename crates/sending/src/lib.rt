@@ -1,5 +1,7 @@
 // What is due on a session's downlink at a request of the driver: one packet, or nothing. An output that has no room for every packet is refused by
 // 32, and nothing changes.
+#![tactic(auto)]
+
 ghost use Rattle.std.specs.Prelude.{◌≡◌, ◌+◌, ◌*◌, ◌≤◌, length};
 ghost use Rattle.table.specs.Table.{files};
 ghost use Rattle.sending.specs.Sending.{asked, least_of, data_of, sending_of, listed_as, listing_of, due_of, due_in};
@@ -9,7 +11,7 @@ use session::reply::{Answer, Reply};
 use session::state::{Downlink, Listed, Session};
 
 // The session after a request, and the answer.
-#[derive(Drop)]
+#[derive(Clone, Copy)]
 pub struct Asked {
     pub session: Session,
     pub answer: Answer,

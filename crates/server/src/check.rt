@@ -6,14 +6,14 @@ ghost use Rattle.server.specs.Check.{sizes_fit, room_fits, fits_in, in_state, se
 use crate::Server;
 
 // A call goes through for a session, counted from 0, or is refused.
-#[derive(Drop)]
+#[derive(Clone, Copy)]
 pub enum Check {
     Go(usize),
     Refuse(u8),
 }
 
 // The lengths of what is lent.
-#[derive(Drop)]
+#[derive(Clone, Copy)]
 pub struct Lengths {
     pub disk: usize,
     pub map: usize,

@@ -4,6 +4,8 @@
 // `sound` says whether the state is none that 35 refuses. A driver that is handed the state has it tested at each call (crate tested). One that keeps it
 // from call to call, the server that each call returned in the slices that it left, and shows it to nobody, says true: "35 .. never for a state that calls
 // made from the empty store". With true on a state that is not sound the calls are safe too, and do what their definitions say.
+#![tactic(auto)]
+
 mod calls;
 pub mod check;
 mod turns;
@@ -18,7 +20,7 @@ use session::reply::Answer;
 use session::state::Session;
 
 // The sizes, fixed when the server is made; the last number and time given; the sessions.
-#[derive(Drop)]
+#[derive(Clone, Copy)]
 pub struct Server {
     pub blocks: usize,
     pub files: usize,
@@ -29,14 +31,14 @@ pub struct Server {
 }
 
 // A call's answer, with the server after it.
-#[derive(Drop)]
+#[derive(Clone, Copy)]
 pub struct Done {
     pub server: Server,
     pub answer: Answer,
 }
 
 // A server just made (crate making), and the number of a refusal, 0 for none.
-#[derive(Drop)]
+#[derive(Clone, Copy)]
 pub struct Made {
     pub refused: u8,
     pub server: Server,

@@ -6,7 +6,7 @@ ghost use Rattle.session.specs.Reply.{sent_info, answered, told};
 use numbers::write32;
 
 // What a packet or a request is answered with.
-#[derive(Drop)]
+#[derive(Clone, Copy)]
 pub enum Reply {
     Nothing,
     Closing,
@@ -24,7 +24,7 @@ pub enum Reply {
 
 // The answer of a call: how many bytes it took, and whether nothing is sent, a packet of so many bytes, or the link is closed; or
 // the number of a local refusal.
-#[derive(Drop)]
+#[derive(Clone, Copy)]
 pub enum Answer {
     Quiet(usize),
     Sent(usize, usize),

@@ -4,7 +4,7 @@ ghost use Rattle.session.specs.State.{closed_session, fresh_session, with_up, wi
 ghost use Rattle.session.specs.Expected.{takes_data, takes_upload, takes_command, takes_ack, takes_nak, expected_up, expected_down, expected};
 
 // The uplink. Receiving carries the file's place, the offset at which this link began, and the bytes received on it since.
-#[derive(Drop)]
+#[derive(Clone, Copy)]
 pub enum Uplink {
     Idle,
     Receiving {
@@ -17,7 +17,7 @@ pub enum Uplink {
 
 // The files of a directory: the one at a place, or those of the session's selection from one on up to the session's place in it, which the command
 // moved past the last of them. No command moves that place before DATA_END goes out, so all of them are known until then.
-#[derive(Drop)]
+#[derive(Clone, Copy)]
 pub enum Listed {
     One(usize),
     Selected(usize),
@@ -26,7 +26,7 @@ pub enum Listed {
 // The downlink. Sending carries the file's place, the offset asked for, and the bytes sent since. Ended: DATA_END is sent.
 // Aborting: DATA_END is sent after DL_NAK_CMD, and DL_ABORTED_RESP is due. Listing is a directory: of which files, in the long form or the short
 // one, how many of them lie behind, and how many bytes of the next one's entry.
-#[derive(Drop)]
+#[derive(Clone, Copy)]
 pub enum Downlink {
     Idle,
     Sending {
@@ -50,7 +50,7 @@ pub enum Downlink {
 
 // A session: whether its link is there, the two states, how many bytes of an unfinished packet are held, how many files are
 // selected, and which of them is next.
-#[derive(Drop)]
+#[derive(Clone, Copy)]
 pub struct Session {
     pub linked: bool,
     pub up: Uplink,

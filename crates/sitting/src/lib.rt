@@ -1,6 +1,8 @@
 // The run of the programs `desk` and `sheet`: lines are read from standard input, run against a server of passday's sizes, and what crates/marking
 // defines is written to standard output. In whatever pieces the input comes, the run goes on until the input ends or a line can't be read, and what it
 // then has written is the output for the input that it read (specs/Run.antt, Whole.antt).
+#![tactic(auto)]
+
 pub mod turn;
 
 ghost use Rattle.std.specs.Prelude.{◌≡◌, false, length};

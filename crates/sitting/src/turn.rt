@@ -25,7 +25,7 @@ use std::num::wrapping_add_usize;
 const ROOM: usize = 131700;
 
 // What is printed, the verdict so far, the right lines before, and where the answer of the line that is being run stands in the input.
-#[derive(Drop)]
+#[derive(Clone, Copy)]
 pub struct Mark {
     kind: Kind,
     verdict: Verdict,
@@ -35,7 +35,7 @@ pub struct Mark {
 
 // The script, its marks, where the bytes that are not yet read as lines stand in the input, whether the input has ended, the number of lines begun,
 // and how many bytes of the text wait to be written.
-#[derive(Drop)]
+#[derive(Clone, Copy)]
 pub struct Sitting {
     day: Day,
     mark: Mark,
@@ -48,7 +48,7 @@ pub struct Sitting {
 }
 
 // Going on; with the last lines put and only writing left; over with all written; or over because writing failed.
-#[derive(Drop)]
+#[derive(Clone, Copy)]
 pub enum Stage {
     Going,
     Last,
@@ -57,7 +57,7 @@ pub enum Stage {
 }
 
 // What a turn does.
-#[derive(Drop)]
+#[derive(Clone, Copy)]
 pub enum Next {
     Step,
     Finish,

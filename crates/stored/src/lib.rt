@@ -2,6 +2,8 @@
 // its contents are the bytes received of what they hold. Each function promises what crates/header or crates/equation says of those contents,
 // with no buffer of a file's size: a file is scanned block by block, and an equation meets the header's items one by one.
 // No function asks anything of its caller: sizes outside the table are refused by 33.
+#![tactic(auto)]
+
 ghost use Rattle.std.specs.Prelude.{◌≡◌, ◌+◌, ◌*◌, ◌/◌, ◌≤◌, ◌<◌, length, get_or, take, drop};
 ghost use Rattle.numbers.specs.Numbers.{two};
 ghost use Rattle.blocks.specs.Owners.{nth};
@@ -229,7 +231,7 @@ pub fn set_fields(
 // ---- the items of a header, one by one, through a cursor over the file's blocks
 
 // Where a file is read: one of its blocks, by its index in the file and by its number.
-#[derive(Drop)]
+#[derive(Clone, Copy)]
 struct Cursor {
     index: usize,
     block: usize,

@@ -7,6 +7,8 @@
 // Every public function takes any table and any numbers and asks nothing of its caller. A record past the last place reads as no file, and storing
 // one there is refused by 33 and changes nothing. No function but `records_fit` and `distinct` checks the whole table: what the others find
 // where two files share a number or a time is defined too (the lowest place), and the laws in proofs/ say what they find where none do.
+#![tactic(auto)]
+
 ghost use Rattle.std.specs.Prelude.{◌≡◌, true, cond, ◌+◌, ◌/◌, ◌≤◌, ◌<◌, length, get_or, take, drop, eqb, ltb};
 ghost use Rattle.table.specs.Table.{files, file_at, put_number, put_table, is_complete, is_partial, is_kind, uploaded, key_of, keys, times, count_of, first_with, find_of, free_of};
 ghost use Rattle.table.specs.Given.{next_number, upload_time, blocks_for};
@@ -14,7 +16,7 @@ ghost use Rattle.table.specs.Order.{lesser, least_above, next_complete};
 ghost use Rattle.table.specs.Fit.{file_fits, record_fits, records_fit, among, apart, distinct_of};
 
 // The record of a file place.
-#[derive(Drop)]
+#[derive(Clone, Copy)]
 pub struct File {
     pub number: u32,
     pub size: u32,
@@ -23,14 +25,14 @@ pub struct File {
 }
 
 // A place, or none.
-#[derive(Drop)]
+#[derive(Clone, Copy)]
 pub enum Found {
     Nothing,
     At(usize),
 }
 
 // A number or a time that is given, or none: they are used up.
-#[derive(Drop)]
+#[derive(Clone, Copy)]
 pub enum Given {
     UsedUp,
     Next(u32),
@@ -100,7 +102,7 @@ pub fn upload_time_of(file: File) -> u32
 // ---- finding
 
 // What a file is found by: its number or its upload time.
-#[derive(Drop)]
+#[derive(Clone, Copy)]
 pub enum Key {
     Number,
     Time,
@@ -149,7 +151,7 @@ pub fn free_place(table: &[u32]) -> Found
 
 // ---- counting
 
-#[derive(Drop)]
+#[derive(Clone, Copy)]
 enum Kind {
     Partial,
     Complete,

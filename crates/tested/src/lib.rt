@@ -1,5 +1,7 @@
 // The server's calls for a driver that is handed the state: each tests the whole of it first, and refuses by 35 where its facts are broken. Every call has
 // an answer, whatever it is handed.
+#![tactic(auto)]
+
 ghost use Rattle.std.specs.Prelude.{◌≡◌, false, cond, ◌+◌, ◌*◌, ◌/◌, ◌≤◌, length};
 ghost use Rattle.server.specs.State.{lent, outcome, words};
 ghost use Rattle.server.specs.Check.{fits, sound_parts};

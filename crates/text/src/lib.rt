@@ -4,6 +4,8 @@
 // The layer promises `matches`, a plain relation of constant and item, for texts of every length, with no recursion and no buffer: after a
 // `*` the first place where the bytes up to the next `*` fit is as good as any later one, so only the last `*` is ever gone back to.
 // Every comparison of a pattern byte with a text byte is counted: they are at most the product of both lengths (`comparisons`).
+#![tactic(auto)]
+
 ghost use Rattle.std.specs.Prelude.{◌≡◌, false, cond, ◌+◌, ◌*◌, ◌≤◌, eqb, length};
 ghost use Rattle.text.specs.Match.{lower, any_tail, matches};
 ghost use Rattle.text.specs.Steps.{plain, fitting, star_at};
@@ -35,14 +37,14 @@ fn fit(p: u8, t: u8) -> bool
 }
 
 // What a run found: how many pattern bytes fit, and how many comparisons of a pattern byte with a text byte it took.
-#[derive(Drop)]
+#[derive(Clone, Copy)]
 struct Run {
     fitting: usize,
     compared: u64,
 }
 
 // Whether the match is one, and how many comparisons it took, of which no more are counted than 64 bits hold.
-#[derive(Drop)]
+#[derive(Clone, Copy)]
 struct Counted {
     matched: bool,
     comparisons: u64,

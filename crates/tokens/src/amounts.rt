@@ -8,21 +8,21 @@ use names::bytes::{byte_of, is_digit};
 use names::table::row_of;
 
 // A number and the place behind its digits, or the place of the digit that takes it above 4,294,967,295.
-#[derive(Drop)]
+#[derive(Clone, Copy)]
 pub enum Amount {
     Is(u32, usize),
     Large(usize),
 }
 
 // A number's width and the place behind it, or the first wrong place.
-#[derive(Drop)]
+#[derive(Clone, Copy)]
 pub enum Size {
     Is(u8, usize),
     Wrong(usize),
 }
 
 // A number: its value, its width and the place behind it; or the first wrong place and the reason.
-#[derive(Drop)]
+#[derive(Clone, Copy)]
 pub enum Number {
     Is(u32, u8, usize),
     Wrong(usize, Reason),

@@ -6,7 +6,7 @@ use names::bytes::{byte_of, hex_value, is_blank};
 use names::table::{Found, find_name};
 
 // An item: its id and the place behind it, or the first wrong place.
-#[derive(Drop)]
+#[derive(Clone, Copy)]
 pub enum Item {
     Is(u16, usize),
     Wrong(usize),

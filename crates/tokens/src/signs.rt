@@ -7,7 +7,7 @@ use grammar::Comparison;
 use names::bytes::byte_of;
 
 // An operator and the place behind it, or the first wrong place.
-#[derive(Drop)]
+#[derive(Clone, Copy)]
 pub enum Sign {
     Is(Comparison, usize),
     Wrong(usize),

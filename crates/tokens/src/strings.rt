@@ -6,7 +6,7 @@ use grammar::Reason;
 use names::bytes::{byte_of, hex_value, is_printed};
 
 // A character of a string: its byte and the place behind it; the string's end; or the first wrong place and the reason.
-#[derive(Drop)]
+#[derive(Clone, Copy)]
 pub enum Character {
     Is(u8, usize),
     End,

@@ -8,6 +8,8 @@
 // The equation is parsed once. The file's header is read once; then one pass over the steps, with a stack of at most 100 results, finds the
 // truth and the reasons together. The older files are counted by the same steps.
 // No function asks anything of its caller. A refusal is a number of document 01's table and leaves everything as it was.
+#![tactic(auto)]
+
 ghost use Rattle.std.specs.Prelude.{◌≡◌, ◌+◌, ◌/◌, ◌≤◌, ◌<◌, cond, ◌++◌, length, take, drop};
 ghost use Rattle.std.proofs.Math.Option.{some};
 ghost use Rattle.header.specs.Items.{fields_of};
@@ -30,7 +32,7 @@ mod reasons;
 // The number of a refusal, 0 for none; whether the equation is true on the file; whether it is and at least MAXSEL older complete files match,
 // so that a SELECT does not list the file; how many older ones match, counted where the equation is true on the file; how many relations are
 // named.
-#[derive(Drop)]
+#[derive(Clone, Copy)]
 pub struct Explained {
     pub refused: u8,
     pub matched: bool,

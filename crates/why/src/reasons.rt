@@ -7,7 +7,7 @@ ghost use Rattle.equation.specs.Parsed.{relations_by};
 ghost use Rattle.why.specs.Run.{settles, joined_row, result_by, Tells};
 
 // Whether the equation is true, and how many relations decided it.
-#[derive(Drop)]
+#[derive(Clone, Copy)]
 pub(crate) struct Decided {
     pub(crate) matched: bool,
     pub(crate) count: usize,

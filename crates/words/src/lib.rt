@@ -1,5 +1,7 @@
 // What the program `classday` prints for a line of `why` or `why-bytes`: why a file was or was not in the list of an equation, which is written as on paper
 // or in hex. The layer promises that each line gets the line that specs/Why.antt gives it, and that nothing changes where a line can't be read.
+#![tactic(auto)]
+
 ghost use Rattle.std.specs.Prelude.{◌≡◌, ◌∷◌, ◌+◌, ◌≤◌, length, take};
 ghost use Rattle.lines.specs.Numerals.{decimal_at};
 ghost use Rattle.lines.specs.Text.{decimal_of};
