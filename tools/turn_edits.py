@@ -185,7 +185,9 @@ def borders(text):
 
 
 def likeness(a, b):
-    return difflib.SequenceMatcher(None, a, b, autojunk=False).ratio()
+    """How like two texts are, as they are and without blanks and brackets."""
+    bare = [re.sub(r"[\s()]", "", t) for t in (a, b)]
+    return difflib.SequenceMatcher(None, a, b, autojunk=False).ratio() + difflib.SequenceMatcher(None, *bare, autojunk=False).ratio()
 
 
 def smallest(now, then, text, was_old, was_new):
@@ -203,9 +205,9 @@ def smallest(now, then, text, was_old, was_new):
                 break
             old = now[start:end]
             new = then[start : len(then) - (len(now) - end)]
-            if not old.strip() or text.count(old) != 1 or old.endswith(" ") or old.startswith("\n"):
+            if not old.strip() or text.count(old) != 1 or old.endswith(" ") or (old[0].isspace() and not was_old[0].isspace()):
                 continue
-            score = likeness(old, was_old) + likeness(new, was_new)
+            score = likeness(old, was_old) + likeness(new, was_new) + 0.3 * (old[0] == was_old[0])
             if best is None or score > best[0]:
                 best = score, old, new
     return best and best[1:]
