@@ -417,6 +417,8 @@ def main():
 
                 def put(m):
                     root, tail = (m[1], m[2]) if m[1] else (m[3], "")
+                    if not tail and re.match(r" = ", m.string[m.end():]) and re.search(r"[{;]\s*$", m.string[: m.start()]):
+                        return root
                     return table.get(root, root) + tail
 
                 new = PATH.sub(put, body)
