@@ -1,6 +1,5 @@
 -- `equation::evaluation::outcome` meets its contract. Assumes nothing.
 use mathlib.Core.Path.{◌∙◌}
-use Prim.Native.Nat.{◌-◌}
 use native.Mathlib.Omega.{arith}
 use Rattle.equation.proofs.Runs as runs
 use Rattle.equation.proofs.evaluation.outcome.Goals as goal

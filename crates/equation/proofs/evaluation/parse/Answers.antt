@@ -1,7 +1,6 @@
 -- `equation::evaluation::parse` meets its contract. Assumes nothing.
 use Rattle.equation.proofs.Parsing.{parse_long, parse_little, parse_fits, parse_done}
 use borrow.Author.Rules.{rules}
-use Rattle.std.proofs.Common.{arith}
 use Rattle.equation.proofs.evaluation.parse.Goals as goal
 
 pub returns-then-eq-gt2047 : goal.returns-then-eq-gt2047

@@ -1,5 +1,4 @@
 -- `equation::evaluation::settle` meets its contract. Assumes nothing.
-use Prim.Native.Nat.{◌-◌}
 use native.Mathlib.Omega.{arith}
 use Rattle.equation.proofs.MarkLaws as marks
 use Rattle.equation.proofs.evaluation.settle.Goals as goal

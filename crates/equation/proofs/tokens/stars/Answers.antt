@@ -1,5 +1,4 @@
 -- `equation::tokens::stars` meets its contract. Assumes nothing.
-use Prim.Native.Nat.{◌-◌}
 use native.Mathlib.Omega.{arith}
 use Rattle.equation.proofs.TokenLaws as tokens
 use Rattle.equation.proofs.tokens.stars.Goals as goal
