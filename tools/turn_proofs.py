@@ -194,6 +194,8 @@ class Function:
                     segs = self.of_call(segs, 0, calls[root])
                 return ".".join([root] + segs)
             segs = [s for s in segs if s != "before"]
+            if segs and segs[0] == "well-formed":
+                segs[0] = "well_formed"
             if not segs:
                 return root
             key = norm(segs[0])
@@ -456,8 +458,6 @@ def main():
                 # the check finds by itself what it asks of its own steps
                 if body.strip() == "search rules" or re.match(r"(enum_told|enum_known|known_told)", new):
                     continue
-                if len(args) > 1 and args[1] != "κs":
-                    said.append(f"arguments of {name}: {args}")
                 if re.search(r"\bκs\b", body):
                     said.append(f"κs in {name}")
                 old = next((o for o, n in data["needs"] if n == new), None)
@@ -466,7 +466,7 @@ def main():
                 nb = answer_body(nb, asked)
                 if nb.strip() == "search rules":
                     continue
-                entry = f"pub {new} : goal.{new}\n" + (unfolding + "\n" if unfolding else "") + f"{new} {args[0] if args else 'c'} ={nb}"
+                entry = f"pub {new} : goal.{new}\n" + (unfolding + "\n" if unfolding else "") + f"{new} {' '.join(a for a in args if a != 'κs') or 'c'} ={nb}"
                 answers.append("\n".join(d["comment"] + [entry]))
                 continue
             if norm(name) in f.helpers:
