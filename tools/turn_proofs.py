@@ -177,7 +177,7 @@ class Function:
         parts = {}
         for m in re.finditer(rf"\blet ({SEG}) = ({SEG})((?:\.(?:{SEG}|\d+))+) in\b\s*", text):
             segs = [x for x in m[3][1:].split(".") if x != "before"]
-            if m[2] in contexts and "given" in segs[1:] and any(k[: len(segs)] == (norm(segs[0]),) + tuple(segs[1:]) for k in self.rows_at.get(goal, {})):
+            if segs and m[2] in contexts and any(k[: len(segs)] == (norm(segs[0]),) + tuple(segs[1:]) for k in self.rows_at.get(goal, {})):
                 parts[m[1]] = (m[2], segs, m[0])
         for name, (_, _, whole) in parts.items():
             text = text.replace(whole, "")

@@ -1,0 +1,22 @@
+use Rattle.script.specs.Doing.{after_of}
+use Rattle.script.proofs.doing.after.Goals as goal
+
+pub returns-in-Rest : goal.returns-in-Rest
+unfolding after_of
+returns-in-Rest c = rw c.in-Rest.is
+
+pub returns-in-Opening : goal.returns-in-Opening
+unfolding after_of
+returns-in-Opening c = rw c.in-Opening.is
+
+pub returns-in-Dropping : goal.returns-in-Dropping
+unfolding after_of
+returns-in-Dropping c = rw c.in-Dropping.is
+
+pub returns-in-Hearing : goal.returns-in-Hearing
+unfolding after_of
+returns-in-Hearing c = rw (c.in-Hearing.is, c.heard_on.ensures)
+
+pub returns-in-Pumping : goal.returns-in-Pumping
+unfolding after_of
+returns-in-Pumping c = rw (c.in-Pumping.is, c.pumped_on.ensures)
