@@ -1,0 +1,16 @@
+use native.Mathlib.Omega.{arith}
+use lib.ListN.{length-set}
+use Rattle.embed.proofs.Writing.{run_four}
+use Rattle.embed.proofs.words.write4.Goals as goal
+
+pub bounds-state-at-2 : goal.bounds-state-at-2
+bounds-state-at-2 c = simp length-set (omega arith)
+
+pub bounds-state-at-3 : goal.bounds-state-at-3
+bounds-state-at-3 c = simp length-set (omega arith)
+
+pub bounds-state-at-4 : goal.bounds-state-at-4
+bounds-state-at-4 c = simp length-set (omega arith)
+
+pub returns : goal.returns
+returns c = run_four c.args.state.now c.args.at c.args.a c.args.b c.args.c c.args.d
