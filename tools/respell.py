@@ -203,4 +203,5 @@ def main():
     print(f"respell: {len(rows)} names, {count} files")
 
 
-main()
+if __name__ == "__main__":
+    main()

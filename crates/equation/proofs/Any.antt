@@ -44,6 +44,7 @@ member_holds : (r : Relation) (y : Field) → met_by r y ≡ true → (xs : List
 unfolding holds
 member_holds r y h (x ∷ xs) (Memᴰ.head e) = ap (λ (b : Bool). b || holds r xs) (ap (met_by r) (sym e) ∙ h)
 member_holds r y h (x ∷ xs) (Memᴰ.tail m) = ap (λ (b : Bool). met_by r x || b) (member_holds r y h xs m) ∙ or-true (met_by r x)
+member_holds r y h [] x' = elim x' [ ]
 
 pub met_holds : (r : Relation) (xs : List Field) → Met r xs → holds r xs ≡ true
 met_holds r xs m =

@@ -1,5 +1,5 @@
 -- What the order of the items says of how often each id is there, and of where 01 to 0b stand. Assumes nothing.
-use Rattle.std.proofs.Common.{◌≡◌, ℕ, zero, suc, ◌+◌, ◌-◌, ◌<◌, ◌≤◌, Bool, true, false, cond, eqb, ltb, leb, List, [], ◌∷◌, length, sym, refl, ◌∙◌, arith, ltb-true, eq-eqb, ne_eqb, eqb-true, le-leb, leb-false, leb-true}
+use Rattle.std.proofs.Common.{ap, ◌≡◌, ℕ, zero, suc, ◌+◌, ◌-◌, ◌<◌, ◌≤◌, Bool, true, false, cond, eqb, ltb, leb, List, [], ◌∷◌, length, sym, refl, ◌∙◌, arith, ltb-true, eq-eqb, ne_eqb, eqb-true, le-leb, leb-false, leb-true}
 use borrow.Author.Tests.{eqb-false, lt-leb}
 use Rattle.header.specs.Items.{Field}
 use Rattle.header.specs.Header.{listed, every, count_if, times, bytes_of, length_in, listed_length, length_fits, fits, ordered, proper, complete, place_from}
@@ -353,4 +353,4 @@ place_chain (suc k) last (suc d) at (x ∷ xs) h l c f =
     let i : last + suc (suc d) ≡ suc last + suc d = omega arith in
     let n = chain_length x last k h c.0 p.0 in
     let a : at + (3 + listed_length (suc last)) + before d (suc last) + 3 ≡ at + (3 + listed_length (suc last) + before d (suc last)) + 3 = omega arith in
-    rw (i, c.0, ne_eqb (suc last) (suc last + suc d) (λ z. omega arith), n) (place_chain k (suc last) d (at + (3 + listed_length (suc last))) xs (omega arith) (omega arith) c.1 p.1 ∙ rw a)
+    rw (i, c.0, ne_eqb (suc last) (suc last + suc d) (λ z. omega arith), n) (ap (λ (z : ℕ). place_from z (at + (3 + listed_length (suc last))) xs) i ∙ place_chain k (suc last) d (at + (3 + listed_length (suc last))) xs (omega arith) (omega arith) c.1 p.1 ∙ rw a)

@@ -24,6 +24,7 @@ Rising b (f ∷ fs) = (b < f.time) × Rising f.time fs
 rising_in : (b : ℕ) (fs : List File) (f : File) → Rising b fs → In f fs → b < f.time
 rising_in b (g ∷ fs) f r (Memᴰ.head e) = subst (λ (x : File). b < x.time) (sym e) r.0
 rising_in b (g ∷ fs) f r (Memᴰ.tail m) = omega (arith, r.0, rising_in g.time fs f r.1 m)
+rising_in b [] f r x'' = elim x'' [ ]
 
 pub not_in : {P : Type 0} (f : File) → In f [] → P
 not_in f = elim [ ]
@@ -78,6 +79,7 @@ placed_there g (x ∷ xs) f m = go (ltb x.time g.time) m (placed_there g xs f)
     go true (Memᴰ.head e) h = Memᴰ.head e
     go true (Memᴰ.tail m) h = Memᴰ.tail (h m)
     go false m h = Memᴰ.tail m
+placed_there g [] f m = elim m [ ]
 
 placed_in : (g : File) (xs : List File) (f : File) → In f (placed g xs) → (f ≡ g) ⊎ In f xs
 unfolding placed
@@ -130,6 +132,7 @@ pub by_time_back : (xs : List File) (f : File) → In f xs → In f (by_time xs)
 unfolding by_time
 by_time_back (x ∷ xs) f (Memᴰ.head e) = subst (λ (z : File). In z (placed x (by_time xs))) (sym e) (placed_here x (by_time xs))
 by_time_back (x ∷ xs) f (Memᴰ.tail m) = placed_there x (by_time xs) f (by_time_back xs f m)
+by_time_back [] f x' = elim x' [ ]
 
 pub by_time_rising : (xs : List File) → Apart xs → ((f : File) → In f xs → 0 < f.time) → Rising 0 (by_time xs)
 unfolding by_time
@@ -163,6 +166,7 @@ matching_in eq (x ∷ xs) f m = go (eqb x.time 0) refl (selects eq (fields_of x.
 
 pub matching_back : (eq : List ℕ) (xs : List File) (f : File) → In f xs → Matches eq f → In f (matching eq xs)
 unfolding matching
+matching_back eq [] f m k = elim m [ ]
 matching_back eq (x ∷ xs) f m k = go (eqb x.time 0) refl (selects eq (fields_of x.bytes)) refl m (λ n. matching_back eq xs f n k)
   where
     clash : false ≡ true → ⊥

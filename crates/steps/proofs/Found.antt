@@ -22,12 +22,14 @@ pub record Within (a b t : ℕ) (f : File) : Type 0 where
   pub time : f.time ≤ t
 
 pub numbers_in : (a b t : ℕ) (fs : List File) (f : File) → Numbers a b t fs → In f fs → Within a b t f
+numbers_in a b t [] f n x'' = elim x'' [ ]
 numbers_in a b t (x ∷ fs) f n (Memᴰ.head e) = subst (Within a b t) (sym e) (record { from = n.0; to = n.1; time = n.2 })
 numbers_in a b t (x ∷ fs) f n (Memᴰ.tail m) =
     let w = numbers_in x.number b t fs f n.3 m in record { from = omega (arith, n.0, w.from); to = w.to; time = w.time }
 
 pub in_find : (a b t : ℕ) (fs : List File) (f : File) → Numbers a b t fs → In f fs → find f.number fs ≡ some f
 unfolding find
+in_find a b t [] f n x'' = elim x'' [ ]
 in_find a b t (x ∷ fs) f n (Memᴰ.head e) = rw (eq-eqb x.number f.number (ap (λ (y : File). y.number) (sym e))) (ap some (sym e))
 in_find a b t (x ∷ fs) f n (Memᴰ.tail m) =
     rw (ne_eqb x.number f.number (λ z. let w = (numbers_in x.number b t fs f n.3 m).from in omega arith)) (in_find x.number b t fs f n.3 m)
@@ -65,6 +67,8 @@ numbers_of fs [] h = tt
 numbers_of fs (g ∷ gs) h = (h g (Memᴰ.head refl), numbers_of fs gs (λ f m. h f (Memᴰ.tail m)))
 
 take_in : (k : ℕ) (gs : List File) (f : File) → In f (take k gs) → In f gs
+take_in zero gs f x' = elim x' [ ]
+take_in (suc k) [] f x3 = elim x3 [ ]
 take_in (suc k) (g ∷ gs) f (Memᴰ.head e) = Memᴰ.head e
 take_in (suc k) (g ∷ gs) f (Memᴰ.tail m) = Memᴰ.tail (take_in k gs f m)
 

@@ -278,6 +278,7 @@ module _ (ts : List ℕ) where
   pub rising_above : (after : ℕ) (ps : List ℕ) (p : ℕ) → Rising after ts ps → Memᴰ p ps → after < get_or ts p 0
   rising_above after (q ∷ ps) p r (Memᴰ.head e) = rw e r.0
   rising_above after (q ∷ ps) p r (Memᴰ.tail m) = omega (arith, r.0, rising_above (get_or ts q 0) ps p r.1 m)
+  rising_above after [] p r x'' = elim x'' [ ]
 
   -- none but complete files above `after` stand in it
   pub places_above_law : (n after p : ℕ) → Memᴰ p (places_above n after ts) → after < get_or ts p 0
@@ -414,6 +415,7 @@ occurs_once ts after (q ∷ ps) p r (Memᴰ.tail m) =
     let b = rising_above ts (get_or ts q 0) ps p r.1 m in
     let n = ne_eqb q p (λ (e : q ≡ p). let u = ap (λ (k : ℕ). get_or ts k 0) e in omega arith) in
     rw (n, occurs_once ts (get_or ts q 0) ps p r.1 m)
+occurs_once ts after [] p r x'' = elim x'' [ ]
 
 module _ (after : ℕ) (fs : List File) where
   enough : (b : ℕ) → count_above b (times fs) ≤ length fs

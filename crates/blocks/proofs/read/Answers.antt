@@ -1,0 +1,43 @@
+-- `blocks::read` meets its contract. The bytes move where the sizes and the window fit; a refusal changes nothing.
+use Prim.Native.Nat.{◌+◌}
+use mathlib.Core.Path.{◌≡◌, sym, ◌∙◌}
+use native.Mathlib.Omega.{arith}
+use lib.ListN.{length, take, drop}
+use Rattle.blocks.specs.Contents.{held}
+use Rattle.blocks.specs.Answers.{window_number, read_out}
+use Rattle.blocks.proofs.Answers.{window_done, done, refused}
+use Rattle.blocks.proofs.read.Goals as goal
+
+pub overflow_add-place : goal.overflow_add-place
+overflow_add-place c =
+    let b = c in
+    let a = b.args in
+    omega (arith, (window_done (length a.disk.now) a.owner.now a.place a.at (length a.out.now) (sym b.window_number-refused.ensures ∙ b.if-refused-eq0.true)).sizes.place_most)
+
+pub get_runs-requires : goal.get_runs-requires
+get_runs-requires c =
+    let b = c in
+    let a = b.args in
+    let d = window_done (length a.disk.now) a.owner.now a.place a.at (length a.out.now) (sym b.window_number-refused.ensures ∙ b.if-refused-eq0.true) in
+    (d.sizes.most, d.sizes.bytes, d.room)
+
+pub shape_of-out-then-refused-eq0 : goal.shape_of-out-then-refused-eq0
+shape_of-out-then-refused-eq0 c = c.out-1.given
+
+pub returns-then-refused-eq0 : goal.returns-then-refused-eq0
+unfolding read_out
+returns-then-refused-eq0 c =
+    let b = c in
+    let a = b.args in
+    let n = window_number (length a.disk.now) a.owner.now a.place a.at (length a.out.now) in
+    let z : n ≡ 0 = sym b.window_number-refused.ensures ∙ b.if-refused-eq0.true in
+    record { value = sym z; out_after = c.get_runs.ensures ∙ sym (done n (take (length a.out.now) (drop a.at (held (a.place + 1) a.owner.now a.disk.now))) a.out.now z) }
+
+pub returns : goal.returns
+unfolding read_out
+returns c =
+    let a = c.args in
+    let e = c.window_number-refused.ensures in
+    let n = window_number (length a.disk.now) a.owner.now a.place a.at (length a.out.now) in
+    let z : n ≡ 0 → ⊥ = λ q. c.if-refused-eq0.false (e ∙ q) in
+    record { value = e; out_after = sym (refused n (take (length a.out.now) (drop a.at (held (a.place + 1) a.owner.now a.disk.now))) a.out.now z) }

@@ -1,0 +1,16 @@
+-- `decide::downlink::list_numbered` meets its contract. Assumes nothing.
+use borrow.Author.Tests.{eq-eqb, ne_eqb, lt-ltb, le-ltb}
+use Rattle.decide.specs.Downlink.{list_numbered}
+use Rattle.decide.proofs.downlink.list_numbered.Goals as goal
+
+pub returns-then-next-count : goal.returns-then-next-count
+unfolding list_numbered
+returns-then-next-count c = rw (eq-eqb _ _ c.if-number-eq0.true, lt-ltb _ _ c.if-next-count.true, ← c.ten_from.ensures)
+
+pub returns-then-number-eq0 : goal.returns-then-number-eq0
+unfolding list_numbered
+returns-then-number-eq0 c = rw (eq-eqb _ _ c.if-number-eq0.true, le-ltb _ _ c.if-next-count.false)
+
+pub returns : goal.returns
+unfolding list_numbered
+returns c = rw (← c.find-found.ensures, ne_eqb _ _ c.if-number-eq0.false) c.list_found.ensures

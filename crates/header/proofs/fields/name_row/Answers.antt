@@ -1,0 +1,14 @@
+use Rattle.header.proofs.fields.name_row.Goals as goal
+
+pub returns : goal.returns
+returns c =
+    rw (
+      c.hex_digit.ensures,
+      c.hex_digit-2.ensures,
+      c.hex_digit-3.ensures,
+      c.hex_digit-4.ensures,
+      c.hex_digit-5.ensures,
+      c.hex_digit-6.ensures,
+      c.hex_digit-7.ensures,
+      c.hex_digit-8.ensures,
+    )

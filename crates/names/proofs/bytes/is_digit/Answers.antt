@@ -1,0 +1,11 @@
+use borrow.Author.Tests.{lt-ltb, le-ltb}
+use Rattle.lines.specs.Numerals.{digit}
+use Rattle.names.proofs.bytes.is_digit.Goals as goal
+
+pub returns-then-b-lt48 : goal.returns-then-b-lt48
+unfolding digit
+returns-then-b-lt48 c = simp (lt-ltb _ _ c.if-b-lt48.true)
+
+pub returns-else-b-lt48 : goal.returns-else-b-lt48
+unfolding digit
+returns-else-b-lt48 c = simp (le-ltb _ _ c.if-b-lt48.false)
