@@ -41,7 +41,7 @@ def labels(root):
             # by lines: a function's clauses follow its head
             at = None
             for line in text.split("\n"):
-                h = re.match(r"\s*(?:pub )?(?:const )?fn (\w+)", line)
+                h = re.match(r"\s*(?:pub(?:\([a-z]+\))? )?(?:const )?fn (\w+)", line)
                 if h:
                     at = "::".join([crate] + mods + [h[1]])
                     found[at] = ([], [])

@@ -10,11 +10,13 @@ ghost use Rattle.server.specs.State.{lent};
 ghost use Rattle.pass.specs.Pass.{memory, passing, over_of};
 ghost use Rattle.classday.specs.Whole.{Ready, Played, PlayedAll, RanInMemory};
 
-use libc::STDOUT_FILENO;
 use pass::Pass;
+use std::io::{Stdin, Stdout};
 
 // Turns of the program, until it is over. Nothing says that the input ends, so they are counted down from a number that no run uses up.
 fn play(
+    stdin: Stdin,
+    stdout: Stdout,
     start: Pass,
     disk: &mut [u8],
     map: &mut [u64],
@@ -38,7 +40,7 @@ fn play(
     let mut turns = u64::MAX;
     while 0 < turns {
         pass = turn::turn(
-            pass, disk, map, owner, table, selected, held, input, bytes, text,
+            stdin, stdout, pass, disk, map, owner, table, selected, held, input, bytes, text,
         );
         turns = pass::turns_left(pass, turns);
     }
@@ -47,6 +49,8 @@ fn play(
 
 // Makes the server, and runs the script that is read against it.
 fn run(
+    stdin: Stdin,
+    stdout: Stdout,
     disk: &mut [u8],
     map: &mut [u64],
     owner: &mut [u16],
@@ -70,6 +74,8 @@ fn run(
     let made = making::make(128, 32, 4, 50, &*disk, map, owner, table, selected, held);
     let server = made.server;
     play(
+        stdin,
+        stdout,
         pass::new_pass(server),
         disk,
         map,
@@ -103,7 +109,7 @@ fn blank_text() -> [u8; 65536]
 }
 
 // The program's memory, and what is done in it.
-fn run_in_memory() -> Pass
+fn run_in_memory(stdin: Stdin, stdout: Stdout) -> Pass
     ensures { RanInMemory result }
 {
     let mut disk = blank_disk();
@@ -116,6 +122,8 @@ fn run_in_memory() -> Pass
     let mut bytes = blank_text();
     let mut text = blank_text();
     run(
+        stdin,
+        stdout,
         &mut disk,
         &mut map,
         &mut owner,
@@ -129,8 +137,9 @@ fn run_in_memory() -> Pass
 }
 
 // Where the first line can't be written, nothing is.
-fn main() {
-    if io::write_all(STDOUT_FILENO, b"session\tpacket\tinformation\n") {
-        run_in_memory();
+fn main(rt: HostRuntime) {
+    let mut stdout = rt.stdout();
+    if streams::write_all(&mut stdout, b"session\tpacket\tinformation\n") {
+        run_in_memory(rt.stdin(), stdout);
     }
 }

@@ -13,10 +13,10 @@ ghost use Rattle.pass.specs.Narrow.{Flushed, Filled};
 ghost use Rattle.classday.specs.Sheet.{class_words, reply_behind, prints_at};
 
 use input::parts::least;
-use libc::{STDIN_FILENO, STDOUT_FILENO};
 use pass::{Next, Pass};
 use replies::Reply;
 use server::Server;
+use std::io::{Stdin, Stdout};
 use std::num::wrapping_add_usize;
 
 // Room for any line that is printed.
@@ -147,34 +147,35 @@ fn begin_line(
 }
 
 // Writes the first n bytes of the text, and says whether all were written.
-fn write_front(text: &[u8], n: usize) -> bool {
+fn write_front(mut stdout: Stdout, text: &[u8], n: usize) -> bool {
     let size = least(n, text.len());
-    io::write_all(STDOUT_FILENO, &text[..size])
+    streams::write_all(&mut stdout, &text[..size])
 }
 
 // Writes out what waits (`waitingText`).
-fn flush(pass: Pass, text: &[u8]) -> Pass
+fn flush(stdout: Stdout, pass: Pass, text: &[u8]) -> Pass
     ensures { Flushed pass result }
 {
-    if write_front(text, pass.filled) {
+    if write_front(stdout, text, pass.filled) {
         return pass::written(pass);
     }
     pass::broken(pass)
 }
 
 // Moves the part of a line to the front of the input and reads more behind it.
-fn fill(pass: Pass, input: &mut [u8]) -> Pass
+fn fill(mut stdin: Stdin, pass: Pass, input: &mut [u8]) -> Pass
     ensures { Filled pass input.old result input.new }
 {
     let left = input::shift(input, pass.from, pass.end);
     let kept = least(left, input.len());
-    let got = libc::read(STDIN_FILENO, &mut input[kept..]);
-    let n = io::count(got, &input[kept..]);
+    let n = streams::read(&mut stdin, &mut input[kept..]);
     pass::refilled(pass, kept, n)
 }
 
 // One turn.
 pub(crate) fn turn(
+    stdin: Stdin,
+    stdout: Stdout,
     pass: Pass,
     disk: &mut [u8],
     map: &mut [u64],
@@ -215,8 +216,8 @@ pub(crate) fn turn(
         Next::Line(n) => begin_line(
             pass, n, &*disk, &*map, &*owner, &*table, &*input, bytes, text,
         ),
-        Next::Flush => flush(pass, &*text),
-        Next::Fill => fill(pass, input),
+        Next::Flush => flush(stdout, pass, &*text),
+        Next::Fill => fill(stdin, pass, input),
         Next::Last => pass::put_last(pass, &*map, &*owner, text),
         Next::Error => pass::put_error(pass, &*map, &*owner, text),
     }

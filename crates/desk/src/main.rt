@@ -7,13 +7,14 @@ ghost use Rattle.sitting.specs.Whole.{Sat};
 ghost use Rattle.marking.specs.declared.Kind.TheVariants as kind;
 
 use marking::Kind;
+use std::io::{Stdin, Stdout};
 
-fn run()
+fn run(stdin: Stdin, stdout: Stdout)
     ensures { Sat kind.Desk }
 {
-    sitting::sit(Kind::Desk);
+    sitting::sit(stdin, stdout, Kind::Desk);
 }
 
-fn main() {
-    run();
+fn main(rt: HostRuntime) {
+    run(rt.stdin(), rt.stdout());
 }

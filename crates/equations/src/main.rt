@@ -10,15 +10,16 @@ ghost use Rattle.equations.specs.Turn.{state};
 ghost use Rattle.equations.specs.Whole.{PlayedAll, RanInMemory};
 
 use progress::Progress;
+use std::io::{Stdin, Stdout};
 
 // Turns of the program, until it is over. Nothing says that the input ends, so they are counted down from a number that no run uses up.
-fn play(input: &mut [u8], text: &mut [u8]) -> Progress
+fn play(stdin: Stdin, stdout: Stdout, input: &mut [u8], text: &mut [u8]) -> Progress
     ensures { PlayedAll input.old text.old (state result input.new text.new) }
 {
     let mut progress = progress::new_progress();
     let mut turns = u64::MAX;
     while 0 < turns {
-        progress = progress::turn(progress, input, text);
+        progress = progress::turn(stdin, stdout, progress, input, text);
         turns = progress::turns_left(progress, turns);
     }
     progress
@@ -38,14 +39,14 @@ fn blank_text() -> [u8; 65536]
 }
 
 // The program's memory, and what is done in it.
-fn run_in_memory() -> Progress
+fn run_in_memory(stdin: Stdin, stdout: Stdout) -> Progress
     ensures { RanInMemory result }
 {
     let mut input = blank_input();
     let mut text = blank_text();
-    play(&mut input, &mut text)
+    play(stdin, stdout, &mut input, &mut text)
 }
 
-fn main() {
-    run_in_memory();
+fn main(rt: HostRuntime) {
+    run_in_memory(rt.stdin(), rt.stdout());
 }

@@ -9,8 +9,8 @@ ghost use Rattle.equations.specs.Turn.{error_put, beyond, reply_behind, answered
 
 use input::Found;
 use input::parts::least;
-use libc::{STDIN_FILENO, STDOUT_FILENO};
 use replies::Reply;
+use std::io::{Stdin, Stdout};
 use std::num::wrapping_add_usize;
 
 // Room for any line that is printed.
@@ -210,9 +210,9 @@ fn answer(progress: Progress, n: usize, input: &[u8], text: &mut [u8]) -> Progre
 }
 
 // Writes the first n bytes of the text, and says whether all were written.
-fn write_front(text: &[u8], n: usize) -> bool {
+fn write_front(mut stdout: Stdout, text: &[u8], n: usize) -> bool {
     let size = least(n, text.len());
-    io::write_all(STDOUT_FILENO, &text[..size])
+    streams::write_all(&mut stdout, &text[..size])
 }
 
 // After what waits was written: where only that was left, the program is done.
@@ -228,11 +228,11 @@ fn written_stage(stage: Stage) -> Stage
 }
 
 // Writes out what waits (`waitingText`).
-fn flush(progress: Progress, text: &[u8]) -> Progress
+fn flush(stdout: Stdout, progress: Progress, text: &[u8]) -> Progress
     ensures { Flushed progress result }
 {
     let stage = progress.stage;
-    if write_front(text, progress.filled) {
+    if write_front(stdout, text, progress.filled) {
         let then = written_stage(stage);
         return Progress {
             from: progress.from,
@@ -247,14 +247,13 @@ fn flush(progress: Progress, text: &[u8]) -> Progress
 }
 
 // Moves the part of a line to the front of the input and reads more behind it. A read that brings nothing, or fails, ends the input.
-fn fill(progress: Progress, input: &mut [u8]) -> Progress
+fn fill(mut stdin: Stdin, progress: Progress, input: &mut [u8]) -> Progress
     ensures { Filled progress input.old result input.new }
 {
     let stage = progress.stage;
     let left = input::shift(input, progress.from, progress.end);
     let kept = least(left, input.len());
-    let got = libc::read(STDIN_FILENO, &mut input[kept..]);
-    let n = io::count(got, &input[kept..]);
+    let n = streams::read(&mut stdin, &mut input[kept..]);
     Progress {
         from: 0,
         end: kept + n,
@@ -266,14 +265,20 @@ fn fill(progress: Progress, input: &mut [u8]) -> Progress
 }
 
 // One turn.
-pub(crate) fn turn(progress: Progress, input: &mut [u8], text: &mut [u8]) -> Progress
+pub(crate) fn turn(
+    stdin: Stdin,
+    stdout: Stdout,
+    progress: Progress,
+    input: &mut [u8],
+    text: &mut [u8],
+) -> Progress
     ensures { Turned DueTurn (state progress input.old text.old) (state result input.new text.new) }
 {
     let next = decide(progress, &*input, text.len());
     match next {
         Next::Line(n) => answer(progress, n, &*input, text),
-        Next::Flush => flush(progress, &*text),
-        Next::Fill => fill(progress, input),
+        Next::Flush => flush(stdout, progress, &*text),
+        Next::Fill => fill(stdin, progress, input),
         Next::End => with_stage(progress, Stage::Last),
         Next::Error => put_error(progress, text),
     }

@@ -14,6 +14,7 @@ use Rattle.paging.specs.Paging.{Entry, newest_of, Once, Rises}
 -- ---- members
 
 pub map_in : {A B : Type 0} (f : A → B) (x : A) (xs : List A) → Memᴰ x xs → Memᴰ (f x) (map f xs)
+map_in {A = A} {B = B} f x [] x'' = elim x'' [ ]
 map_in f x (y ∷ xs) (Memᴰ.head e) = Memᴰ.head (ap f e)
 map_in f x (y ∷ xs) (Memᴰ.tail m) = Memᴰ.tail (map_in f x xs m)
 
@@ -32,6 +33,7 @@ map_same f g [] h = refl
 map_same f g (x ∷ xs) h = ap₂ ◌∷◌ (h x (Memᴰ.head refl)) (map_same f g xs (λ y m. h y (Memᴰ.tail m)))
 
 pub in_left : {A : Type 0} (x : A) (xs ys : List A) → Memᴰ x xs → Memᴰ x (xs ++ ys)
+in_left {A = A} x [] ys x'' = elim x'' [ ]
 in_left x (y ∷ xs) ys (Memᴰ.head e) = Memᴰ.head e
 in_left x (y ∷ xs) ys (Memᴰ.tail m) = Memᴰ.tail (in_left x xs ys m)
 
@@ -60,6 +62,7 @@ map_map f g (x ∷ xs) = ap (λ l. f (g x) ∷ l) (map_map f g xs)
 -- ---- times that rise
 
 pub rises_above : (t : ℕ) (es : List Entry) → Rises t es → (e : Entry) → Memᴰ e es → t < e.time
+rises_above t [] r e x'' = elim x'' [ ]
 rises_above t (x ∷ es) r e (Memᴰ.head s) = subst (λ (y : Entry). t < y.time) (sym s) r.0
 rises_above t (x ∷ es) r e (Memᴰ.tail m) = omega (arith, r.0, rises_above x.time es r.1 e m)
 
@@ -83,6 +86,7 @@ pub record Beyond (n : ℕ) (es : List Entry) (e : Entry) : Type 0 where
   pub older : (f : Entry) → Memᴰ f (take n es) → f.time < e.time
 
 pub taken_or_beyond : (a n : ℕ) (es : List Entry) (e : Entry) → Rises a es → Memᴰ e es → Memᴰ e (take n es) ⊎ Beyond n es e
+taken_or_beyond a (suc n) [] e r m = elim m [ ]
 taken_or_beyond a zero es e r m = inr (record { full = refl; older = λ f k. absurd (Memᴰ.not-nil k) })
 taken_or_beyond a (suc n) (x ∷ es) e r (Memᴰ.head s) = inl (Memᴰ.head s)
 taken_or_beyond a (suc n) (x ∷ es) e r (Memᴰ.tail m) = go (taken_or_beyond x.time n es e r.1 m)

@@ -37,6 +37,7 @@ rising_entries t (f ∷ fs) r = (r.0, rising_entries f.time fs r.1)
 
 pub above_in : (t : ℕ) (fs : List File) (f : File) → In f (above t fs) → In f fs × (t < f.time)
 unfolding above
+above_in t [] f m = elim m [ ]
 above_in t (x ∷ fs) f m = go (ltb t x.time) refl m (above_in t fs f)
   where
     go : (b : Bool) → ltb t x.time ≡ b → In f (cond b (x ∷ above t fs) (above t fs)) → (In f (above t fs) → In f fs × (t < f.time))
@@ -47,6 +48,7 @@ above_in t (x ∷ fs) f m = go (ltb t x.time) refl m (above_in t fs f)
 
 pub in_above : (t : ℕ) (fs : List File) (f : File) → In f fs → t < f.time → In f (above t fs)
 unfolding above
+in_above t [] f x'' h = elim x'' [ ]
 in_above t (x ∷ fs) f (Memᴰ.head e) h = rw (lt-ltb t x.time (subst (λ (y : File). t < y.time) e h)) (Memᴰ.head e)
 in_above t (x ∷ fs) f (Memᴰ.tail m) h = later (ltb t x.time) (in_above t fs f m h)
   where

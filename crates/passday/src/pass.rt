@@ -12,11 +12,11 @@ ghost use Rattle.passday.specs.Narrow.{readable_of, Flushed, Filled};
 
 use input::Found;
 use input::parts::least;
-use libc::{STDIN_FILENO, STDOUT_FILENO};
 use lines::Command;
 use script::doing::Doing;
 use script::{Day, Stepped};
 use server::Server;
+use std::io::{Stdin, Stdout};
 use std::num::wrapping_add_usize;
 
 // The script, where the bytes that are not yet read as lines stand in the input, whether the input has ended, the number of lines begun, and how
@@ -270,9 +270,9 @@ fn begin_line(
 }
 
 // Writes the first n bytes of the text, and says whether all were written.
-fn write_front(text: &[u8], n: usize) -> bool {
+fn write_front(mut stdout: Stdout, text: &[u8], n: usize) -> bool {
     let size = least(n, text.len());
-    io::write_all(STDOUT_FILENO, &text[..size])
+    streams::write_all(&mut stdout, &text[..size])
 }
 
 // After what waits was written: where only that was left, the program is done.
@@ -288,12 +288,12 @@ fn written_stage(stage: Stage) -> Stage
 }
 
 // Writes out what waits (`waitingText`).
-fn flush(pass: Pass, text: &[u8]) -> Pass
+fn flush(stdout: Stdout, pass: Pass, text: &[u8]) -> Pass
     ensures { Flushed pass result }
 {
     let day = pass.day;
     let stage = pass.stage;
-    if write_front(text, pass.filled) {
+    if write_front(stdout, text, pass.filled) {
         let then = written_stage(stage);
         return Pass {
             day: day,
@@ -309,15 +309,14 @@ fn flush(pass: Pass, text: &[u8]) -> Pass
 }
 
 // Moves the part of a line to the front of the input and reads more behind it. A read that brings nothing, or fails, ends the input.
-fn fill(pass: Pass, input: &mut [u8]) -> Pass
+fn fill(mut stdin: Stdin, pass: Pass, input: &mut [u8]) -> Pass
     ensures { Filled pass input.old result input.new }
 {
     let day = pass.day;
     let stage = pass.stage;
     let left = input::shift(input, pass.from, pass.end);
     let kept = least(left, input.len());
-    let got = libc::read(STDIN_FILENO, &mut input[kept..]);
-    let n = io::count(got, &input[kept..]);
+    let n = streams::read(&mut stdin, &mut input[kept..]);
     Pass {
         day: day,
         from: 0,
@@ -331,6 +330,8 @@ fn fill(pass: Pass, input: &mut [u8]) -> Pass
 
 // One turn.
 pub(crate) fn turn(
+    stdin: Stdin,
+    stdout: Stdout,
     pass: Pass,
     disk: &mut [u8],
     map: &mut [u64],
@@ -369,8 +370,8 @@ pub(crate) fn turn(
             stepped(pass, s, size)
         }
         Next::Line(n) => begin_line(pass, n, &*map, &*owner, &*input, bytes, text),
-        Next::Flush => flush(pass, &*text),
-        Next::Fill => fill(pass, input),
+        Next::Flush => flush(stdout, pass, &*text),
+        Next::Fill => fill(stdin, pass, input),
         Next::Last => put_last(pass, &*map, &*owner, text),
         Next::Error => put_error(pass, &*map, &*owner, text),
     }

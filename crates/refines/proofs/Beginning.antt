@@ -75,7 +75,7 @@ module _ (c : Here) (size : ℕ) where
   started place e =
       moved c m (with_up (s0 c) (up.Receiving place 0 0)) (last_of (N + 1) sv.last.time) (reply.Go (N + 1) 0)
       ((M c).files ++ file (N + 1) size [] 0 ∷ []) (model.with_up (model.receiving (N + 1)) (k0 c)) c.linked
-      (stores.files_added (parts sv l c.i) m (facts sv l c.well-formed).store.files.numbers x.sound.files.numbers place (x.others l.disk) N x.free
+      (stores.files_added (parts sv l c.i) m (facts sv l c.good).store.files.numbers x.sound.files.numbers place (x.others l.disk) N x.free
       number
       ∙ ap (λ (f : File). (M c).files ++ f ∷ [])
       (ap₂ (λ (f : table.File) (bs : List ℕ). file f.number f.size bs f.time) x.file (x.bytes l.disk)))
@@ -83,10 +83,10 @@ module _ (c : Here) (size : ℕ) where
       (down_kept c m place x.sound.files.numbers (x.others l.disk) (λ (k : CompleteAt (fs c) place). k.number x.free))
       ∙ ap (λ (k : ℕ). model.with_up (model.receiving k) (k0 c)) number)
       ∙ ap (turn (reply.Go (N + 1) 0))
-      (sym (set_mk sv l c.well-formed c.i c.inside (model.with_up (model.receiving (N + 1))) (N + 1) sv.last.time ((M c).files ++ file (N + 1) size [] 0 ∷ []) (k0 c)))
+      (sym (set_mk sv l c.good c.i c.inside (model.with_up (model.receiving (N + 1))) (N + 1) sv.last.time ((M c).files ++ file (N + 1) size [] 0 ∷ []) (k0 c)))
     where
       x : BeginLeaves (map_part sv l) (owner_part sv l) (table_part sv l) N sv.last.time size place b
-      x = begin_leaves (map_part sv l) (owner_part sv l) (table_part sv l) N sv.last.time (facts sv l c.well-formed).store size place e
+      x = begin_leaves (map_part sv l) (owner_part sv l) (table_part sv l) N sv.last.time (facts sv l c.good).store size place e
 
       number : (record_at b.table place).number ≡ N + 1
       number = ap (λ (f : table.File). f.number) x.file
@@ -119,8 +119,8 @@ module _ (c : Here) (size : ℕ) where
         ≡ cond (leb (blocks_for size) (free_count (map_part sv l))) (Started place) (Refused 13)
     unfolding filesUp.begin_in filesUp.begin_at
     in_place place h =
-        rw (store_is (map_part sv l) (owner_part sv l) (table_part sv l) N sv.last.time (facts sv l c.well-formed).store (facts sv l c.well-formed).disk.some
-        (facts sv l c.well-formed).disk.most place h)
+        rw (store_is (map_part sv l) (owner_part sv l) (table_part sv l) N sv.last.time (facts sv l c.good).store (facts sv l c.good).disk.some
+        (facts sv l c.good).disk.most place h)
         (go _ _ _ (leb (blocks_for size) (free_count (map_part sv l))))
       where
         go : (map owner table : List ℕ) (t : Bool)
@@ -148,7 +148,7 @@ module _ (c : Here) (size : ℕ) where
             (ap (λ (x : filesUp.Begins). x.answer)
             (begin_in_law ∙ ap (λ (r : Found). filesUp.begin_in r (N + 1) size (map_part sv l) (owner_part sv l) (table_part sv l)) e) ∙ in_full)
             ∙ ap (λ (t : Bool). cond t (cond (leb (blocks_for size) (free (M c))) given (turn (reply.UploadError 13) (M c))) (turn (reply.UploadError 13) (M c)))
-            (sym (places_full sv l c.well-formed e))
+            (sym (places_full sv l c.good e))
         go (At place) e =
             ap outcome
             (ap (λ (x : filesUp.Begins). x.answer)
@@ -157,11 +157,11 @@ module _ (c : Here) (size : ℕ) where
             (omega (
               arith,
               (free_place (fs c) place e).0,
-              files_most (map_part sv l) (owner_part sv l) (table_part sv l) N sv.last.time (facts sv l c.well-formed).store,
+              files_most (map_part sv l) (owner_part sv l) (table_part sv l) N sv.last.time (facts sv l c.good).store,
             )))
             ∙ pick (leb (blocks_for size) (free_count (map_part sv l))) place
             ∙ ap₂ (λ (t : Bool) (k : ℕ). cond t (cond (leb (blocks_for size) k) given (turn (reply.UploadError 13) (M c))) (turn (reply.UploadError 13) (M c)))
-            (sym (places_left sv l c.well-formed place e)) (sym (free_is sv l c.well-formed))
+            (sym (places_left sv l c.good place e)) (sym (free_is sv l c.good))
 
   begins : does c (act.Begin size) ≡ upload_new (M c) c.i size
   unfolding carry_out on_frees upload.begin_with upload.begun_as upload_new

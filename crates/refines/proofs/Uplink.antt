@@ -65,10 +65,10 @@ module _ (c : Here) where
   P = parts c.sv c.l c.i
 
   own : LinkFacts (fs c) sv.most (selection_of sv.most l.selected c.i) (packet_of l.held c.i) s
-  own = (facts sv l c.well-formed).sessions.each c.i c.inside c.linked
+  own = (facts sv l c.good).sessions.each c.i c.inside c.linked
 
   one : Distinct (numbers (fs c))
-  one = (facts sv l c.well-formed).store.files.numbers
+  one = (facts sv l c.good).store.files.numbers
 
   -- ---- a turn that leaves another store
 
@@ -107,7 +107,7 @@ module _ (c : Here) where
     incomplete k = k.time partial.time
 
     found : find n (M c).files ≡ some (file_of (F c place))
-    found = found_at sv l c.well-formed place partial.number
+    found = found_at sv l c.good place partial.number
 
     -- ---- it is discarded
 
@@ -119,9 +119,9 @@ module _ (c : Here) where
     dropped : DiscardLeaves (map_part sv l) (owner_part sv l) (table_part sv l) sv.last.number sv.last.time place
         (discard_of (map_part sv l) (owner_part sv l) (table_part sv l) place)
     dropped =
-        discard_leaves (map_part sv l) (owner_part sv l) (table_part sv l) sv.last.number sv.last.time (facts sv l c.well-formed).store place
-        (discard_done (map_part sv l) (owner_part sv l) (table_part sv l) sv.last.number sv.last.time (facts sv l c.well-formed).store
-        (facts sv l c.well-formed).disk.some (facts sv l c.well-formed).disk.most place partial.number)
+        discard_leaves (map_part sv l) (owner_part sv l) (table_part sv l) sv.last.number sv.last.time (facts sv l c.good).store place
+        (discard_done (map_part sv l) (owner_part sv l) (table_part sv l) sv.last.number sv.last.time (facts sv l c.good).store
+        (facts sv l c.good).disk.some (facts sv l c.good).disk.most place partial.number)
 
     discard_does : (u : Uplink) (U : model.Uplink) → up_of (files_in d) u ≡ U → (r : Reply)
         → turn_view sv l c.i c.part (turned (turn_of (with_up (s0 c) u) sv.last r) d) ≡ turn r (discarded c.i n U (M c))
@@ -130,7 +130,7 @@ module _ (c : Here) where
         (stores.files_without P d one dropped.sound.files.numbers place (dropped.others l.disk) partial.number
         (ap (λ (f : table.File). f.number) dropped.file) sv.last.number)
         (link_up d u refl (down_kept d place dropped.sound.files.numbers (dropped.others l.disk) incomplete) ∙ ap (λ (x : model.Uplink). model.with_up x (k0 c)) h)
-        ∙ ap (turn r) (sym (set_mk sv l c.well-formed c.i c.inside (model.with_up U) sv.last.number sv.last.time (without n (M c).files) (k0 c)))
+        ∙ ap (turn r) (sym (set_mk sv l c.good c.i c.inside (model.with_up U) sv.last.number sv.last.time (without n (M c).files) (k0 c)))
 
     -- ---- DATA
 
@@ -147,8 +147,8 @@ module _ (c : Here) where
         rw (
           le-ltb (length (padded c.info)) (length c.info) (omega (arith, padded_length c.info c.short, c.short)),
           bytes.take_padded c.info,
-          append_done (map_part sv l) l.disk (owner_part sv l) (table_part sv l) sv.last.number sv.last.time (facts sv l c.well-formed).store
-              (facts sv l c.well-formed).disk place partial.number c.info h,
+          append_done (map_part sv l) l.disk (owner_part sv l) (table_part sv l) sv.last.number sv.last.time (facts sv l c.good).store
+              (facts sv l c.good).disk place partial.number c.info h,
         )
 
     store_does : (record_at (table_part sv l) place).received + length c.info ≤ (record_at (table_part sv l) place).size
@@ -165,10 +165,10 @@ module _ (c : Here) where
         a : AppendLeaves (map_part sv l) l.disk (owner_part sv l) (table_part sv l) sv.last.number sv.last.time place c.info
             (append_of l.disk (owner_part sv l) (table_part sv l) place c.info)
         a =
-            append_leaves (map_part sv l) l.disk (owner_part sv l) (table_part sv l) sv.last.number sv.last.time (facts sv l c.well-formed).store place
+            append_leaves (map_part sv l) l.disk (owner_part sv l) (table_part sv l) sv.last.number sv.last.time (facts sv l c.good).store place
             c.info
-            (append_done (map_part sv l) l.disk (owner_part sv l) (table_part sv l) sv.last.number sv.last.time (facts sv l c.well-formed).store
-            (facts sv l c.well-formed).disk place partial.number c.info h)
+            (append_done (map_part sv l) l.disk (owner_part sv l) (table_part sv l) sv.last.number sv.last.time (facts sv l c.good).store
+            (facts sv l c.good).disk place partial.number c.info h)
 
         number : (record_at w.table place).number ≡ n
         number = ap (λ (f : table.File). f.number) a.file
@@ -184,7 +184,7 @@ module _ (c : Here) where
         does c (cond (ltb (F c place).file.size ((F c place).file.received + length c.info)) (act.Overrun place) (act.Store place offset received))
         ≡ cond (ltb (F c place).file.size (k + length c.info)) (turn (reply.Nak 16) (discarded c.i n model.ignoring (M c)))
         (turn reply.Nothing (with_files (M c) (changed n (grown c.info) (M c).files))))
-        (sym (bytes.bytes_received sv l (facts sv l c.well-formed) place partial.number))
+        (sym (bytes.bytes_received sv l (facts sv l c.good) place partial.number))
         (on c (ltb (F c place).file.size ((F c place).file.received + length c.info)) _ _ _ _ (λ _. overrun_does) (λ q. store_does (ltb-false _ _ q)))
 
     -- ---- DATA_END
@@ -204,8 +204,8 @@ module _ (c : Here) where
 
       done : (complete_of l.disk (owner_part sv l) (table_part sv l) place time).answer ≡ 0
       done =
-          complete_done (map_part sv l) l.disk (owner_part sv l) (table_part sv l) sv.last.number sv.last.time (facts sv l c.well-formed).store
-          (facts sv l c.well-formed).disk place partial.number z time
+          complete_done (map_part sv l) l.disk (owner_part sv l) (table_part sv l) sv.last.number sv.last.time (facts sv l c.good).store
+          (facts sv l c.good).disk place partial.number z time
 
       accept_is : on_moves P (upload.finish_as (upload.timed (Next time)) (s0 c) sv.last place l.disk (map_part sv l) (owner_part sv l) (table_part sv l))
           ≡ turned (turn_of (with_up (s0 c) up.Idle) (last_of sv.last.number time) reply.Ack) x
@@ -215,14 +215,14 @@ module _ (c : Here) where
       k : CompleteLeaves (map_part sv l) l.disk (owner_part sv l) (table_part sv l) sv.last.number sv.last.time place time
           (complete_of l.disk (owner_part sv l) (table_part sv l) place time)
       k =
-          complete_leaves (map_part sv l) l.disk (owner_part sv l) (table_part sv l) sv.last.number sv.last.time (facts sv l c.well-formed).store place time
+          complete_leaves (map_part sv l) l.disk (owner_part sv l) (table_part sv l) sv.last.number sv.last.time (facts sv l c.good).store place time
           done
 
       sound_after : Distinct (numbers (files x.table))
       sound_after =
           (k.sound later
-          (check_whole (map_part sv l) l.disk (owner_part sv l) (table_part sv l) sv.last.number sv.last.time (facts sv l c.well-formed).store
-          (facts sv l c.well-formed).disk place partial.number z)
+          (check_whole (map_part sv l) l.disk (owner_part sv l) (table_part sv l) sv.last.number sv.last.time (facts sv l c.good).store
+          (facts sv l c.good).disk place partial.number z)
           ).files.numbers
 
       accept_does : turn_view sv l c.i c.part
@@ -238,7 +238,7 @@ module _ (c : Here) where
           (ap₂ (λ (f : table.File) (b : List ℕ). file f.number f.size b f.time) k.file k.bytes) sv.last.number)
           (link_up x up.Idle refl (down_kept x place sound_after k.others incomplete))
           ∙ ap (turn reply.Ack)
-          (sym (set_mk sv l c.well-formed c.i c.inside (model.with_up model.no_upload) sv.last.number time (changed n (completed time) (M c).files) (k0 c)))
+          (sym (set_mk sv l c.good c.i c.inside (model.with_up model.no_upload) sv.last.number time (changed n (completed time) (M c).files) (k0 c)))
 
     abbrev checked : ℕ
     checked = check_of l.disk (owner_part sv l) (table_part sv l) place
@@ -285,8 +285,8 @@ module _ (c : Here) where
 
     check_reads : checked ≡ verdict (F c place).bytes (F c place).file.size
     check_reads =
-        check_is (map_part sv l) l.disk (owner_part sv l) (table_part sv l) sv.last.number sv.last.time (facts sv l c.well-formed).store
-        (facts sv l c.well-formed).disk place partial.number
+        check_is (map_part sv l) l.disk (owner_part sv l) (table_part sv l) sv.last.number sv.last.time (facts sv l c.good).store
+        (facts sv l c.good).disk place partial.number
 
     finish_does : does c (act.Finish place) ≡ data_end_to (some (file_of (F c place))) (M c) c.i n c.clock
     unfolding carry_out data_end_to

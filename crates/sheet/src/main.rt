@@ -7,13 +7,14 @@ ghost use Rattle.sitting.specs.Whole.{Sat};
 ghost use Rattle.marking.specs.declared.Kind.TheVariants as kind;
 
 use marking::Kind;
+use std::io::{Stdin, Stdout};
 
-fn run()
+fn run(stdin: Stdin, stdout: Stdout)
     ensures { Sat kind.Sheet }
 {
-    sitting::sit(Kind::Sheet);
+    sitting::sit(stdin, stdout, Kind::Sheet);
 }
 
-fn main() {
-    run();
+fn main(rt: HostRuntime) {
+    run(rt.stdin(), rt.stdout());
 }

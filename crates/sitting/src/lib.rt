@@ -12,10 +12,13 @@ ghost use Rattle.sitting.specs.Run.{Played};
 ghost use Rattle.sitting.specs.Whole.{Ready, PlayedAll, Sat};
 
 use marking::Kind;
+use std::io::{Stdin, Stdout};
 use turn::Sitting;
 
 // Turns, until the run is over. Nothing says that the input ends, so they are counted down from a number that no run uses up.
 fn play(
+    stdin: Stdin,
+    stdout: Stdout,
     start: Sitting,
     disk: &mut [u8],
     map: &mut [u64],
@@ -39,7 +42,7 @@ fn play(
     let mut turns = u64::MAX;
     while 0 < turns {
         sitting = turn::turn(
-            sitting, disk, map, owner, table, selected, held, input, bytes, text,
+            stdin, stdout, sitting, disk, map, owner, table, selected, held, input, bytes, text,
         );
         turns = turn::turns_left(sitting, turns);
     }
@@ -48,6 +51,8 @@ fn play(
 
 // Makes the server, and runs the lines that are read against it.
 fn run(
+    stdin: Stdin,
+    stdout: Stdout,
     kind: Kind,
     disk: &mut [u8],
     map: &mut [u64],
@@ -72,6 +77,8 @@ fn run(
     let made = making::make(128, 32, 4, 50, &*disk, map, owner, table, selected, held);
     let server = made.server;
     play(
+        stdin,
+        stdout,
         turn::new_sitting(kind, server),
         disk,
         map,
@@ -105,7 +112,7 @@ fn blank_text() -> [u8; 262144]
 }
 
 // The whole program: its memory, and what is done in it.
-pub fn sit(kind: Kind)
+pub fn sit(stdin: Stdin, stdout: Stdout, kind: Kind)
     ensures { Sat kind }
 {
     let mut disk = blank_disk();
@@ -118,6 +125,8 @@ pub fn sit(kind: Kind)
     let mut bytes = blank_bytes();
     let mut text = blank_text();
     run(
+        stdin,
+        stdout,
         kind,
         &mut disk,
         &mut map,

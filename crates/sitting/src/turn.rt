@@ -12,13 +12,13 @@ ghost use Rattle.sitting.specs.Narrow.{readable_of, Flushed, Filled};
 
 use input::Found;
 use input::parts::least;
-use libc::{STDIN_FILENO, STDOUT_FILENO};
 use lines::Command;
 use marking::verdict::{Finished, Judged, Verdict};
 use marking::{Kind, Marked, Part};
 use script::Day;
 use script::doing::Doing;
 use server::Server;
+use std::io::{Stdin, Stdout};
 use std::num::wrapping_add_usize;
 
 // Room for the most that a turn puts: a word, an answer of up to 131,072 bytes, and a printed line.
@@ -434,9 +434,9 @@ fn begin_line(
 }
 
 // Writes the first n bytes of the text, and says whether all were written.
-fn write_front(text: &[u8], n: usize) -> bool {
+fn write_front(mut stdout: Stdout, text: &[u8], n: usize) -> bool {
     let size = least(n, text.len());
-    io::write_all(STDOUT_FILENO, &text[..size])
+    streams::write_all(&mut stdout, &text[..size])
 }
 
 // After what waits was written: where only that was left, the program is done.
@@ -452,13 +452,13 @@ fn written_stage(stage: Stage) -> Stage
 }
 
 // Writes out what waits (`waitingText`).
-fn flush(sitting: Sitting, text: &[u8]) -> Sitting
+fn flush(stdout: Stdout, sitting: Sitting, text: &[u8]) -> Sitting
     ensures { Flushed sitting result }
 {
     let day = sitting.day;
     let mark = sitting.mark;
     let stage = sitting.stage;
-    if write_front(text, sitting.filled) {
+    if write_front(stdout, text, sitting.filled) {
         let then = written_stage(stage);
         return Sitting {
             day: day,
@@ -475,7 +475,7 @@ fn flush(sitting: Sitting, text: &[u8]) -> Sitting
 }
 
 // Moves the part of a line to the front of the input and reads more behind it. A read that brings nothing, or fails, ends the input.
-fn fill(sitting: Sitting, input: &mut [u8]) -> Sitting
+fn fill(mut stdin: Stdin, sitting: Sitting, input: &mut [u8]) -> Sitting
     ensures { Filled sitting input.old result input.new }
 {
     let day = sitting.day;
@@ -483,8 +483,7 @@ fn fill(sitting: Sitting, input: &mut [u8]) -> Sitting
     let stage = sitting.stage;
     let left = input::shift(input, sitting.from, sitting.end);
     let kept = least(left, input.len());
-    let got = libc::read(STDIN_FILENO, &mut input[kept..]);
-    let n = io::count(got, &input[kept..]);
+    let n = streams::read(&mut stdin, &mut input[kept..]);
     Sitting {
         day: day,
         mark: mark,
@@ -499,6 +498,8 @@ fn fill(sitting: Sitting, input: &mut [u8]) -> Sitting
 
 // One turn.
 pub(crate) fn turn(
+    stdin: Stdin,
+    stdout: Stdout,
     sitting: Sitting,
     disk: &mut [u8],
     map: &mut [u64],
@@ -544,8 +545,8 @@ pub(crate) fn turn(
         }
         Next::Finish => finish_line(sitting, &*input, text),
         Next::Line(n) => begin_line(sitting, n, &*input, bytes, text),
-        Next::Flush => flush(sitting, &*text),
-        Next::Fill => fill(sitting, input),
+        Next::Flush => flush(stdout, sitting, &*text),
+        Next::Fill => fill(stdin, sitting, input),
         Next::Last => put_last(sitting, text),
         Next::Error => put_error(sitting, text),
     }

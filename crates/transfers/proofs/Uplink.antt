@@ -76,6 +76,12 @@ data OfUplink : Reply → Type 0 where
 
 reply_sent : (r : Reply) → OfUplink r → (taken : ℕ) (out : List ℕ) → NoData (sent_in (tell r taken out))
 unfolding tell sent_by
+reply_sent reply.DataEnd x' taken out = elim x' [ ]
+reply_sent (reply.Login _) x3 taken out = elim x3 [ ]
+reply_sent (reply.DownloadError _) x4 taken out = elim x4 [ ]
+reply_sent reply.Aborted x4 taken out = elim x4 [ ]
+reply_sent reply.Completed x5 taken out = elim x5 [ ]
+reply_sent (reply.Selected _) x7 taken out = elim x7 [ ]
 reply_sent reply.Nothing nothing taken out = silence
 reply_sent reply.Closing closes taken out = silence
 reply_sent (reply.Go n offset) (goes_on _ _) taken out = other_sent 4 (four n ++ four offset) taken out (omega arith) (omega arith)

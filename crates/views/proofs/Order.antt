@@ -95,6 +95,7 @@ Of p ps = Memᴰ p ps
 
 pub passing_in : (test : ℕ → Bool) (ps : List ℕ) (p : ℕ) → Of p (passing test ps) → Of p ps × (test p ≡ true)
 unfolding passing
+passing_in test [] p m = elim m [ ]
 passing_in test (q ∷ ps) p m = go (test q) refl m (passing_in test ps p)
   where
     go : (b : Bool) → test q ≡ b → Of p (cond b (q ∷ passing test ps) (passing test ps)) → (Of p (passing test ps) → Of p ps × (test p ≡ true))
@@ -105,6 +106,7 @@ passing_in test (q ∷ ps) p m = go (test q) refl m (passing_in test ps p)
 
 pub passing_back : (test : ℕ → Bool) (ps : List ℕ) (p : ℕ) → Of p ps → test p ≡ true → Of p (passing test ps)
 unfolding passing
+passing_back test [] p m t = elim m [ ]
 passing_back test (q ∷ ps) p m t = go (test q) refl m (λ n. passing_back test ps p n t)
   where
     clash : false ≡ true → ⊥
@@ -151,6 +153,7 @@ map_in g (p ∷ ps) f (Memᴰ.head e) = record { place = p; member = Memᴰ.head
 map_in g (p ∷ ps) f (Memᴰ.tail m) = let i = map_in g ps f m in record { place = i.place; member = Memᴰ.tail i.member; is = i.is }
 
 pub map_back : (g : ℕ → File) (ps : List ℕ) (p : ℕ) → Of p ps → In (g p) (map g ps)
+map_back g [] p x' = elim x' [ ]
 map_back g (q ∷ ps) p (Memᴰ.head e) = Memᴰ.head (ap g e)
 map_back g (q ∷ ps) p (Memᴰ.tail m) = Memᴰ.tail (map_back g ps p m)
 

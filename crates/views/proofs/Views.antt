@@ -131,7 +131,8 @@ module _ (sv : Server) (l : Lent) (g : Good sv l) (session : ℕ) (wanted : Bool
   there = (model.session_at (view sv l) i).linked
 
   linked_is : i < sv.sessions → there ≡ (link_of sv i).linked
-  linked_is h = ap (λ (k : model.Session). k.linked) (link_view sv l g i h) ∙ linked_from _ _ _ _ (link_of sv i)
+  linked_is h = ap (λ (k : model.Session). k.linked) (link_view sv l g i h)
+      ∙ linked_from (files_of sv l) (numbered sv l) (part (i * sv.most) sv.most l.selected) (part (i * 258) 258 l.held) (link_of sv i)
 
   refusal_is : refusal (view sv l) session wanted out
       ≡ cond (eqb session 0) 34 (cond (ltb sv.sessions session) 34 (cond (cond wanted there (not there)) (cond (ltb out 258) 32 0) 34))

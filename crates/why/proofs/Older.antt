@@ -1,11 +1,10 @@
 -- The older files, counted one after the other, oldest first.
 use mathlib.Core.Path.{◌≡◌, refl, sym, ap, ◌∙◌}
-use mathlib.Core.Bool.{Bool, true, false, cond, ◌&&◌}
+use mathlib.Core.Bool.{Bool, true, false, cond}
 use mathlib.Core.List.{List, [], ◌∷◌, Memᴰ}
 use mathlib.Core.Logic.{⊎_elim}
-use Prim.Native.Nat.{ℕ, suc, ◌+◌, ◌/◌, ◌≤◌, ◌<◌}
+use Prim.Native.Nat.{ℕ, ◌+◌, ◌/◌, ◌≤◌, ◌<◌}
 use native.Mathlib.Omega.{arith}
-use lib.Dec.{ltb}
 use lib.ListN.{length, length-map}
 use borrow.Author.Tests.{le-ltb, lt-ltb}
 use Rattle.equation.specs.Answer.{selects}
@@ -17,7 +16,6 @@ use Rattle.table.specs.Order.{next_complete, in_order}
 use Rattle.table.proofs.Records.{key_at, length_files}
 use Rattle.table.proofs.Finding.{within}
 use Rattle.table.proofs.Ordering.{next_found, count_above, count_le, count_less, in_order_above, in_order_none, in_order_next, complete_none, complete_found}
-use Rattle.files.specs.View.{record_at}
 use Rattle.files.specs.Selection.{passing}
 use Rattle.why.specs.Answer.{items_at, time_at, older_test, older_of}
 

@@ -1,22 +1,22 @@
 -- The pass over an equation's steps: what the code keeps from step to step, and that its answer is the run's.
-use mathlib.Core.Path.{◌≡◌, refl, sym, ap, ◌∙◌, subst}
+use mathlib.Core.Path.{◌≡◌, refl, sym, ◌∙◌, subst}
 use mathlib.Core.Bool.{Bool, true, false, cond}
 use mathlib.Core.List.{List, [], ◌∷◌, ◌++◌}
-use mathlib.Core.Option.{Option, none, some}
-use Prim.Native.Nat.{ℕ, zero, suc, ◌+◌, ◌-◌, ◌≤◌, ◌<◌}
+use mathlib.Core.Option.{Option, none}
+use Prim.Native.Nat.{ℕ, suc, ◌+◌, ◌-◌, ◌≤◌, ◌<◌}
 use native.Mathlib.Omega.{arith}
 use native.Mathlib.Numerals.{add-one}
 use lib.Dec.{eqb}
 use lib.ListN.{length, get_or, set, take, drop, replicate, length-set, length-replicate, drop_of_length-le}
 use lib.Seq.{drop-cons, take-suc-set, length-take-le}
 use borrow.Author.Tests.{lt-ltb, le-ltb, eqb-false, eq-eqb, ne_eqb}
-use Rattle.equation.specs.Symbols.{Symbol, rel, and, or, bad, relations}
+use Rattle.equation.specs.Symbols.{Symbol, and, or, bad, relations}
 use Rattle.equation.specs.Tree.{pushed, joined, bind, run}
 use Rattle.equation.specs.Tree as tree
 use Rattle.equation.specs.Marks.{marked_true}
 use Rattle.equation.specs.Parsed.{relation_from, symbol_at, symbols_by, relations_by}
 use Rattle.why.specs.declared.reasons.Decided.{Decided}
-use Rattle.why.specs.Run.{Result, result, settles, join_of, leaf_of, rest, result_by, stack_of, Begin, joined_row, Tells}
+use Rattle.why.specs.Run.{Result, settles, join_of, leaf_of, rest, result_by, stack_of, Begin, joined_row, Tells}
 use Rattle.why.proofs.Stacks as stacks
 
 -- ---- the symbol of a step

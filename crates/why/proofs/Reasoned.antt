@@ -2,17 +2,17 @@
 use mathlib.Core.Path.{◌≡◌, refl, sym, ap, ◌∙◌}
 use mathlib.Core.Bool.{Bool, true, false, not, ◌&&◌, ◌||◌, cond}
 use mathlib.Core.List.{List, [], ◌∷◌, ◌++◌}
-use mathlib.Core.Option.{Option, none, some}
+use mathlib.Core.Option.{some}
 use Prim.Native.Nat.{ℕ, suc, ◌+◌, ◌≤◌}
 use native.Mathlib.Omega.{arith}
 use lib.Dec.{ltb, eqb}
-use lib.ListN.{length, drop, replicate}
+use lib.ListN.{length, replicate}
 use Rattle.header.specs.Items.{Field}
 use Rattle.equation.specs.Holds.{Relation, holds}
 use Rattle.equation.specs.Symbols.{Symbol, rel, and, or, bad, symbols, relations}
-use Rattle.equation.specs.Tree.{pushed, joined, bind, run, Tree, leaf, both, either, parse, truth}
+use Rattle.equation.specs.Tree.{pushed, joined, run, Tree, leaf, both, either, parse, truth}
 use Rattle.equation.specs.Marks.{settled_by, relations_of, marked_true}
-use Rattle.equation.specs.Parsed.{relation_from, symbol_at, symbols_by, relations_by, steps_of}
+use Rattle.equation.specs.Parsed.{relation_from, symbol_at, symbols_by, relations_by}
 use Rattle.equation.proofs.Trees.{map_o, run_map, bind_same, Agree, run_same, accepted}
 use Rattle.equation.proofs.StepLaws.{symbols_by_law, relations_by_law}
 use Rattle.equation.proofs.Settled.{agree}

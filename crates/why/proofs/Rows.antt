@@ -1,6 +1,6 @@
 -- The row of reasons: numbers that move down in it, two parts that become one, and its first numbers copied.
 use mathlib.Core.Path.{◌≡◌, refl, sym, ap, ◌∙◌}
-use mathlib.Core.Bool.{Bool, true, false, cond}
+use mathlib.Core.Bool.{Bool, true, false}
 use mathlib.Core.List.{List, [], ◌∷◌, ◌++◌, append_assoc}
 use Prim.Native.Nat.{ℕ, zero, suc, ◌+◌, ◌-◌, ◌≤◌, ◌<◌}
 use native.Mathlib.Omega.{arith}
@@ -8,7 +8,7 @@ use native.Mathlib.Numerals.{add-one}
 use native.Mathlib.Nat.{zero-add}
 use lib.ListN.{length, get_or, set, take, drop, take-append-drop, length-set, length-append, length-drop}
 use lib.Seq.{sets, sets-eq, paste-suc, drop-cons, take_at, take-nil, take-take, length-take-le, drop-set-lt, length-sets}
-use Rattle.why.specs.Run.{deciding, joined_row}
+use Rattle.why.specs.Run.{joined_row}
 
 -- ---- copying
 

@@ -1,5 +1,5 @@
 -- A file's relations settled: by the marks an accepted equation has its truth and its reasons.
-use mathlib.Core.Path.{◌≡◌, refl, sym, ap, ◌∙◌}
+use mathlib.Core.Path.{◌≡◌, ap, ◌∙◌}
 use mathlib.Core.List.{List}
 use Prim.Native.Nat.{ℕ, ◌≤◌, ◌<◌}
 use native.Mathlib.Omega.{arith}
@@ -8,7 +8,7 @@ use borrow.Author.Tests.{le-leb, lt-ltb}
 use Rattle.header.specs.Items.{Field, fields_of}
 use Rattle.equation.specs.Marks.{settled_by, relations_of}
 use Rattle.equation.specs.Answer.{answer_on}
-use Rattle.equation.specs.Parsed.{relations_by, outcome_by, steps_of}
+use Rattle.equation.specs.Parsed.{relations_by, outcome_by}
 use Rattle.equation.proofs.SymbolLaws.{few_relations}
 use Rattle.equation.proofs.Trees.{accepted}
 use Rattle.equation.proofs.Runs.{answer_by_law}

@@ -2,16 +2,15 @@
 use mathlib.Core.Path.{◌≡◌, refl, sym, ap, ◌∙◌}
 use mathlib.Core.Bool.{Bool, true, false, cond}
 use mathlib.Core.List.{List, [], ◌∷◌, ◌++◌}
-use mathlib.Core.Option.{Option, none, some}
+use mathlib.Core.Option.{none, some}
 use Prim.Native.Nat.{ℕ, zero, suc, ◌+◌, ◌-◌, ◌≤◌, ◌<◌}
 use native.Mathlib.Omega.{arith}
 use native.Mathlib.Numerals.{add-one}
-use lib.ListN.{length, get_or, set, take, drop, take-append-drop, length-append, length-drop}
+use lib.ListN.{length, get_or, set, take, drop, length-append, length-drop}
 use lib.Seq.{get_or-set_same, get_or-set_other, take_at, drop_at, take-take, length-take-le}
 use borrow.Author.Tests.{lt-ltb, le-ltb}
 use Rattle.equation.specs.Tree.{pushed, joined}
 use Rattle.equation.specs.Tree as tree
-use Rattle.why.specs.declared.reasons.Decided.{Decided}
 use Rattle.why.specs.Run.{Result, result, settles, deciding, join_of, stack_of, Begin, joined_row, Tells}
 
 stack_length : (bits : List Bool) (from : List ℕ) (d : ℕ) (row : List ℕ) → length (stack_of bits from d row) ≡ d

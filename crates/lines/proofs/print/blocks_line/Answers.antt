@@ -29,11 +29,14 @@ returns-then-text-size c = printed_none _ c.args.text.now (omega (
 ))
 
 pub put_decimal-requires-2 : goal.put_decimal-requires-2
-put_decimal-requires-2 c = record { digits_value = omega arith; digits_in_bounds = simp length-set (omega (
+put_decimal-requires-2 c = record {
+  digits_value = omega arith;
+  digits_in_bounds = simp length-set (omega (
     arith,
     c.put_decimal.auto.text,
     c.store.auto.to,
-  )) }
+  ));
+}
 
 pub bounds-text-size : goal.bounds-text-size
 bounds-text-size c = (omega (

@@ -1,0 +1,15 @@
+use Rattle.input.proofs.Turning.{playing_none, playing_on, played_out}
+use Rattle.pass.specs.Pass.{DueTurn}
+use Rattle.pass.specs.Run.{is_over}
+use Rattle.classday.specs.Sheet.{class_words}
+use Rattle.classday.proofs.play.Goals as goal
+
+pub loop-turns-init : goal.loop-turns-init
+loop-turns-init c = playing_none is_over (DueTurn 8192 class_words) _ c.requires
+
+pub loop-turns-preserved : goal.loop-turns-preserved
+loop-turns-preserved c =
+    playing_on is_over (DueTurn 8192 class_words) _ _ _ _ _ c.loop-turns.invariant c.loop-turns-test.true c.turn-pass.ensures c.turns_left-turns.ensures
+
+pub returns : goal.returns
+returns c = played_out is_over (DueTurn 8192 class_words) _ _ _ c.loop-turns.invariant c.loop-turns-test.false

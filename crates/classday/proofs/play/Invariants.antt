@@ -1,0 +1,15 @@
+-- The invariant: the turns so far are a run, with so many left (`Playing`). The measure is the number of turns that are left.
+use Rattle.server.specs.State.{lent}
+use Rattle.input.proofs.Turning.{Playing}
+use Rattle.pass.specs.Pass.{memory, passing, DueTurn}
+use Rattle.pass.specs.Run.{is_over}
+use Rattle.classday.specs.Sheet.{class_words}
+use Rattle.classday.proofs.play.Given as goal
+
+abbrev pub invariant-loop-turns : goal.invariant-loop-turns
+invariant-loop-turns l =
+    Playing is_over (DueTurn 8192 class_words) (passing l.fn.start (memory (lent l.fn.disk l.fn.map l.fn.owner l.fn.table l.fn.selected l.fn.held) l.fn.input l.fn.bytes l.fn.text))
+    (passing l.pass (memory (lent l.disk l.map l.owner l.table l.selected l.held) l.input l.bytes l.text)) l.turns
+
+abbrev pub decreases-loop-turns : goal.decreases-loop-turns
+decreases-loop-turns l = l.turns
