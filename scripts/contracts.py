@@ -2,7 +2,8 @@
 
 It has no `requires`. Its `ensures` hold equations, and for the result and for the end (`.new`) of everything lent by `&mut` there is one that
 determines it: the left side is just these, by themselves or as the fields of a record, and the right side names none of them but what another equation
-determines. So what a call answers and leaves is a definition of what was handed in. Further facts may stand beside the equations."""
+determines. So what a call answers and leaves is a definition of what was handed in. Further facts may stand beside the equations. Of a function over any
+reader or writer (`R: Read`, `W: Write`) no equation is asked: what such a one brings or takes is known only there."""
 import re
 
 import sources
@@ -63,6 +64,8 @@ def fault(function, known):
     if re.search(r"^\s*requires\b", function.head, re.M):
         return "it has a requires"
     signature = re.split(r"^\s*(?:requires|ensures)\b", function.head, flags=re.M)[0]
+    if re.search(r"^[^(]*<[^(>]*\b\w+: (?:Read|Write)\b", signature):
+        return None
     wanted = set(re.findall(r"(\w+): &(?:'\w+ )?mut ", signature)) | ({"result"} if "->" in signature else set())
     equations = []
     for clause in re.findall(r"^\s*ensures(?: \w+)? \{(.*?)\}\s*$", function.head + "\n", re.M | re.S):
