@@ -19,7 +19,7 @@ fn main() {
     let here = std::env::var("CARGO_MANIFEST_DIR").expect("cargo says where the package is");
     let folder = Path::new(&here).join("../target/staticlib");
     for (feature, built, library) in [
-        ("CARGO_FEATURE_EMBED", "embed", "figmorella"),
+        ("CARGO_FEATURE_EMBED", "embed_c", "figmorella"),
         ("CARGO_FEATURE_PROBE", "probe", "probe"),
     ] {
         if std::env::var_os(feature).is_some() {

@@ -1,8 +1,9 @@
 """The form of a public function's contract, read as text. Used by check-contracts.
 
-It has no `requires`. Its `ensures` hold equations, and for the result and for the end (`.exit`) of everything lent by `&mut` there is one that
+It has no `requires`. Its `ensures` hold equations, and for the result and for the end (`.new`) of everything lent by `&mut` there is one that
 determines it: the left side is just these, by themselves or as the fields of a record, and the right side names none of them but what another equation
-determines. So what a call answers and leaves is a definition of what was handed in. Further facts may stand beside the equations."""
+determines. So what a call answers and leaves is a definition of what was handed in. Further facts may stand beside the equations. Of a function over any
+reader or writer (`R: Read`, `W: Write`) no equation is asked: what such a one brings or takes is known only there."""
 import re
 
 import sources
@@ -36,26 +37,26 @@ def term(text):
     return open_lists[0]
 
 
-def determined(t, result, known):
+def determined(t, known):
     """What a left side determines: the result, by 'result', and the names of what was lent. Nothing where it is not of the form."""
     if isinstance(t, str):
         t = [t]
     if len(t) == 1 and isinstance(t[0], list):
-        return determined(t[0], result, known)
-    if t == [result]:
+        return determined(t[0], known)
+    if t == ["result"]:
         return ["result"]
-    if len(t) == 2 and t[0] == "now" and isinstance(t[1], list) and len(t[1]) == 2 and t[1][1] == ".exit":
-        return [t[1][0].strip("«»")]
+    if len(t) == 1 and re.fullmatch(r"«?\w+»?\.new", t[0]):
+        return [t[0][: -len(".new")].strip("«»")]
     if isinstance(t[0], str) and len(t) - 1 in known.get(t[0], ()):
-        parts = [determined(argument, result, known) for argument in t[1:]]
+        parts = [determined(argument, known) for argument in t[1:]]
         return sum(parts, []) if all(parts) else []
     return []
 
 
-def ends_in(text, result):
+def ends_in(text):
     """The result, by 'result', and the lent things whose ends a text names."""
-    ends = set(re.findall(r"(\w+)»? \.exit", text))
-    return ends | ({"result"} if re.search(rf"(?<![\w.«]){result}(?![\w»])", text) else set())
+    ends = set(re.findall(r"(\w+)»?\.new\b", text))
+    return ends | ({"result"} if re.search(r"(?<![\w.«])result(?![\w»])", text) else set())
 
 
 def fault(function, known):
@@ -63,14 +64,16 @@ def fault(function, known):
     if re.search(r"^\s*requires\b", function.head, re.M):
         return "it has a requires"
     signature = re.split(r"^\s*(?:requires|ensures)\b", function.head, flags=re.M)[0]
+    if re.search(r"^[^(]*<[^(>]*\b\w+: (?:Read|Write)\b", signature):
+        return None
     wanted = set(re.findall(r"(\w+): &(?:'\w+ )?mut ", signature)) | ({"result"} if "->" in signature else set())
     equations = []
-    for clause in re.findall(r"^\s*ensures[^{]*\{(.*?)\}\s*$", function.head + "\n", re.M | re.S):
-        m = re.fullmatch(r"\s*λ (\w+)\. ⌜ (.*) ⌝\s*", clause, re.S)
-        for fact in re.split(r"\s×\s", m.group(2)) if m else []:
+    for clause in re.findall(r"^\s*ensures(?: \w+)? \{(.*?)\}\s*$", function.head + "\n", re.M | re.S):
+        for fact in re.split(r"\s×\s", clause):
             sides = re.split(r"\s≡\s", re.sub(r"^\((.*)\)$", r"\1", fact.strip(), flags=re.S))
-            if len(sides) == 2:
-                equations.append((set(determined(term(sides[0]), m.group(1), known)), ends_in(sides[1], m.group(1))))
+            # what holds only under a condition determines nothing
+            if len(sides) == 2 and "→" not in fact:
+                equations.append((set(determined(term(sides[0]), known)), ends_in(sides[1])))
     # a right side may name what another equation determines
     for _ in equations:
         for left, named in equations:

@@ -1,22 +1,34 @@
-"""Tries changes of the sources on the prover, each in a copy of the project over the checked modules of the unchanged crate. Used by try-edits and
+"""Tries changes of the sources on the prover, each in a copy of the project over what was kept of the unchanged crate. Used by try-edits and
 weaken-statements. Needs python3 and the Rattle kit."""
 import os
 import re
 import shutil
 import subprocess
+import tempfile
 import threading
 
 import sources
 
-# two calls at once do not meet
-PLACE = os.path.join(sources.ROOT, "target", "edits", str(os.getpid()))
+# rt refuses sources that no check reads, so the copies stand outside of the checkout; two calls at once do not meet
+PLACE = tempfile.mkdtemp(prefix="figmorella-edits-")
+# what a crate is made of; what rt keeps of it stands in out/: the library, and in incremental/ what earlier checks proved
+PARTS = ("src", "specs", "proofs")
 
 
 def run_rt(folder, *words):
-    """What `rt` printed, and its exit status. The locale: some awks can't read bytes above 127 in another."""
-    environment = dict(os.environ, LC_ALL="C", RT_JOBS="1", RT_CUT="0")
-    done = subprocess.run(["rt", *words], cwd=folder, env=environment, stdout=subprocess.PIPE, stderr=subprocess.STDOUT)
+    """What `rt` printed, and its exit status."""
+    done = subprocess.run(["rt", *words], cwd=folder, env=dict(os.environ, LC_ALL="C"), stdin=subprocess.DEVNULL, stdout=subprocess.PIPE, stderr=subprocess.STDOUT)
     return done.stdout.decode("utf-8", "replace"), done.returncode
+
+
+def prove(crates, jobs):
+    """Proves the crates and those that they stand on in the checkout itself, and keeps the work there; what is proved already takes no time."""
+    uses = sources.listed()
+    everything = set(uses) == set().union(*map(reached, crates))
+    for folder in ["."] if everything else [f"crates/{crate}" for crate in crates]:
+        text, status = run_rt(os.path.join(sources.ROOT, folder), "all", "check", "--jobs", str(jobs))
+        if status != 0:
+            raise SystemExit(f"not proved without a change:\n{text}")
 
 
 def reached(crate):
@@ -25,52 +37,53 @@ def reached(crate):
     return set(sources.steps_from({crate}, {name: [d for d in uses[name] if d in uses] for name in uses}))
 
 
+def lowest_first(crates):
+    return sorted(crates, key=lambda crate: len(reached(crate)))
+
+
 def proved_anew(edit):
     """The crates below the edit's own that are not the same with it: those that it changes, and those that stand on them."""
     changed = edit.crates_changed()
     return {crate for crate in reached(edit.crate) if reached(crate) & changed} - {edit.crate} if changed - {edit.crate} else set()
 
 
+def linked(one, other):
+    """A file of out/ gets a second name: rt replaces such a file, and never writes into it."""
+    try:
+        os.link(one, other)
+    except OSError:
+        shutil.copy2(one, other)
+    return other
+
+
 class Copy:
-    """A copy of the project's crates, whose proved crates are those of target/."""
+    """A copy of the project's crates, with the proved libraries of the checkout."""
 
     def __init__(self, name):
         self.root = os.path.join(PLACE, name)
         shutil.rmtree(self.root, ignore_errors=True)
-        for folder in ("crates", "target/rlib", "target/stamp", "target/log"):
-            os.makedirs(os.path.join(self.root, folder))
+        os.makedirs(self.root)
+        for name in ("crates.txt", "HANDLES"):
+            if os.path.isfile(os.path.join(sources.ROOT, name)):
+                shutil.copy(os.path.join(sources.ROOT, name), self.root)
         for crate in sources.listed():
-            for part in ("src", "specs", "proofs"):
+            for part in PARTS:
                 source = os.path.join(sources.ROOT, "crates", crate, part)
                 if os.path.isdir(source):
-                    shutil.copytree(source, os.path.join(self.root, "crates", crate, part))
-            self.link(crate)
+                    shutil.copytree(source, self.folder(crate, part))
+            self.put_library(crate)
 
-    def link(self, crate):
-        """Puts the proved library and its stamp there. The library is a link, so whoever proves the crate anew removes it first."""
-        library = os.path.join(self.root, "target", "rlib", f"{crate}.rlib")
-        if os.path.isdir(library) and not os.path.islink(library):
-            shutil.rmtree(library)
-        proved = os.path.join(sources.ROOT, "target", "rlib", f"{crate}.rlib")
-        if os.path.isdir(proved) and not os.path.lexists(library):
-            os.symlink(proved, library)
-        stamp = os.path.join(sources.ROOT, "target", "stamp", crate)
-        if os.path.isfile(stamp):
-            shutil.copy(stamp, os.path.join(self.root, "target", "stamp", crate))
+    def folder(self, crate, *parts):
+        return os.path.join(self.root, "crates", crate, *parts)
 
-    def list(self, crates):
-        """Has rt look at these crates alone; those that they use are proved, and rt need not look at them again."""
-        uses = sources.listed()
-        with open(os.path.join(self.root, "crates.txt"), "w", encoding="utf-8") as file:
-            file.writelines(f"{crate}: {' '.join(uses[crate])}\n" for crate in crates)
-
-    def incremental(self, crate):
-        return os.path.join(self.root, "target", "inc", crate)
+    def put_library(self, crate):
+        """Puts the proved library there, as it stands in the checkout."""
+        library, proved = self.folder(crate, "out", "rlib"), os.path.join(sources.ROOT, "crates", crate, "out", "rlib")
+        shutil.rmtree(library, ignore_errors=True)
+        if os.path.isdir(proved):
+            shutil.copytree(proved, library, copy_function=linked)
 
     def apply(self, edit):
-        for crate in proved_anew(edit):
-            # not in the folder that the link leads to
-            os.remove(os.path.join(self.root, "target", "rlib", f"{crate}.rlib"))
         for path, old, new in edit.changes:
             place = os.path.join(self.root, path)
             with open(place, encoding="utf-8") as file:
@@ -82,7 +95,13 @@ class Copy:
         for path, _, _ in edit.changes:
             shutil.copy2(os.path.join(sources.ROOT, path), os.path.join(self.root, path))
         for crate in proved_anew(edit):
-            self.link(crate)
+            self.put_library(crate)
+
+    def run(self, verb, crate):
+        """What rt says of a crate of the copy, with each place named from the repository's root, and its exit status."""
+        text, status = run_rt(self.folder(crate), verb, "--jobs", "1")
+        text = text.replace(self.root + "/", "")
+        return re.sub(r"^((?:note: )?)(?:\./)?((?:src|specs|proofs)/\S*:)", rf"\1crates/{crate}/\2", text, flags=re.M), status
 
 
 def snapshot(folder):
@@ -97,51 +116,66 @@ def snapshot(folder):
 
 
 class Warm:
-    """The checked modules of an unchanged crate, and copies of them for the tries."""
+    """What a check of an unchanged crate kept, and copies of it for the tries."""
 
     def __init__(self, crate):
         self.crate, self.place, self.files = crate, os.path.join(PLACE, "warm", crate), None
         self.lock = threading.Lock()
 
-    def make(self, copy, folder):
-        """Fills the folder from the proved library, whose modules are the same files, then checks the unchanged crate over it once."""
+    def incremental(self, copy):
+        return copy.folder(self.crate, "out", "incremental")
+
+    def make(self, copy):
+        """Checks the crate as it stands in the copy, over what the checkout kept of it."""
+        kept, work = os.path.join(sources.ROOT, "crates", self.crate, "out", "incremental"), self.incremental(copy)
         shutil.rmtree(self.place, ignore_errors=True)
-        checked = os.path.join(sources.ROOT, "target", "rlib", f"{self.crate}.rlib", "toolchain", "checked")
-        inc = copy.incremental(self.crate)
-        shutil.rmtree(inc, ignore_errors=True)
-        if os.path.isdir(checked):
-            shutil.copytree(checked, os.path.join(inc, folder))
-        copy.list({self.crate})
-        text, status = run_rt(copy.root, "dev", self.crate)
+        shutil.rmtree(work, ignore_errors=True)
+        if os.path.isdir(kept):
+            shutil.copytree(kept, work)
+        text, status = copy.run("check", self.crate)
         if status != 0:
             raise SystemExit(f"{self.crate} is not proved without an edit:\n{text}")
-        shutil.copytree(inc, self.place)
+        shutil.copytree(work, self.place)
         self.files = snapshot(self.place)
 
     def put_back(self, copy):
         """Makes a copy's folder the unchanged crate's again."""
-        inc = copy.incremental(self.crate)
-        now = snapshot(inc) if os.path.isdir(inc) else {}
+        work = self.incremental(copy)
+        now = snapshot(work) if os.path.isdir(work) else {}
         for name in now.keys() - self.files.keys():
-            os.remove(os.path.join(inc, name))
+            os.remove(os.path.join(work, name))
         for name, status in self.files.items():
             if now.get(name) != status:
-                os.makedirs(os.path.dirname(os.path.join(inc, name)), exist_ok=True)
-                shutil.copy2(os.path.join(self.place, name), os.path.join(inc, name))
+                os.makedirs(os.path.dirname(os.path.join(work, name)), exist_ok=True)
+                # a new file, since rt may have a second name for the one that is there
+                shutil.copy2(os.path.join(self.place, name), os.path.join(work, name) + ".new")
+                os.replace(os.path.join(work, name) + ".new", os.path.join(work, name))
+
+
+def said_of(copy, crate, below):
+    """What rt says of a crate, and its exit status, once the crates below it that are not the same any more are proved anew."""
+    said = ""
+    for other in lowest_first(below):
+        text, status = copy.run("lib", other)
+        said += text
+        if status != 0:
+            return said, status
+    text, status = copy.run("check", crate)
+    return said + text, status
 
 
 def check(edits, copy, warm, logs, from_nothing=False):
     """What the prover says of the crate with these edits, and its exit status. What it printed is kept in the folder `logs`."""
     warm.put_back(copy)
     if from_nothing:
-        shutil.rmtree(copy.incremental(warm.crate))
-    copy.list({warm.crate}.union(*map(proved_anew, edits)))
+        shutil.rmtree(warm.incremental(copy))
+        # else rt would begin with what another checkout kept
+        os.makedirs(warm.incremental(copy))
     for edit in edits:
         copy.apply(edit)
-    text, status = run_rt(copy.root, "dev", warm.crate)
+    text, status = said_of(copy, warm.crate, set().union(*map(proved_anew, edits)))
     for edit in edits:
         copy.take_back(edit)
-    text = text.replace(copy.root + "/", "")
     for edit in edits:
         log = os.path.join(logs, edit.crate, edit.label)
         os.makedirs(os.path.dirname(log), exist_ok=True)
@@ -151,19 +185,9 @@ def check(edits, copy, warm, logs, from_nothing=False):
 
 
 def refused(text, status):
-    return status == 1 and re.search(r"^logic=not-proved|^rt: FAILED:", text, re.M)
+    """Whether the prover gave a verdict, and it is no. A library that is not built says so in another line."""
+    return status == 1 and re.search(r"^logic=not-proved|^rattle build: nothing was built, since only a proved crate is built", text, re.M)
 
 
-def folder_name():
-    """The name that the prover gives to the folder of checked modules below an incremental folder: asked of a crate with one empty function."""
-    root = os.path.join(PLACE, "asked")
-    os.makedirs(os.path.join(root, "crates", "nothing", "src"))
-    for name, text in (("crates.txt", "nothing:\n"), ("crates/nothing/src/lib.rt", "pub fn nothing() {\n}\n")):
-        with open(os.path.join(root, name), "w", encoding="utf-8") as file:
-            file.write(text)
-    text, _ = run_rt(root, "dev", "nothing")
-    inc = os.path.join(root, "target", "inc", "nothing")
-    names = [name for name in os.listdir(inc) if name.startswith("antt-checked")] if os.path.isdir(inc) else []
-    if len(names) != 1:
-        raise SystemExit(f"this kit keeps checked modules in another way:\n{text}")
-    return names[0]
+def proved(text, status):
+    return status == 0 and "\nlogic=proved" in text

@@ -1,16 +1,23 @@
 """Sorts what the prover prints when it refuses an edit: did a fact fail, or did the proof only lose its shape? Used by try-edits."""
+import os
 import re
 
 # Consequences of another error: they say nothing by themselves.
 CONSEQUENCE = [
     r"was not admitted \(it has holes or undetermined implicits, or was rejected\)",
+    r"declarations? that depends? on .*, which was (?:rejected|not admitted), (?:was|were) not checked",
 ]
 
-# The proof no longer fits the code or the definitions; whether a fact fails is not seen.
+# The proof no longer fits the code or the definitions, or the edit can't be read; whether a fact fails is not seen.
 SHAPE = [
     r"`rw`: no occurrence of the path's (?:left|right) endpoint",
     r"`simp`: no equation of the list has an instance in the goal",
-    r"has no `[^`]*` that can be named from here",
+    r"has no `[^`]*` that can be named",
+    r"has no field",
+    r"cannot be unfolded here",
+    r"is not in scope",
+    r"is no name",
+    r"operand is missing|expected the end|cannot continue",
     r"projects from a `×` type or a record, but this has type",
 ]
 
@@ -19,7 +26,8 @@ FACT = [
     r"^it is not proved that",
     r"`omega`: the (?:goal|part `[^`]*` of the goal) does not follow from what it read",
     r"`omega` found no proof",
-    r"`search`: no proof of",
+    r"`(?:search|grind)`: no proof of",
+    r"`(?:search|grind)` (?:found no proof|did not prove)",
     r"list the missing equation with its arguments, or rewrite by",
     r"the two (?:types|sides) (?:first |only )?differ",
     r": expected type `",
@@ -37,7 +45,7 @@ def kind_of(message):
 
 
 def errors_in(text):
-    """The place and the message of each error. Of a function whose proof the prover looks for by itself it says in a note what it can't prove."""
+    """The place and the message of each error. Of a goal that the prover looks for by itself it says in a note what it can't prove."""
     return re.findall(r"^(\S+:\d+:\d+): error: (.*)$", text, re.M) + re.findall(r"^note: (\S+:\d+:\d+): (it is not proved that .*)$", text, re.M)
 
 
@@ -47,7 +55,9 @@ def of_function(errors, function):
     own = []
     for place, message in errors:
         file, line, _ = place.rsplit(":", 2)
-        if file == function.proof() or (file == function.path and first <= int(line) <= last):
+        # its own files, and not those of the functions of a module of its name
+        is_proof = os.path.dirname(file) + "/" == function.proof()
+        if is_proof or (file == function.path and first <= int(line) <= last):
             own.append((place, message))
     return own
 

@@ -21,8 +21,9 @@ def listed():
     for line in read("crates.txt").split("\n"):
         line = line.split("#")[0]
         if ":" in line:
+            # behind the name may stand `staticlib`
             name, uses = line.split(":")
-            found[name.strip()] = uses.split()
+            found[name.split()[0]] = uses.split()
     return found
 
 
@@ -36,20 +37,23 @@ class Function:
     def __init__(self, path, name, is_public, start, text):
         self.path, self.name, self.is_public = path, name, is_public
         self.start, self.end = start, start + len(text)
-        # what stands before the body: the parameters and the contract
-        self.head, _, self.body = text.partition("\n{")
+        # what stands before the body: the parameters and the contract. Where there is no contract, the brace ends their line
+        opens = re.search(r"\n\{| \{$", text, re.M)
+        self.head, self.body = (text[: opens.start()], text[opens.end() :]) if opens else (text, "")
 
     def lines(self):
-        """The numbers of its first and last line, an attribute above it included."""
+        """The numbers of its first and last line, the attributes above it included."""
         before = read(self.path)[: self.start].split("\n")
-        first = len(before) - (1 if len(before) > 1 and before[-2].startswith("#[") else 0)
+        first = len(before)
+        while first > 1 and before[first - 2].startswith("#["):
+            first -= 1
         return first, len(before) + read(self.path)[self.start : self.end].rstrip().count("\n")
 
     def proof(self):
-        """Where its proof stands, if it has a file of its own."""
+        """The folder in which its proof stands, if it has files of its own, with the slash behind it."""
         crate, module = re.fullmatch(r"crates/(\w+)/src/(.*)\.rt", self.path).groups()
         folder = "" if module in ("lib", "main") else module + "/"
-        return f"crates/{crate}/proofs/{folder}{self.name}/Proof.antt"
+        return f"crates/{crate}/proofs/{folder}{self.name}/"
 
 
 @functools.lru_cache(maxsize=None)

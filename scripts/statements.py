@@ -24,10 +24,8 @@ class Group:
     def moved(self, text):
         """A text of the statements or the cases as it stands in the copy, where the statements are modules of the crate of the cases."""
         for path in self.files:
-            named = rf"Rattle·{path.split('/')[1]}(?:·specs)?\.specs\.(?:specs\.)?{module(path)}\b"
-            text = re.sub(named, f"Rattle·{self.crate}·specs.specs.{module(path)}", text)
-        others = "|".join({path.split("/")[1] for path in self.files} - {self.crate})
-        return re.sub(rf"Rattle·({others})·specs\.specs\.", r"Rattle·\1.specs.", text) if others else text
+            text = re.sub(rf"Rattle\.{path.split('/')[1]}\.specs\.{module(path)}\b", f"Rattle.{self.crate}.specs.{module(path)}", text)
+        return text
 
     def read(self, path):
         return self.moved(sources.read(path))
@@ -70,8 +68,8 @@ class Statement:
         self.path, self.kind, self.name, self.start, self.end, self.clauses = path, kind, name, start, end, clauses
 
     def is_thing(self, clause):
-        """Whether other fields of the record speak of this one; `.name` is a part of something else."""
-        others = re.sub(r"\s\.\S+", "", " ".join(c.text for c in self.clauses if c is not clause))
+        """Whether other fields of the record speak of this one; the `name` of `x.name` is a part of something else."""
+        others = re.sub(r"\.[^\s(){}.,]+", "", " ".join(c.text for c in self.clauses if c is not clause))
         return self.kind == "record" and clause.name in re.findall(r"[^\s(){}.,]+", others)
 
 

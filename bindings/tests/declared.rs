@@ -143,7 +143,7 @@ fn sorted(mut functions: Vec<String>) -> Vec<String> {
 
 #[test]
 fn the_server_for_rust_is_as_proved() {
-    let proved = proved(&sources("embed"));
+    let proved = proved(&sources("embed_c"));
     assert_eq!(proved.len(), 8);
     assert_eq!(declared(&rust("embed.rs")), proved);
 }
@@ -157,7 +157,7 @@ fn the_store_for_rust_is_as_proved() {
 
 #[test]
 fn the_server_for_c_is_as_proved() {
-    assert_eq!(in_header(&header()), proved(&sources("embed")));
+    assert_eq!(in_header(&header()), proved(&sources("embed_c")));
 }
 
 /// Each change of a text changes what is read of it.

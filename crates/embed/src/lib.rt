@@ -1,8 +1,8 @@
 // The server for programs in other languages, such as modem software: the same calls under plain names, on numbers and slices of numbers alone.
 //
-// A slice passes as a pointer and a length. The server's state stands in the caller's memory as 64-bit words. Every function takes any
-// slices and any numbers and asks nothing of its caller. A call answers by a number: 0 nothing is sent, 1 a packet is in the output, 2 the
-// link is closed, 32 to 35 refused, where nothing at all changes. The words that a call leaves are a state again.
+// The server's state stands in the caller's memory as 64-bit words. Every function takes any slices and any numbers and asks nothing of
+// its caller. A call answers by a number: 0 nothing is sent, 1 a packet is in the output, 2 the link is closed, 32 to 35 refused, where
+// nothing at all changes. The words that a call leaves are a state again. The crate embed_c gives these functions to C.
 #![tactic(auto)]
 
 mod words;
@@ -20,8 +20,7 @@ use words::Ready;
 // ---- memory
 
 // The number of words of the server's state.
-#[unsafe(no_mangle)]
-pub extern "C" fn figmorella_state_words() -> usize
+pub fn figmorella_state_words() -> usize
     ensures { result ≡ 54 }
 {
     54
@@ -29,8 +28,7 @@ pub extern "C" fn figmorella_state_words() -> usize
 
 // How long each slice must be for these sizes, in 7 numbers: state, disk, map, owner, table, selected, held. 0, or 33 for sizes outside
 // the table or a short `need`.
-#[unsafe(no_mangle)]
-pub extern "C" fn figmorella_memory(
+pub fn figmorella_memory(
     blocks: usize,
     files: usize,
     sessions: usize,
@@ -106,8 +104,7 @@ fn keep(made: Made, state: &mut [u64])
 }
 
 // A server with these sizes, over an empty store: 0, or 33 and nothing changed.
-#[unsafe(no_mangle)]
-pub extern "C" fn figmorella_make(
+pub fn figmorella_make(
     blocks: usize,
     files: usize,
     sessions: usize,
@@ -135,8 +132,7 @@ pub extern "C" fn figmorella_make(
 }
 
 // A link is there: the session begins, and LOGIN_RESP goes out.
-#[unsafe(no_mangle)]
-pub extern "C" fn figmorella_open(
+pub fn figmorella_open(
     state: &mut [u64],
     disk: &[u8],
     map: &[u64],
@@ -178,8 +174,7 @@ pub extern "C" fn figmorella_open(
 }
 
 // Takes bytes of a session's link, up to the end of one packet, and answers it.
-#[unsafe(no_mangle)]
-pub extern "C" fn figmorella_receive(
+pub fn figmorella_receive(
     state: &mut [u64],
     disk: &mut [u8],
     map: &mut [u64],
@@ -222,8 +217,7 @@ pub extern "C" fn figmorella_receive(
 }
 
 // What is due on a session's downlink: one packet, or nothing.
-#[unsafe(no_mangle)]
-pub extern "C" fn figmorella_request(
+pub fn figmorella_request(
     state: &mut [u64],
     disk: &[u8],
     map: &[u64],
@@ -264,8 +258,7 @@ pub extern "C" fn figmorella_request(
 }
 
 // The link is lost: the session is closed.
-#[unsafe(no_mangle)]
-pub extern "C" fn figmorella_lose(
+pub fn figmorella_lose(
     state: &mut [u64],
     disk: &[u8],
     map: &[u64],
@@ -316,8 +309,7 @@ fn free_in(server: Server, map: &[u64], counts: &mut [usize])
 }
 
 // The number of free blocks and the number of all blocks, as two counts.
-#[unsafe(no_mangle)]
-pub extern "C" fn figmorella_free(state: &[u64], map: &[u64], counts: &mut [usize]) -> u8
+pub fn figmorella_free(state: &[u64], map: &[u64], counts: &mut [usize]) -> u8
     ensures { filled result counts.new ≡ free_by state.now map.now counts.old }
 {
     let k = words::check_map(state, counts.len(), map.len());
