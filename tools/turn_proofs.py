@@ -150,6 +150,8 @@ class Function:
         """A field of a call's step: `.ensures.1.0`, `.auto.1.1.0` and `.new.0` by their names today."""
         if at >= len(segs):
             return segs
+        if segs[at] in ("kept", "last") and at + 1 < len(segs) and segs[at + 1] in ("0", "1"):
+            segs = segs[:at] + [{"kept": "auto", "last": "new"}[segs[at]]] + segs[at + 1 :]
         if segs[at] in ("auto", "new") and at + 1 < len(segs) and segs[at + 1] in ("0", "1"):
             k = at + 1
             while k < len(segs) and segs[k] == "1":

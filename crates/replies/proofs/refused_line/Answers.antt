@@ -1,0 +1,19 @@
+use mathlib.Core.List.{[], ◌∷◌}
+use Prim.Native.Nat.{◌-◌}
+use Rattle.replies.proofs.ReplyLaws as laws
+use Rattle.packet.specs.Names.{bytes_of}
+use Rattle.replies.specs.Reply.{refused_line}
+use Rattle.replies.proofs.refused_line.Goals as goal
+
+pub returns : goal.returns
+unfolding refused_line bytes_of
+returns c =
+    let a = c.args in
+    let p = c.push-a in
+    let q = c.push-b in
+    let r = c.push in record {
+      value = laws.size a.out.now p.new.out q.new.out r.new.out (bytes_of "refused\t") a.word.now (10 ∷ []) p.result q.result r.result
+          p.ensures.value p.ensures.out_after q.ensures.value q.ensures.out_after r.ensures.value r.ensures.out_after;
+      out_after = laws.pieces a.out.now p.new.out q.new.out r.new.out (bytes_of "refused\t") a.word.now (10 ∷ []) p.result q.result r.result
+          p.ensures.value p.ensures.out_after q.ensures.value q.ensures.out_after r.ensures.value r.ensures.out_after;
+    }
