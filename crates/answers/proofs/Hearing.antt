@@ -163,6 +163,7 @@ hears part held input w room =
               some_taken = f.some_taken;
               event = v;
               came = e ∙ rw (← f.nothing v q, ← q);
-              is = rw (eq-eqb (length part) 258 w, lt-ltb held 258 room, e, q, f.nothing v q);
+              is = rw (eq-eqb (length part) 258 w, lt-ltb held 258 room, e, q, f.nothing v q)
+                  (ap (λ (h : Held). heard (answer_by c.taken h (some v)) none_held.part) (f.nothing v q));
               info = λ k i z. f.info k i (q ∙ ap some z);
             })

@@ -28,7 +28,7 @@ use Rattle.pass.specs.declared.Pass.{Pass}
 use Rattle.pass.specs.declared.Stage.TheVariants as stage
 use Rattle.pass.specs.Pass.{Memory, memory, Passing, passing, unread, error_of, beyond, said_to, said_of, begun_as, read_at, does_at, begun_of, waiting_text}
 use Rattle.pass.specs.Pass.{kept_of, filled_to}
-use Rattle.pass.specs.Sheets.{More, Fair, lines_by, sheet_by}
+use Rattle.pass.specs.Sheets.{More, Fair, sheet_by}
 use Rattle.pass.specs.Run.{MayFollow}
 use Rattle.pass.proofs.SheetLaws.{to_come, come_rests, lines_unreadable, lines_said, lines_begin_in}
 use Rattle.pass.proofs.Holding.{remaining, Holds, few_lines, as_lines}

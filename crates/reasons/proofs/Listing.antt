@@ -182,6 +182,7 @@ holds_in table (p ∷ ps) number (Memᴰ.tail m) =
     let i = holds_in table ps number m in record { place = i.place; member = Memᴰ.tail i.member; is = i.is }
 
 pub number_back : (table ps : List ℕ) (p : ℕ) → Memᴰ p ps → In (record_at table p).number (numbers_at table ps)
+number_back table [] p x' = elim x' [ ]
 number_back table (q ∷ ps) p (Memᴰ.head e) = Memᴰ.head (ap (λ (x : ℕ). (record_at table x).number) e)
 number_back table (q ∷ ps) p (Memᴰ.tail m) = Memᴰ.tail (number_back table ps p m)
 

@@ -78,6 +78,7 @@ parse_numbers eq t e =
 -- ---- numbers that rise
 
 pub rising_in : (low high n : ℕ) (ns : List ℕ) → Rising low high ns → In n ns → (low < n) × (n ≤ high)
+rising_in low high n [] r x'' = elim x'' [ ]
 rising_in low high n (x ∷ ns) r (Memᴰ.head e) = (omega (arith, r.0), omega (arith, r.1))
 rising_in low high n (x ∷ ns) r (Memᴰ.tail m) = let h = rising_in x high n ns r.2 m in (omega (arith, r.0, h.0), h.1)
 

@@ -327,7 +327,7 @@ module _ (eq : List ℕ) (number : ℕ) (disk owner table : List ℕ) (most : �
   promised = go case
     where
       go : Case → P W
-      go (refuses r) = subst P (sym r.is) (refused_promised r.by r.some_number r.for-33)
+      go (refuses r) = subst P (sym r.is) (refused_promised r.by r.some_number r.for_33)
       go (answers a) = subst P (sym a.is) (answered_promised a)
 
 -- THE THEOREM: all of it, of every call

@@ -91,6 +91,7 @@ module _ (d : Demand1) where
           → (call_of sv l (receive session clock input out)).done.server
           ≡ with_link sv (session - 1) (with_up (with_held (link_of sv (session - 1)) 0) up.Idle)
       go up.Idle over q = q
+      go (up.Receiving _ _ _) x5 q = elim x5 [ ]
       go up.Ignoring (overrun is) q = absurd (n is)
 
   -- 33: whatever is called with a disk that is one byte too short

@@ -117,6 +117,7 @@ module _ (d : Demand2) where
     where
       go : (v : Option Event) → Unwelcome (link_of sv i) v → v ≡ some (packet kind info)
           → expected (link_of sv i).up (link_of sv i).down kind (length info) ≡ false
+      go mathlib.Core.Option.none x'' q = elim x'' [ ]
       go (some too_long) long q = let z : ◌≡◌ {A = ℕ} 0 1 = cc in absurd (omega arith)
       go (some (packet k xs)) (unexpected _ _ u) q =
           let a : k ≡ kind = cc in
