@@ -1,19 +1,19 @@
 -- Laws on the parts of a turn: a line that is answered, and input that is read. Assumes nothing.
-use Rattle.std.proofs.Common.{◌≡◌, ℕ, suc, ◌+◌, ◌-◌, ◌*◌, ◌^◌, ◌<◌, ◌≤◌, Bool, true, false, cond, eqb, ltb, List, ◌++◌, length, take, drop, sym, refl, ap, ◌∙◌, arith, take-append-drop, take_all, ltb-false, ltb-true}
+use Rattle.std.proofs.Common.{◌≡◌, ℕ, suc, ◌+◌, ◌-◌, ◌*◌, ◌^◌, ◌<◌, ◌≤◌, Bool, true, false, cond, eqb, ltb, List, ◌++◌, length, take, drop, sym, refl, ap, ◌∙◌, arith, take-append-drop, take_all, ltb-false}
 use mathlib.Core.Option.{Option, none, some}
 use Rattle.server.specs.State.{Lent}
-use Rattle.lines.specs.Lines.{Printed, printed, printed_in}
+use Rattle.lines.specs.Lines.{printed, printed_in}
 use Rattle.input.specs.Parts.{bytes_from, least_of, wrapped}
 use Rattle.input.proofs.PartLaws.{bytes_part}
 use Rattle.input.specs.Input.{shifted, shift_of}
 use Rattle.input.proofs.Places.{end_part, put_end, wrapped_same, input_brought}
 use Rattle.script.specs.declared.Day.{Day}
 use Rattle.script.specs.Line.{Ran, ran}
-use Rattle.replies.specs.Reply.{Replies, replies, lined, replied}
+use Rattle.replies.specs.Reply.{Replies, replies, replied}
 use Rattle.replies.specs.declared.Reply.{Reply}
 use Rattle.replies.specs.declared.Reply.TheVariants as reply
 use Rattle.pass.specs.declared.Pass.{Pass}
-use Rattle.pass.specs.Pass.{Put, put, pass_of, memory, passing, passed_over, said_of, error_then_last_put}
+use Rattle.pass.specs.Pass.{put, pass_of, memory, passing, passed_over, said_of, error_then_last_put}
 use Rattle.pass.specs.Narrow.{Filled}
 use Rattle.pass.proofs.Parts.{none_said, some_said, input_filled}
 use Rattle.classday.specs.Sheet.{only_prints, prints_at, class_words, behind, reply_behind}

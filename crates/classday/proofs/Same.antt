@@ -1,10 +1,10 @@
 -- On a script of passday's words alone `classday` prints what `passday` prints. Assumes nothing.
-use Rattle.std.proofs.Common.{◌≡◌, ℕ, zero, suc, ◌+◌, ◌<◌, ◌≤◌, Bool, true, false, cond, not, ◌||◌, eqb, ltb, List, [], ◌∷◌, ◌++◌, length, take, drop, sym, refl, ap, ◌∙◌, add-one, arith, drop_of_length-le, ltb-false, ltb-true, le-ltb, lt-ltb}
+use Rattle.std.proofs.Common.{◌≡◌, ℕ, zero, suc, ◌+◌, Bool, true, false, cond, not, ◌||◌, eqb, ltb, List, [], ◌∷◌, ◌++◌, length, take, drop, sym, refl, ap, ◌∙◌, add-one, arith, drop_of_length-le, ltb-false, ltb-true, le-ltb, lt-ltb}
 use mathlib.Core.Path.{fun_ext}
 use mathlib.Core.Option.{Option, none, some}
 use Rattle.packet.specs.Names.{bytes_of}
 use Rattle.server.specs.State.{Lent}
-use Rattle.history.specs.Calls.{Start, made}
+use Rattle.history.specs.Calls.{made}
 use Rattle.lines.specs.declared.commands.Command.{Command}
 use Rattle.lines.specs.declared.commands.Command.TheVariants as command
 use Rattle.lines.specs.Commands.{fields_of, command_of_fields, command_of, onto}
@@ -16,12 +16,12 @@ use Rattle.script.specs.declared.Day.{Day}
 use Rattle.script.specs.declared.doing.Doing.TheVariants as doing
 use Rattle.script.specs.Day.{day_of}
 use Rattle.script.specs.Line.{Ran}
-use Rattle.script.specs.Sheet.{first_line, last_line, error_then_last, run_of, sheet_of}
+use Rattle.script.specs.Sheet.{first_line, last_line, error_then_last, run_of}
 use Rattle.pass.specs.Narrow.{readable_of}
-use Rattle.pass.specs.Sheets.{More, no_more, by_reader, does_by, goes_on, lines_by, sheet_by}
+use Rattle.pass.specs.Sheets.{no_more, by_reader, does_by, goes_on, lines_by, sheet_by}
 use Rattle.pass.proofs.SheetLaws.{no_more_law}
-use Rattle.words.specs.Why.{reply_by, ask_in}
-use Rattle.classday.specs.Sheet.{only_prints, prints_at, class_words, class_sheet_of}
+use Rattle.words.specs.Why.{reply_by}
+use Rattle.classday.specs.Sheet.{only_prints, class_words, class_sheet_of}
 use Rattle.classday.specs.Same.{lines_of, has_class_word, passday_line, passday_lines, SameAsPassday}
 
 -- ---- a line

@@ -1,8 +1,8 @@
 -- THE PROGRAM: every run of it, however the input comes in pieces, writes the sheet of the class script that was read. Assumes nothing.
-use Rattle.std.proofs.Common.{◌≡◌, ℕ, ◌≤◌, List, refl, arith}
+use Rattle.std.proofs.Common.{ℕ, List, refl, arith}
 use Rattle.history.specs.Calls.{Start, made}
 use Rattle.pass.specs.Pass.{memory, Passing}
-use Rattle.pass.specs.Run.{HasRoom, EveryRun, PrintsBy}
+use Rattle.pass.specs.Run.{EveryRun, PrintsBy}
 use Rattle.pass.specs.Sheets.{sheet_by}
 use Rattle.pass.proofs.Whole.{every_program}
 use Rattle.classday.specs.Sheet.{class_words, class_sheet_of}

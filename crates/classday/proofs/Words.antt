@@ -1,10 +1,8 @@
 -- The words that passday does not know are fair (crates/pass, specs/Sheets.antt): their lines have room, and change nothing. Assumes nothing.
-use Rattle.std.proofs.Common.{◌≡◌, ℕ, ◌<◌, ◌≤◌, true, List, ◌++◌, length, take, sym, refl, ap, ◌∙◌, arith}
+use Rattle.std.proofs.Common.{◌≡◌, ℕ, List, sym, refl, arith}
 use mathlib.Core.Option.{Option, none, some}
 use Rattle.server.specs.State.{Lent}
-use Rattle.history.specs.Good.{Good}
 use Rattle.script.specs.declared.Day.{Day}
-use Rattle.script.specs.Doing.{rests_of}
 use Rattle.script.specs.Line.{Ran, ran}
 use Rattle.pass.specs.Sheets.{Fair}
 use Rattle.words.proofs.Lines.{reply_most}

@@ -1,6 +1,6 @@
 -- What holds between two turns of the program: what was written, what waits to be written and what is still to come are the output. Each turn keeps it.
 -- Assumes nothing.
-use Rattle.std.proofs.Common.{◌≡◌, ℕ, ◌+◌, ◌-◌, ◌^◌, ◌<◌, ◌≤◌, true, false, List, [], ◌++◌, length, take, sym, refl, ap, ◌∙◌, append_assoc, arith, length-append}
+use Rattle.std.proofs.Common.{◌≡◌, ℕ, ◌+◌, ◌^◌, ◌<◌, ◌≤◌, true, false, List, [], ◌++◌, length, take, sym, refl, ap, ◌∙◌, append_assoc, arith, length-append}
 use Rattle.input.specs.declared.Found.TheVariants as found
 use Rattle.input.specs.Parts.{least_of}
 use Rattle.input.specs.Input.{find_of}

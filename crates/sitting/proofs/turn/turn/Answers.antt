@@ -1,0 +1,53 @@
+use Rattle.sitting.proofs.Parts.{step_joins}
+use Rattle.sitting.proofs.Turning.{turned_step, turned_finish, turned_line, turned_flush, turned_fill, turned_last, turned_error}
+use Rattle.sitting.proofs.turn.turn.Goals as goal
+
+pub decide-next-requires : goal.decide-next-requires
+decide-next-requires c = tt
+
+pub step-marked-requires : goal.step-marked-requires
+step-marked-requires c = tt
+
+pub stepped-requires : goal.stepped-requires
+stepped-requires c = tt
+
+pub finish_line-requires : goal.finish_line-requires
+finish_line-requires c = tt
+
+pub begin_line-requires : goal.begin_line-requires
+begin_line-requires c = tt
+
+pub flush-requires : goal.flush-requires
+flush-requires c = tt
+
+pub fill-requires : goal.fill-requires
+fill-requires c = tt
+
+pub put_last-requires : goal.put_last-requires
+put_last-requires c = tt
+
+pub put_error-requires : goal.put_error-requires
+put_error-requires c = tt
+
+pub returns-in-Step : goal.returns-in-Step
+returns-in-Step c =
+    turned_step _ _ _ c.decide-next.ensures _ c.in-Step.is
+    (step_joins c.args.sitting _ _ _ c.args.input.now _ _ _ _ c.step-marked.ensures c.stepped.ensures)
+
+pub returns-in-Finish : goal.returns-in-Finish
+returns-in-Finish c = turned_finish _ _ _ c.decide-next.ensures _ _ c.in-Finish.is c.finish_line.ensures
+
+pub returns-in-Line : goal.returns-in-Line
+returns-in-Line c = turned_line _ _ _ c.decide-next.ensures _ _ _ _ c.in-Line.is c.begin_line.ensures
+
+pub returns-in-Flush : goal.returns-in-Flush
+returns-in-Flush c = turned_flush _ _ _ c.decide-next.ensures _ c.in-Flush.is c.flush.ensures
+
+pub returns-in-Fill : goal.returns-in-Fill
+returns-in-Fill c = turned_fill _ _ _ c.decide-next.ensures _ _ c.in-Fill.is c.fill.ensures
+
+pub returns-in-Last : goal.returns-in-Last
+returns-in-Last c = turned_last _ _ _ c.decide-next.ensures _ _ c.in-Last.is c.put_last.ensures
+
+pub returns-in-Error : goal.returns-in-Error
+returns-in-Error c = turned_error _ _ _ c.decide-next.ensures _ _ c.in-Error.is c.put_error.ensures

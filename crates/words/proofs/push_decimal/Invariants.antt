@@ -1,0 +1,14 @@
+use mathlib.Core.Path.{◌≡◌}
+use Prim.Native.Nat.{◌+◌, ◌-◌, ◌≤◌}
+use lib.ListN.{length}
+use lib.Seq.{sets}
+use Rattle.lines.specs.Text.{decimal_of}
+use Rattle.words.proofs.push_decimal.Given as goal
+
+abbrev pub invariant-loop-rest : goal.invariant-loop-rest
+invariant-loop-rest l =
+    (length l.out ≡ length l.initial.out) × (l.i + 1 ≡ l.n + length (decimal_of l.rest)) × (l.n + length (decimal_of l.rest) ≤ length l.initial.out) ×
+    (sets l.out l.n (decimal_of l.rest) ≡ sets l.initial.out l.n (decimal_of l.v))
+
+abbrev pub decreases-loop-rest : goal.decreases-loop-rest
+decreases-loop-rest l = l.rest
