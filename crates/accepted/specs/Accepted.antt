@@ -85,7 +85,7 @@ last_from t (c ∷ cs) = last_from c.time cs
 abbrev pub last_time : List Completion → ℕ
 last_time cs = last_from 0 cs
 
--- "Upload time is the clock, or the last one given plus 1 if that is larger" (`timeAt`, crates/model/specs/Uplink.antt)
+-- "Upload time is the clock, or the last one given plus 1 if that is larger" (`time_at`, crates/model/specs/Uplink.antt)
 unfoldable pub completed_by : Event → ℕ → List Completion
 completed_by nothing last = []
 completed_by (given k size) last = []

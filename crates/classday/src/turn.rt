@@ -152,7 +152,7 @@ fn write_front(mut stdout: Stdout, text: &[u8], n: usize) -> bool {
     streams::write_all(&mut stdout, &text[..size])
 }
 
-// Writes out what waits (`waitingText`).
+// Writes out what waits (`waiting_text`).
 fn flush(stdout: Stdout, pass: Pass, text: &[u8]) -> Pass
     ensures { Flushed pass result }
 {

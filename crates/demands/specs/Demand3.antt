@@ -1,7 +1,7 @@
 -- Demand 3, on the state after any history: "From an empty store, after any calls, links lost at any byte and clocks running backwards included". `s` is
 -- what the server was made with, `h` the calls in order. What is said of the files by their numbers is said of the machine (crates/accepted/specs/
 -- Agreement.antt); here it is joined with the blocks and the places of the server's memory. That all of it holds for every legal start and every history
--- is `demand-3` (proofs/Whole.antt); proofs/AtWork.antt shows it at work. Assumes nothing.
+-- is `demand_3` (proofs/Whole.antt); proofs/AtWork.antt shows it at work. Assumes nothing.
 use Rattle.std.specs.Prelude.{◌≡◌, ◌⊎◌, ℕ, ◌+◌, ◌<◌, length, get_or}
 use Rattle.std.proofs.Math.Option.{some}
 use Rattle.blocks.specs.FreeMap.{free_count, bit_at}

@@ -1,4 +1,4 @@
--- The desk writes `deskOf` of the answer sheet that it read. Assumes nothing.
+-- The desk writes `desk_of` of the answer sheet that it read. Assumes nothing.
 use Rattle.marking.specs.declared.Kind.TheVariants as kind
 use Rattle.runs.proofs.Whole.{program_prints}
 use Rattle.desk.specs.Desk.{DeskPrints}

@@ -1,4 +1,4 @@
--- THE DESK: what the program's own run writes is `deskOf` of the answer sheet that it read, from "`passday`'s empty store". `run` (src/main.rt) has the
+-- THE DESK: what the program's own run writes is `desk_of` of the answer sheet that it read, from "`passday`'s empty store". `run` (src/main.rt) has the
 -- contract `Sat kind.Desk`. Assumes nothing.
 use Rattle.std.specs.Prelude.{◌≡◌, List, ◌++◌, ℕ, ◌<◌, ◌^◌, length}
 use Rattle.marking.specs.declared.Kind.TheVariants as kind

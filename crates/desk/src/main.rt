@@ -1,5 +1,5 @@
 // The marking desk: reads a pupil's answer sheet from standard input and writes for each line `right` or `wrong` and the server's fields, then `marks`
-// and the count of right lines. All of it is the crate sitting's run of the desk; what it writes is `deskOf` of the sheet that it read
+// and the count of right lines. All of it is the crate sitting's run of the desk; what it writes is `desk_of` of the sheet that it read
 // (crates/marking/specs/Desk.antt; DeskPrints in specs/Desk.antt).
 #![tactic(auto)]
 

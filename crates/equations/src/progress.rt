@@ -227,7 +227,7 @@ fn written_stage(stage: Stage) -> Stage
     }
 }
 
-// Writes out what waits (`waitingText`).
+// Writes out what waits (`waiting_text`).
 fn flush(stdout: Stdout, progress: Progress, text: &[u8]) -> Progress
     ensures { Flushed progress result }
 {

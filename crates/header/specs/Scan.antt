@@ -184,7 +184,7 @@ header_from s (b ∷ bs) = cond (in_header s.phase) (header_from (step_of s b) b
 abbrev pub seen_refusal : Seen → ℕ
 seen_refusal s = cond s.ok (cond (nat_le s.uploads 1) (cond (s.low == 11) (cond (s.uploads == 1) 0 6) 6) 14) 14
 
--- the refusal of the items, as `checkItems` of specs/Header.antt
+-- the refusal of the items, as `check_items` of specs/Header.antt
 unfoldable pub item_refusal : Scan → ℕ
 item_refusal s = cond (unmarked s.phase) 7 (cond (in_body s.phase) (seen_refusal s.seen) 14)
 
@@ -192,7 +192,7 @@ item_refusal s = cond (unmarked s.phase) 7 (cond (in_body s.phase) (seen_refusal
 abbrev pub scan_sum : Passed → Seen → ℕ
 scan_sum p s = (p.sum + 131072 - s.headsum / 65536 % 256 - s.headsum / 16777216) % 65536
 
--- the refusal of the values, as `checkValues`
+-- the refusal of the values, as `check_values`
 abbrev pub value_refusal : Passed → Seen → ℕ → ℕ → ℕ
 value_refusal p s body announced =
     cond (s.offset / 65536 == p.pos)
@@ -207,7 +207,7 @@ scan_verdict s got announced =
     cond (nat_lt got announced) 16
     (cond (item_refusal s == 0) (value_refusal s.passed s.seen s.body announced) (item_refusal s))
 
--- what the header says, as `headerOf`
+-- what the header says, as `header_of`
 unfoldable pub scan_header : Scan → Header
 scan_header s =
     cond (item_refusal s == 0)

@@ -321,8 +321,8 @@ module _ (sessions most : ℕ) (selected held : List ℕ) (links : List Session)
       (decide_fit (files m.table) links acting most m.selected r frame info)
 
 -- The hypotheses follow from a good state: LinksFacts and Stored are what refusal 35 tests and what calls keep, Kept is what an act leaves of a
--- sound store, m has the session's part of the selections, and hearing leaves the other sessions' packets (`packet-stays`). The last one is about
--- the bytes held that were heard, since an act leaves them or forgets them (`turn-acted`, field held).
+-- sound store, m has the session's part of the selections, and hearing leaves the other sessions' packets (`packet_stays`). The last one is about
+-- the bytes held that were heard, since an act leaves them or forgets them (`turn_acted`, field held).
 pub turn_links : (sessions most : ℕ) (selected held held' : List ℕ) (links : List Session) (i n : ℕ) (m : Mem) (last : Last) (clock : ℕ)
     (frame : Frame) (info : List ℕ)
     → let s = with_held (link links i) n in

@@ -1,4 +1,4 @@
--- What refusal 35 says of the sessions ("a length, offset or name points at what the store lacks"), as facts, and that `linksSound` is true
+-- What refusal 35 says of the sessions ("a length, offset or name points at what the store lacks"), as facts, and that `links_sound` is true
 -- exactly where they hold. With what calls keep besides (`LinksKept`) they are the facts of every state that calls made. Four closed sessions
 -- have them, whatever the store. Assumes nothing.
 use mathlib.Core.Path.{◌≡◌, refl, sym, ◌∙◌}
@@ -397,7 +397,7 @@ module _ (fs : List File) (sessions most : ℕ) (selected held : List ℕ) (link
     packets : leb (sessions * 258) (length held) ≡ true
     each : (i : ℕ) → i < 4 → link_at fs sessions most selected held links i ≡ true
 
-  -- `linksSound` is true: the facts hold
+  -- `links_sound` is true: the facts hold
   pub sound_facts : links_sound fs sessions most selected held links ≡ true → LinksTested fs sessions most selected held links
   unfolding links_sound
   sound_facts e =
@@ -429,7 +429,7 @@ module _ (fs : List File) (sessions most : ℕ) (selected held : List ℕ) (link
             each = λ i l. in_fact fs sessions most selected held (link links i) i n (t.each i (omega arith)) l;
           }
 
-  -- the facts hold: `linksSound` is true
+  -- the facts hold: `links_sound` is true
   pub facts_sound : LinksTested fs sessions most selected held links → links_sound fs sessions most selected held links ≡ true
   unfolding links_sound
   facts_sound f =

@@ -20,7 +20,7 @@ unfoldable pub without : ℕ → List File → List File
 without n [] = []
 without n (f ∷ fs) = cond (eqb f.number n) (without n fs) (f ∷ without n fs)
 
--- "A new file reserves its length divided by 256, rounded up, in blocks" (`blocksFor`): those of all files, and the blocks that are free
+-- "A new file reserves its length divided by 256, rounded up, in blocks" (`blocks_for`): those of all files, and the blocks that are free
 unfoldable pub reserved : List File → ℕ
 reserved [] = 0
 reserved (f ∷ fs) = blocks_for f.size + reserved fs

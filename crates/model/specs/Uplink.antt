@@ -74,7 +74,7 @@ on_data ignoring m i info = turn reply.Nothing m
 abbrev pub time_at : ℕ → ℕ → ℕ
 time_at clock last = cond (ltb clock (last + 1)) (last + 1) clock
 
--- "On success the server sets .. file_number, upload_time, last_modified_time .. and header_checksum", and with them file_name (`fieldsSet`).
+-- "On success the server sets .. file_number, upload_time, last_modified_time .. and header_checksum", and with them file_name (`fields_set`).
 abbrev pub completed : ℕ → File → File
 completed time f = file f.number f.size (fields_set f.number time f.bytes) time
 

@@ -287,7 +287,7 @@ fn written_stage(stage: Stage) -> Stage
     }
 }
 
-// Writes out what waits (`waitingText`).
+// Writes out what waits (`waiting_text`).
 fn flush(stdout: Stdout, pass: Pass, text: &[u8]) -> Pass
     ensures { Flushed pass result }
 {

@@ -63,7 +63,7 @@ pub data Answers (sv : Server) (l : Lent) (c : Call) (o : Outcome) : Type 0 wher
 -- `call_of` is what the contracts of the four calls (crates/server/src) say that a call answers and leaves, and each contract is proved of the code.
 -- "The program always ends, asks nothing of its caller beforehand": both come with that proof. A function is proved only if it returns for every
 -- value that it may be handed; and what a function asks of its caller stands as `requires` before its body: no public function has one. The script
--- program works a line off in such calls, and `line-ends` (crates/script/proofs/Ending.antt) says that it comes to the line's end.
+-- program works a line off in such calls, and `line_ends` (crates/script/proofs/Ending.antt) says that it comes to the line's end.
 abbrev pub EveryCallAnswers : Type 0
 EveryCallAnswers = (sv : Server) (l : Lent) (c : Call) → Answers sv l c (call_of sv l c)
 

@@ -1,4 +1,4 @@
--- What a request of the driver brings with nothing due (demand 2). What one request brings is the machine's `onRequest`
+-- What a request of the driver brings with nothing due (demand 2). What one request brings is the machine's `on_request`
 -- (crates/model/specs/Downlink.antt). Assumes nothing.
 use Rattle.std.specs.Prelude.{◌≡◌, Bool, true, false, List, ℕ}
 use Rattle.session.specs.declared.state.Downlink.{Downlink}

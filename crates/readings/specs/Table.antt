@@ -1,4 +1,4 @@
--- Why a text is wrong at its first wrong place: what is wanted there, by the bytes before it (`At`), and what stands there give the reason (`reasonAt`, the
+-- Why a text is wrong at its first wrong place: what is wanted there, by the bytes before it (`At`), and what stands there give the reason (`reason_at`, the
 -- table of docs/EQUATIONS.md row by row). It speaks of the grammar alone; that the reader's reason is this one is `told` (proofs/TableLaws.antt).
 -- Assumes nothing.
 use Rattle.std.specs.Prelude.{◌≡◌, Bool, true, false, cond, List, [], ◌∷◌, ◌++◌, map, ℕ, zero, suc, ◌+◌, ◌*◌, ◌<◌, leb, eqb, length, take, drop}

@@ -33,7 +33,7 @@ pub record Counted (map owner : List ℕ) : Type 0 where
 abbrev pub error_then_last : ℕ → Lent → List ℕ
 error_then_last number l = error_line number ++ last_line l
 
--- a line run to its end: it rests after at most its bytes and 1,048,580 steps (`line-ends`, proofs/Ending.antt)
+-- a line run to its end: it rests after at most its bytes and 1,048,580 steps (`line_ends`, proofs/Ending.antt)
 abbrev pub run_of : Day → Lent → List ℕ → Ran
 run_of day l line = line_of (length (rx_bytes line) + 1048580) (begin_of day (command_of line)) l (rx_bytes line)
 

@@ -1,5 +1,5 @@
 -- The calls of the driver (document 01). Each is one definition of all that it is handed: the answer, the server, the slices and the output
--- afterwards. `sound` says whether the state is none that 35 refuses: `receiveOf` and the others test the state that they are handed; a driver that keeps
+-- afterwards. `sound` says whether the state is none that 35 refuses: `receive_of` and the others test the state that they are handed; a driver that keeps
 -- the state from call to call and shows it to nobody may say true, since "35 .. never for a state that calls made from the empty store". Assumes nothing.
 use Rattle.std.specs.Prelude.{◌≡◌, Bool, true, false, List, ℕ, ◌+◌, ◌*◌, ◌≤◌, length, replicate}
 use Rattle.session.specs.declared.reply.Answer.TheVariants as answer

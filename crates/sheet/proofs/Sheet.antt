@@ -1,4 +1,4 @@
--- `sheet` writes `rightSheetOf` of the script that it read. Assumes nothing.
+-- `sheet` writes `right_sheet_of` of the script that it read. Assumes nothing.
 use Rattle.marking.specs.declared.Kind.TheVariants as kind
 use Rattle.runs.proofs.Whole.{program_prints}
 use Rattle.sheet.specs.Sheet.{SheetPrints}

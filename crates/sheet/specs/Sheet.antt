@@ -1,4 +1,4 @@
--- THE SHEET: what the program's own run writes is `rightSheetOf` of the script that it read, from "`passday`'s empty store". `run` (src/main.rt) has the
+-- THE SHEET: what the program's own run writes is `right_sheet_of` of the script that it read, from "`passday`'s empty store". `run` (src/main.rt) has the
 -- contract `Sat kind.Sheet`. Assumes nothing.
 use Rattle.std.specs.Prelude.{◌≡◌, List, ◌++◌, ℕ, ◌<◌, ◌^◌, length}
 use Rattle.marking.specs.declared.Kind.TheVariants as kind

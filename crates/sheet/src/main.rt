@@ -1,5 +1,5 @@
 // The right answer sheet of a script: each line's fields as they stand, then all that `passday` prints for it, less the session. All of it is the crate
-// sitting's run of the sheet; what it writes is `rightSheetOf` of the script that it read (crates/marking/specs/Desk.antt; SheetPrints in
+// sitting's run of the sheet; what it writes is `right_sheet_of` of the script that it read (crates/marking/specs/Desk.antt; SheetPrints in
 // specs/Sheet.antt).
 #![tactic(auto)]
 

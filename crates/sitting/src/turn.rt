@@ -451,7 +451,7 @@ fn written_stage(stage: Stage) -> Stage
     }
 }
 
-// Writes out what waits (`waitingText`).
+// Writes out what waits (`waiting_text`).
 fn flush(stdout: Stdout, sitting: Sitting, text: &[u8]) -> Sitting
     ensures { Flushed sitting result }
 {

@@ -1,5 +1,5 @@
 -- The file table: one record for each file place, four words a record, and what is found in it.
--- All but `files`, `words` and `putTable` speak of the list of records and do not know how a record is stored.
+-- All but `files`, `words` and `put_table` speak of the list of records and do not know how a record is stored.
 use Rattle.std.specs.Prelude.{ℕ, suc, ◌+◌, ◌*◌, ◌/◌, Bool, cond, not, ◌&&◌, List, [], ◌∷◌, map, length, get_or, eqb, ltb}
 use Rattle.std.proofs.lemmas.List.Edits.{sets}
 use Rattle.table.specs.declared.File.{File}

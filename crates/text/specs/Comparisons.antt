@@ -30,6 +30,6 @@ behind (p ∷ ps) ts = cond (eqb p 42) (tried ps (behind ps) ts) (behind ps ts)
 unfoldable pub comparisons : List ℕ → List ℕ → ℕ
 comparisons ps ts = compared ps ts + cond (star_at ps (fitting ps ts)) (behind ps (drop (fitting ps ts) ts)) 0
 
--- the count stops at the largest number of its type, 64 bits; theorem `never-stops` (proofs/Counting.antt): not where texts have at most 255 bytes
+-- the count stops at the largest number of its type, 64 bits; theorem `never_stops` (proofs/Counting.antt): not where texts have at most 255 bytes
 unfoldable pub up_to64 : ℕ → ℕ
 up_to64 n = cond (leb n 18446744073709551615) n 18446744073709551615

@@ -1,4 +1,4 @@
--- `table::file_fits` meets its contract. Each return is one conjunct of `fileFits`, the earlier ones being true.
+-- `table::file_fits` meets its contract. Each return is one conjunct of `file_fits`, the earlier ones being true.
 use Prim.Native.Nat.{◌-◌}
 use mathlib.Core.Path.{sym, ◌∙◌}
 use borrow.Author.Tests.{le-leb, lt-leb, eq-eqb, ne_eqb}

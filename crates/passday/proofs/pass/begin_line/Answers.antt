@@ -15,9 +15,6 @@ is_readable-requires c = tt
 pub begun-requires : goal.begun-requires
 begun-requires c = tt
 
-pub shape_of-bytes-then-is_readable : goal.shape_of-bytes-then-is_readable
-shape_of-bytes-then-is_readable c = c.bytes-1.given
-
 pub returns-then-is_readable : goal.returns-then-is_readable
 returns-then-is_readable c = record {
   text_after = (λ disk table selected held.
@@ -31,12 +28,6 @@ returns-then-is_readable c = record {
 
 pub put_error-requires : goal.put_error-requires
 put_error-requires c = tt
-
-pub shape_of-bytes : goal.shape_of-bytes
-shape_of-bytes c = c.bytes-1.given
-
-pub shape_of-text : goal.shape_of-text
-shape_of-text c = c.text-1.given
 
 pub returns : goal.returns
 returns c = record {
