@@ -17,7 +17,8 @@ use Rattle.session.specs.State.{closed_session, with_up, with_down, with_next, w
 use Rattle.table.specs.Table.{files}
 use Rattle.files.specs.View.{record_at}
 use Rattle.files.specs.Completion.{destinations_at}
-use Rattle.files.specs.Selection.{Selects, selects, numbers_at, chosen, select_number, listed, select_of}
+use Rattle.std.proofs.Common.{Err}
+use Rattle.files.specs.Selection.{count_in, refusal_in, Selects, selects, numbers_at, chosen, select_number, listed, select_of}
 use Rattle.files.proofs.Calls.{done, refused, by_number}
 use Rattle.files.proofs.Choice.{select_room, chosen_most}
 use Rattle.links.proofs.Facts.{CompleteAt, PartialAt}
@@ -60,9 +61,9 @@ select_length eq disk owner table selected most =
     let c = chosen_most eq disk owner table selected most in
     by_number k
     (λ z.
-    ap (λ (r : Selects). length r.selected) (done k _ (selects (record { refused = k; count = 0 }) selected) z)
+    ap (λ (r : Selects). length r.selected) (done k _ (selects (Err k) selected) z)
     ∙ listed_length_law most ns selected (omega arith) (select_room eq selected most z))
-    (λ z. ap (λ (r : Selects). length r.selected) (refused k _ (selects (record { refused = k; count = 0 }) selected) z))
+    (λ z. ap (λ (r : Selects). length r.selected) (refused k _ (selects (Err k) selected) z))
 
 -- ---- the acts
 
@@ -83,13 +84,13 @@ module _ (s : Session) (m : Mem) (last : Last) (st : Stored m last) (more : List
 
   selected_acts : (r : Selects) → length r.selected ≡ length m.selected → Acted s more m last (on_chooses m (download.selected_as s last r))
   unfolding on_chooses download.selected_as
-  selected_acts r l = go (eqb r.answer.refused 0)
+  selected_acts r l = go (eqb (refusal_in r.answer) 0)
     where
       go : (b : Bool) → Acted s more m last (on_chooses m (cond b
-          (chooses (turn_of (with_selection s r.answer.count) last (Selected r.answer.count)) r.selected)
-          (chooses (turn_of s last (DownloadError r.answer.refused)) r.selected)))
-      go true = same_store s m last st more (turn_of (with_selection s r.answer.count) last (Selected r.answer.count)) r.selected refl l
-      go false = same_store s m last st more (turn_of s last (DownloadError r.answer.refused)) r.selected refl l
+          (chooses (turn_of (with_selection s (count_in r.answer)) last (Selected (count_in r.answer))) r.selected)
+          (chooses (turn_of s last (DownloadError (refusal_in r.answer))) r.selected)))
+      go true = same_store s m last st more (turn_of (with_selection s (count_in r.answer)) last (Selected (count_in r.answer))) r.selected refl l
+      go false = same_store s m last st more (turn_of s last (DownloadError (refusal_in r.answer))) r.selected refl l
 
   select_acts : (most size : ℕ) (info : List ℕ)
       → Acted s more m last (on_chooses m (download.select_turn s last most size info m.disk m.owner m.table m.selected))

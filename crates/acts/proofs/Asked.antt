@@ -17,8 +17,7 @@ use Rattle.session.specs.declared.state.Listed.TheVariants as listed
 use Rattle.session.specs.declared.reply.Reply.TheVariants.{DownloadError, UploadError, Aborted}
 use Rattle.session.specs.Expected.{expected}
 use Rattle.table.specs.declared.File.{File}
-use Rattle.table.specs.declared.Found.{Found}
-use Rattle.table.specs.declared.Found.TheVariants.{Nothing, At}
+use Rattle.std.proofs.Common.{Option, Some, None}
 use Rattle.table.specs.Table.{file_at, find_of}
 use Rattle.decide.specs.declared.act.Act.{Act}
 use Rattle.decide.specs.declared.act.Act.TheVariants as act
@@ -80,10 +79,10 @@ module _ (s : Session) (size : ℕ) (fs : List File) where
   on_end_law (up.Receiving place offset received) e = record { offset = offset; received = received; receiving = e }
   on_end_law up.Ignoring e = tt
 
-  on_continued_law : (f : Found) (number total : ℕ) (links : List Session) → Asked s size fs (on_continued f number total links fs)
+  on_continued_law : (f : Option ℕ) (number total : ℕ) (links : List Session) → Asked s size fs (on_continued f number total links fs)
   unfolding on_continued
-  on_continued_law Nothing number total links = tt
-  on_continued_law (At place) number total links =
+  on_continued_law None number total links = tt
+  on_continued_law (Some place) number total links =
       either (eqb (file_at fs place).time 0) _ (act.Tell (UploadError 12))
       (either (eqb (file_at fs place).size total) _ (act.Tell (UploadError 2))
       (either (uploading links place) (act.Tell (UploadError 2)) (act.Resume place number (file_at fs place).received) tt tt)
@@ -106,10 +105,10 @@ module _ (s : Session) (size : ℕ) (fs : List File) where
 
   -- ---- the downlink
 
-  on_found_law : (f : Found) (offset lock passed : ℕ) → Asked s size fs (on_found f offset lock passed fs)
+  on_found_law : (f : Option ℕ) (offset lock passed : ℕ) → Asked s size fs (on_found f offset lock passed fs)
   unfolding on_found
-  on_found_law Nothing offset lock passed = tt
-  on_found_law (At place) offset lock passed =
+  on_found_law None offset lock passed = tt
+  on_found_law (Some place) offset lock passed =
       either (eqb (file_at fs place).time 0) (act.Tell (DownloadError 11)) _ tt
       (either (ltb (file_at fs place).size offset) (act.Tell (DownloadError 2)) (act.Send place offset lock passed) tt tt)
 
@@ -127,10 +126,10 @@ module _ (s : Session) (size : ℕ) (fs : List File) where
       either (eqb n 9) (on_numbered (word_at info 0) (word_at info 4) (get_or info 8 0) count next fs selected) (act.Tell (DownloadError 1))
       (on_numbered_law (word_at info 0) (word_at info 4) (get_or info 8 0) count next selected) tt
 
-  list_found_law : (f : Found) (long : Bool) (next : ℕ) → Asked s size fs (list_found f long next fs)
+  list_found_law : (f : Option ℕ) (long : Bool) (next : ℕ) → Asked s size fs (list_found f long next fs)
   unfolding list_found
-  list_found_law Nothing long next = tt
-  list_found_law (At place) long next =
+  list_found_law None long next = tt
+  list_found_law (Some place) long next =
       either (eqb (file_at fs place).time 0) (act.Tell (DownloadError 11)) (act.List (listed.One place) long next) tt tt
 
   list_numbered_law : (number : ℕ) (long : Bool) (count next : ℕ) → Asked s size fs (list_numbered number long count next fs)

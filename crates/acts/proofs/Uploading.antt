@@ -17,8 +17,7 @@ use Rattle.session.specs.declared.state.Uplink.TheVariants as up
 use Rattle.session.specs.declared.reply.Reply.TheVariants.{Nothing, Go, UploadError, Ack, Nak}
 use Rattle.session.specs.State.{with_up}
 use Rattle.table.specs.declared.File.{File}
-use Rattle.table.specs.declared.Given.{Given}
-use Rattle.table.specs.declared.Given.TheVariants.{UsedUp, Next}
+use Rattle.std.proofs.Common.{Option, Some, None}
 use Rattle.table.specs.Table.{no_file}
 use Rattle.table.specs.Table as table
 use Rattle.table.specs.Given.{next_number, upload_time}
@@ -169,10 +168,10 @@ module _ (s : Session) (m : Mem) (last : Last) (st : Stored m last) (more : List
   unfolding on_frees upload.begin_with upload.begun_as
   begin_acts size = go (next_number last.number) refl
     where
-      go : (g : Given) → next_number last.number ≡ g
+      go : (g : Option ℕ) → next_number last.number ≡ g
           → Acted s more m last (on_frees m (upload.begin_with g s last size m.map m.owner m.table))
-      go UsedUp q = same_store (turn_of s last (UploadError 3)) m.selected refl refl
-      go (Next number) q =
+      go None q = same_store (turn_of s last (UploadError 3)) m.selected refl refl
+      go (Some number) q =
           begun_or_not size number (number_given last.number number q).next
           (files.begin_of m.map m.owner m.table last.number size).answer refl
           (files.begin_of m.map m.owner m.table last.number size) refl
@@ -302,11 +301,11 @@ module _ (s : Session) (m : Mem) (last : Last) (st : Stored m last) (more : List
     unfolding on_moves on_frees upload.with_disk
     reject_acts number = discard_acts p offset received e f up.Idle idle_over number
 
-    given_acts : (clock : ℕ) → check_of m.disk m.owner m.table p ≡ 0 → (g : Given) → upload_time clock last.time ≡ g
+    given_acts : (clock : ℕ) → check_of m.disk m.owner m.table p ≡ 0 → (g : Option ℕ) → upload_time clock last.time ≡ g
         → Acted s more m last (on_moves m (upload.finish_as (upload.timed g) s last p m.disk m.map m.owner m.table))
     unfolding upload.finish_as upload.timed
-    given_acts clock z UsedUp q = reject_acts 3
-    given_acts clock z (Next time) q = accept_acts time z (time_given clock last.time time q).later
+    given_acts clock z None q = reject_acts 3
+    given_acts clock z (Some time) q = accept_acts time z (time_given clock last.time time q).later
 
     pub finish_acts : (clock : ℕ) → Acted s more m last (on_moves m (upload.finish_turn s last p clock m.disk m.map m.owner m.table))
     finish_acts clock =

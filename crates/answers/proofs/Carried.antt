@@ -21,10 +21,8 @@ use Rattle.session.specs.declared.state.Uplink.TheVariants as up
 use Rattle.session.specs.declared.reply.Reply.{Reply}
 use Rattle.session.specs.declared.reply.Reply.TheVariants as reply
 use Rattle.session.specs.State.{with_up}
-use Rattle.table.specs.declared.Found.{Found}
-use Rattle.table.specs.declared.Found.TheVariants.{Nothing, At}
-use Rattle.table.specs.declared.Given.{Given}
-use Rattle.table.specs.declared.Given.TheVariants.{UsedUp, Next}
+use Rattle.std.proofs.Common.{Some, None, Ok, Err}
+use Rattle.std.specs.Prelude as std
 use Rattle.table.specs.Table.{files, free_of}
 use Rattle.table.specs.Given.{next_number, upload_time, blocks_for}
 use Rattle.table.proofs.Finding.{free_place}
@@ -161,16 +159,16 @@ module _ (map owner table : List ℕ) (last latest : ℕ) (s : Sound map owner t
       go map' owner' table' true = started place refl
       go map' owner' table' false = refused 13 refl refl
 
-  begin_in_law : (f : Found) → free_of (files table) ≡ f → (n size : ℕ) → Begins map owner table (filesUp.begin_in f n size map owner table)
+  begin_in_law : (f : std.Option ℕ) → free_of (files table) ≡ f → (n size : ℕ) → Begins map owner table (filesUp.begin_in f n size map owner table)
   unfolding filesUp.begin_in
-  begin_in_law Nothing e n size = refused 13 refl refl
-  begin_in_law (At place) e n size =
+  begin_in_law None e n size = refused 13 refl refl
+  begin_in_law (Some place) e n size =
       begin_at_law place n size (omega (arith, (free_place (files table) place e).0, files_most map owner table last latest s))
 
-  begin_with_law : (g : Given) (size : ℕ) → Begins map owner table (filesUp.begin_with g size map owner table)
+  begin_with_law : (g : std.Option ℕ) (size : ℕ) → Begins map owner table (filesUp.begin_with g size map owner table)
   unfolding filesUp.begin_with
-  begin_with_law UsedUp size = refused 3 refl refl
-  begin_with_law (Next n) size = begin_in_law (free_of (files table)) refl n size
+  begin_with_law None size = refused 3 refl refl
+  begin_with_law (Some n) size = begin_in_law (free_of (files table)) refl n size
 
 -- ---- each act
 
@@ -191,10 +189,10 @@ module _ (s : Session) (last : Last) (clock most size : ℕ) (info : List ℕ) (
   begun_carried n b (started place e) = rw e (plain _ refl)
   begun_carried n b (refused e o q) = rw q (upload_error e o)
 
-  begin_carried : (g : Given) (n : ℕ) → Carried s last m (on_frees m (upload.begin_with g s last n m.map m.owner m.table))
+  begin_carried : (g : std.Option ℕ) (n : ℕ) → Carried s last m (on_frees m (upload.begin_with g s last n m.map m.owner m.table))
   unfolding on_frees upload.begin_with
-  begin_carried UsedUp n = upload_error 3 refl
-  begin_carried (Next k) n =
+  begin_carried None n = upload_error 3 refl
+  begin_carried (Some k) n =
       begun_carried k (filesUp.begin_of m.map m.owner m.table last.number n)
       (begin_with_law m.map m.owner m.table last.number last.time r.sound r.sizes.some r.sizes.most
       (next_number last.number) n)
@@ -226,11 +224,11 @@ module _ (s : Session) (last : Last) (clock most size : ℕ) (info : List ℕ) (
 
   timed_carried : (place : ℕ)
       → ((time : ℕ) → (complete_of m.disk m.owner m.table place time).answer ≡ 0)
-      → (g : Given)
+      → (g : std.Option ℕ)
       → Carried s last m (on_moves m (upload.finish_as (upload.timed g) s last place m.disk m.map m.owner m.table))
   unfolding on_moves upload.timed upload.finish_as upload.with_disk upload.discard_turn upload.with_blocks upload.accept_turn upload.accepted_as
-  timed_carried place d UsedUp = nak 3 up.Idle _ _ _ refl over
-  timed_carried place d (Next time) = rw (d time) (plain _ refl)
+  timed_carried place d None = nak 3 up.Idle _ _ _ refl over
+  timed_carried place d (Some time) = rw (d time) (plain _ refl)
 
   accepted_carried : (place : ℕ) → check_of m.disk m.owner m.table place ≡ 0
       → ((time : ℕ) → (complete_of m.disk m.owner m.table place time).answer ≡ 0)
@@ -277,14 +275,14 @@ module _ (s : Session) (last : Last) (clock most size : ℕ) (info : List ℕ) (
           → Carried s last m
           (on_chooses m
           (download.selected_as s last
-          (cond (eqb n 0) (selects (record { refused = 0; count = count }) selected) (selects (record { refused = n; count = 0 }) m.selected))))
+          (cond (eqb n 0) (selects (Ok count) selected) (selects (Err n) m.selected))))
       go n o count selected = by (eqb n 0) refl
         where
           by : (t : Bool) → eqb n 0 ≡ t
               → Carried s last m
               (on_chooses m
               (download.selected_as s last
-              (cond t (selects (record { refused = 0; count = count }) selected) (selects (record { refused = n; count = 0 }) m.selected))))
+              (cond t (selects (Ok count) selected) (selects (Err n) m.selected))))
           by true q = plain _ refl
           by false q = rw q (download_error n (o (eqb-false n 0 q)))
 

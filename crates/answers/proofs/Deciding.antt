@@ -16,8 +16,7 @@ use Rattle.session.specs.declared.state.Downlink.TheVariants as down
 use Rattle.session.specs.declared.reply.Reply.TheVariants.{DataEnd, UploadError, DownloadError, Aborted}
 use Rattle.session.specs.Expected.{expected}
 use Rattle.table.specs.declared.File.{File}
-use Rattle.table.specs.declared.Found.{Found}
-use Rattle.table.specs.declared.Found.TheVariants.{Nothing, At}
+use Rattle.std.proofs.Common.{Option, Some, None}
 use Rattle.table.specs.Table.{file_at, find_of}
 use Rattle.decide.specs.Words.{word_at}
 use Rattle.decide.specs.Uplink.{uploading, on_continued, on_upload, on_data, on_end, on_uplink}
@@ -63,10 +62,10 @@ module _ (u : Uplink) (size : ℕ) (fs : List File) where
 
   -- ---- the uplink
 
-  continued_proper : (f : Found) (number n : ℕ) (links : List Session) → Proper u size fs (on_continued f number n links fs)
+  continued_proper : (f : Option ℕ) (number n : ℕ) (links : List Session) → Proper u size fs (on_continued f number n links fs)
   unfolding on_continued
-  continued_proper Nothing number n links = upload_error 4 refl
-  continued_proper (At place) number n links =
+  continued_proper None number n links = upload_error 4 refl
+  continued_proper (Some place) number n links =
       either (eqb (file_at fs place).time 0) _ _
       (either (eqb (file_at fs place).size n) _ _
       (either (uploading links place) _ _ (upload_error 2 refl) (resume place number (file_at fs place).received))
@@ -105,10 +104,10 @@ module _ (u : Uplink) (size : ℕ) (fs : List File) where
 
   -- ---- the downlink
 
-  found_proper : (f : Found) (offset lock passed : ℕ) → Proper u size fs (on_found f offset lock passed fs)
+  found_proper : (f : Option ℕ) (offset lock passed : ℕ) → Proper u size fs (on_found f offset lock passed fs)
   unfolding on_found
-  found_proper Nothing offset lock passed = download_error 4 refl
-  found_proper (At place) offset lock passed =
+  found_proper None offset lock passed = download_error 4 refl
+  found_proper (Some place) offset lock passed =
       either (eqb (file_at fs place).time 0) _ _ (download_error 11 refl)
       (either (ltb (file_at fs place).size offset) _ _ (download_error 2 refl) (send place offset lock passed))
 
@@ -124,10 +123,10 @@ module _ (u : Uplink) (size : ℕ) (fs : List File) where
   download_proper count next info selected =
       either (eqb size 9) _ _ (numbered_proper (word_at info 0) (word_at info 4) (get_or info 8 0) count next selected) (download_error 1 refl)
 
-  list_found_proper : (f : Found) (long : Bool) (next : ℕ) → Proper u size fs (list_found f long next fs)
+  list_found_proper : (f : Option ℕ) (long : Bool) (next : ℕ) → Proper u size fs (list_found f long next fs)
   unfolding list_found
-  list_found_proper Nothing long next = download_error 4 refl
-  list_found_proper (At place) long next = either (eqb (file_at fs place).time 0) _ _ (download_error 11 refl) (list _ long next)
+  list_found_proper None long next = download_error 4 refl
+  list_found_proper (Some place) long next = either (eqb (file_at fs place).time 0) _ _ (download_error 11 refl) (list _ long next)
 
   directory_proper : (long : Bool) (count next : ℕ) (info : List ℕ) → Proper u size fs (on_directory long count next size info fs)
   unfolding on_directory list_numbered

@@ -3,19 +3,17 @@ use mathlib.Core.Path.{◌≡◌, refl, sym, ap, subst, ◌∙◌}
 use mathlib.Core.Bool.{Bool, true, false, cond}
 use mathlib.Core.List.{List, ◌++◌, append_assoc}
 use mathlib.Core.Option.{Option, none, some}
+use Rattle.std.proofs.Common.{Ok, Err}
 use Prim.Native.Nat.{ℕ, ◌+◌, ◌-◌, ◌≤◌, ◌<◌}
 use native.Mathlib.Omega.{arith}
 use lib.Dec.{ltb}
 use lib.ListN.{length, get_or, take, drop, replicate, length-replicate}
 use lib.Seq.{sets-eq, length-take-le, take_at, drop_at}
 use borrow.Author.Tests.{lt-ltb, le-ltb, lt-leb, le-leb}
-use Rattle.numbers.specs.Numbers.{stored_at}
-use Rattle.numbers.proofs.NumberLaws.{stored_at_law}
 use Rattle.equation.specs.Tree.{Tree, parse}
 use Rattle.equation.specs.Answer.{refusal, validity_of}
 use Rattle.equation.specs.Newer.{unmarked}
 use Rattle.equation.specs.Parsed.{steps_of, parses, parse_of}
-use Rattle.equation.specs.declared.evaluation.Parsed.{Parsed}
 use Rattle.equation.proofs.StepLaws.{symbols_by_law}
 use Rattle.equation.proofs.Trees.{accepted}
 use Rattle.equation.proofs.Parsing.{taken, judged}
@@ -78,16 +76,10 @@ module _ (bytes steps out : List ℕ) (w : Accepted bytes steps) (h : length byt
   unfolding delivered
   deliver_short l = rw (lt-leb (length (text_of w.formula)) (length out) (omega (arith, size_is)))
 
-  pub deliver_text : 2560 - r.n ≤ length out → (now : List ℕ) → now ≡ stored_at out 0 (take (2560 - r.n) (drop r.n text))
+  pub deliver_text : 2560 - r.n ≤ length out → (now : List ℕ) → now ≡ take (2560 - r.n) (drop r.n text) ++ drop (2560 - r.n) out
       → answers (answer.Text (2560 - r.n)) now ≡ delivered (text_of w.formula) out
   unfolding delivered
-  deliver_text l now e =
-      let z : 0 + length (text_of w.formula) ≡ length (text_of w.formula) = omega arith in
-      let f : 0 + length (text_of w.formula) ≤ length out = omega (arith, size_is) in
-      let o : now ≡ text_of w.formula ++ drop (length (text_of w.formula)) out =
-      e ∙ ap (stored_at out 0) slice_is ∙ stored_at_law out 0 (text_of w.formula) f ∙ sets-eq (text_of w.formula) out 0 f
-      ∙ ap (λ (k : ℕ). text_of w.formula ++ drop k out) z in
-      rw (size_is, o, le-leb (length (text_of w.formula)) (length out) (omega arith))
+  deliver_text l now e = rw (e, slice_is, size_is, le-leb (length (text_of w.formula)) (length out) (omega (arith, size_is)))
 
 -- ---- the answer of an accepted equation
 
@@ -115,39 +107,40 @@ whole_nesting bytes steps w r q = (q bytes (all_ready bytes steps w)).deep
 
 -- ---- the public function
 
-module _ (bytes steps : List ℕ) (p : Parsed) (small : (k : ℕ) → get_or bytes k 0 < 256) (e : parses p steps ≡ parse_of bytes (replicate 2047 0)) where
-  module _ (z : p.refused ≡ 0) where
+module _ (bytes steps : List ℕ) (small : (k : ℕ) → get_or bytes k 0 < 256) where
+  module _ (count : ℕ) (e : parses (Ok count) steps ≡ parse_of bytes (replicate 2047 0)) where
     abbrev part : List ℕ
-    part = take (p.count - 0) (drop 0 steps)
+    part = take count steps
 
-    pub count_within : p.count ≤ length steps
-    count_within = (taken bytes (replicate 2047 0) steps p e z).fits
+    pub count_within : count ≤ length steps
+    count_within = (taken bytes (replicate 2047 0) steps count e).fits
 
     pub part_accepted : Accepted bytes part
     part_accepted =
-        let t = taken bytes (replicate 2047 0) steps p e z in
+        let t = taken bytes (replicate 2047 0) steps count e in
         let a = accepted bytes t.valid in
-        subst (Accepted bytes) (sym t.listed) (accepted_steps bytes small t.short a.tree a.parsed)
+        subst (Accepted bytes) (sym t.first) (accepted_steps bytes small t.short a.tree a.parsed)
 
     pub whole_answer : (r : Answer) (out now : List ℕ)
         → ((w : Accepted bytes part) → answers r now ≡ written w.formula (length bytes) (length (unmarked bytes)) out)
         → answers r now ≡ written_of bytes out
     unfolding written_of written_by accepted_steps
     whole_answer r out now q =
-        let t = taken bytes (replicate 2047 0) steps p e z in
+        let t = taken bytes (replicate 2047 0) steps count e in
         let a = accepted bytes t.valid in
         let s = accepted_steps bytes small t.short a.tree a.parsed in
         let f : ((w : Accepted bytes (steps_of bytes)) → answers r now ≡ written w.formula (length bytes) (length (unmarked bytes)) out) =
-        subst (λ (l : List ℕ). (w : Accepted bytes l) → answers r now ≡ written w.formula (length bytes) (length (unmarked bytes)) out) t.listed q in
+        subst (λ (l : List ℕ). (w : Accepted bytes l) → answers r now ≡ written w.formula (length bytes) (length (unmarked bytes)) out) t.first q in
         rw (le-ltb 2047 (length bytes) t.short, a.parsed) (f s)
 
-  pub refused_answer : (p.refused ≡ 0 → ⊥) → (out : List ℕ) → answers (answer.Refused p.refused) out ≡ written_of bytes out
+  pub refused_answer : (n : ℕ) → parses (Err n) steps ≡ parse_of bytes (replicate 2047 0) → (out : List ℕ) → answers (answer.Refused n) out ≡ written_of bytes out
   unfolding written_of written_by validity_of refusal
-  refused_answer z out =
-      by (ltb 2047 (length bytes)) refl (parse bytes) refl (judged bytes (replicate 2047 0) steps p e (λ h. omega (arith, length-replicate {A = ℕ} 2047 0)))
+  refused_answer n e out =
+      let j = judged bytes (replicate 2047 0) steps n e (λ h. omega (arith, length-replicate {A = ℕ} 2047 0)) in
+      by (ltb 2047 (length bytes)) refl (parse bytes) refl j.number (λ z. j.refused (sym j.number ∙ z))
     where
-      by : (x : Bool) → ltb 2047 (length bytes) ≡ x → (o : Option Tree) → parse bytes ≡ o → p.refused ≡ cond x 33 (refusal o)
-          → answers (answer.Refused p.refused) out ≡ cond x (answers (answer.Refused 33) out) (written_by o (length bytes) (length (unmarked bytes)) out)
-      by true l o q j = rw j
-      by false l none q j = unfold written_by refusal in rw j
-      by false l (some t) q j = absurd (z (unfold refusal in j))
+      by : (x : Bool) → ltb 2047 (length bytes) ≡ x → (o : Option Tree) → parse bytes ≡ o → n ≡ cond x 33 (refusal o) → (n ≡ 0 → ⊥)
+          → answers (answer.Refused n) out ≡ cond x (answers (answer.Refused 33) out) (written_by o (length bytes) (length (unmarked bytes)) out)
+      by true l o q j z = rw j
+      by false l none q j z = unfold written_by refusal in rw j
+      by false l (some t) q j z = absurd (z (unfold refusal in j))

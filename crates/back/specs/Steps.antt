@@ -1,6 +1,6 @@
 -- What the writer's private functions work on: the steps of an equation (crates/equation) as the symbols of a formula in postfix order. Assumes
 -- nothing.
-use Rattle.std.specs.Prelude.{◌≡◌, cond, List, ◌++◌, ℕ, ◌+◌, ◌≤◌, eqb, length, take}
+use Rattle.std.specs.Prelude.{◌≡◌, cond, List, ◌++◌, ℕ, ◌≤◌, eqb, length, take}
 use Rattle.equation.specs.Symbols.{Symbol}
 use Rattle.equation.specs.Parsed.{symbols_by}
 use Rattle.grammar.specs.Formula.{Formula, symbols_of}

@@ -24,7 +24,7 @@ use equation::evaluation::parse;
 use equation::tokens::{Token, read_token};
 use names::bytes::is_printed;
 use names::table::row_of;
-use numbers::{hex_digit, number16, number32, store};
+use numbers::{hex_digit, number16, number32};
 
 // How an equation is answered: the number of bytes of its text; refused by 33 or 8; it ends in an end mark; its text would nest deeper than 16; it has
 // more than 256 bytes.
@@ -61,7 +61,6 @@ fn put(b: u8, out: &mut [u8], n: usize) -> usize
     let k = n - 1;
     if k < out.len() {
         out[k] = b;
-        return k;
     }
     k
 }
@@ -71,11 +70,9 @@ fn put_all(s: &[u8], out: &mut [u8], n: usize) -> usize
     requires { length s.now ≤ n }
     ensures { Piece s.now n out.old result out.new }
 {
-    let mut i = s.len();
     let mut k = n;
-    while 0 < i {
-        i -= 1;
-        k = put(s[i], out, k);
+    for b in s.iter().rev() {
+        k = put(*b, out, k);
     }
     k
 }
@@ -95,9 +92,9 @@ fn put_decimal(v: u32, out: &mut [u8], n: usize) -> usize
     ensures { Piece (decimal_of v) n out.old result out.new }
 {
     if v < 10 {
-        return put(48 + v as u8, out, n);
+        return put(b'0' + v as u8, out, n);
     }
-    let k = put(48 + (v % 10) as u8, out, n);
+    let k = put(b'0' + (v % 10) as u8, out, n);
     put_decimal(v / 10, out, k)
 }
 
@@ -108,28 +105,24 @@ fn put_character(b: u8, out: &mut [u8], n: usize) -> usize
     requires { length (character_text (character_for b)) ≤ n }
     ensures { Piece (character_text (character_for b)) n out.old result out.new }
 {
-    if b == 34 {
-        return put_all(b"\\\"", out, n);
+    match b {
+        b'"' => put_all(b"\\\"", out, n),
+        b'\\' => put_all(b"\\\\", out, n),
+        _ if is_printed(b) => put(b, out, n),
+        _ => {
+            let k = put_hex(b, out, n);
+            put_all(b"\\x", out, k)
+        }
     }
-    if b == 92 {
-        return put_all(b"\\\\", out, n);
-    }
-    if is_printed(b) {
-        return put(b, out, n);
-    }
-    let k = put_hex(b, out, n);
-    put_all(b"\\x", out, k)
 }
 
 fn put_characters(s: &[u8], out: &mut [u8], n: usize) -> usize
     requires { length (quoted s.now) ≤ n }
     ensures { Piece (quoted s.now) n out.old result out.new }
 {
-    let mut i = s.len();
     let mut k = n;
-    while 0 < i {
-        i -= 1;
-        k = put_character(s[i], out, k);
+    for b in s.iter().rev() {
+        k = put_character(*b, out, k);
     }
     k
 }
@@ -139,35 +132,30 @@ fn value(s: &[u8]) -> u32
     requires { width (length s.now) ≡ true }
     ensures { result ≡ number s.now }
 {
-    if s.len() == 1 {
-        return s[0] as u32;
+    match s.len() {
+        1 => u32::from(s[0]),
+        2 => u32::from(number16(s[0], s[1])),
+        _ => number32(s[0], s[1], s[2], s[3]),
     }
-    if s.len() == 2 {
-        return number16(s[0], s[1]) as u32;
-    }
-    number32(s[0], s[1], s[2], s[3])
 }
 
 fn least_width(v: u32) -> u8
     ensures { result ≡ least_width v }
 {
     if v < 256 {
-        return 1;
+        1
+    } else if v < 65536 {
+        2
+    } else {
+        4
     }
-    if v < 65536 {
-        return 2;
-    }
-    4
 }
 
 // The width that a number of an item is read with where none is written.
 fn taken_width(id: u16, v: u32) -> u8
     ensures { result ≡ width_of id v }
 {
-    let row = row_of(id);
-    let usual = row.width;
-    let least = least_width(v);
-    if usual < least { least } else { usual }
+    row_of(id).width.max(least_width(v))
 }
 
 // A number, with its width where that is not the one that would be taken.
@@ -181,8 +169,8 @@ fn put_number(id: u16, s: &[u8], out: &mut [u8], n: usize) -> usize
     if w == taken_width(id, v) as usize {
         return put_decimal(v, out, n);
     }
-    let k = put(48 + w as u8, out, n);
-    let j = put(58, out, k);
+    let k = put(b'0' + w as u8, out, n);
+    let j = put(b':', out, k);
     put_decimal(v, out, j)
 }
 
@@ -190,9 +178,9 @@ fn put_string(s: &[u8], out: &mut [u8], n: usize) -> usize
     requires { 2 + length (quoted s.now) ≤ n }
     ensures { Piece (34 ∷ (quoted s.now ++ 34 ∷ [])) n out.old result out.new }
 {
-    let k = put(34, out, n);
+    let k = put(b'"', out, n);
     let j = put_characters(s, out, k);
-    put(34, out, j)
+    put(b'"', out, j)
 }
 
 // A relation's constant, by its first byte, its item's id and its bytes.
@@ -211,22 +199,14 @@ fn put_operator(number: u8, out: &mut [u8], n: usize) -> usize
     requires { length (operator_text (comparison_for number)) ≤ n }
     ensures { Piece (operator_text (comparison_for number)) n out.old result out.new }
 {
-    if number == 0 {
-        return put_all(b"==", out, n);
+    match number {
+        0 => put_all(b"==", out, n),
+        1 => put_all(b">", out, n),
+        2 => put_all(b"<", out, n),
+        3 => put_all(b"!=", out, n),
+        4 => put_all(b">=", out, n),
+        _ => put_all(b"<=", out, n),
     }
-    if number == 1 {
-        return put_all(b">", out, n);
-    }
-    if number == 2 {
-        return put_all(b"<", out, n);
-    }
-    if number == 3 {
-        return put_all(b"!=", out, n);
-    }
-    if number == 4 {
-        return put_all(b">=", out, n);
-    }
-    put_all(b"<=", out, n)
 }
 
 // An item, by its name where it has one.
@@ -239,7 +219,7 @@ fn put_item(id: u16, out: &mut [u8], n: usize) -> usize
     if size == 0 {
         let k = put_hex((id % 256) as u8, out, n);
         let j = put_hex((id / 256) as u8, out, k);
-        return put(35, out, j);
+        return put(b'#', out, j);
     }
     let letters = row.letters;
     put_all(&letters[..size], out, n)
@@ -256,9 +236,9 @@ fn put_relation(bytes: &[u8], at: usize, out: &mut [u8], n: usize) -> usize
     let start = at + 4;
     let end = start + bytes[at + 3] as usize;
     let k = put_constant(code, id, &bytes[start..end], out, n);
-    let j = put(32, out, k);
+    let j = put(b' ', out, k);
     let i = put_operator(code / 16 % 8, out, j);
-    let h = put(32, out, i);
+    let h = put(b' ', out, i);
     put_item(id, out, h)
 }
 
@@ -276,20 +256,14 @@ fn put_closing(p: u8, level: u8, out: &mut [u8], n: usize) -> usize
     requires { length (closing p level) ≤ n }
     ensures { Piece (closing p level) n out.old result out.new }
 {
-    if p < level {
-        return put(41, out, n);
-    }
-    n
+    if p < level { put(b')', out, n) } else { n }
 }
 
 fn put_opening(p: u8, level: u8, out: &mut [u8], n: usize) -> usize
     requires { length (opening p level) ≤ n }
     ensures { Piece (opening p level) n out.old result out.new }
 {
-    if p < level {
-        return put(40, out, n);
-    }
-    n
+    if p < level { put(b'(', out, n) } else { n }
 }
 
 fn put_connective(p: u8, out: &mut [u8], n: usize) -> usize
@@ -297,9 +271,10 @@ fn put_connective(p: u8, out: &mut [u8], n: usize) -> usize
     ensures { Piece (connective_text p) n out.old result out.new }
 {
     if p == 1 {
-        return put_all(b" && ", out, n);
+        put_all(b" && ", out, n)
+    } else {
+        put_all(b" || ", out, n)
     }
-    put_all(b" || ", out, n)
 }
 
 // The formula whose steps end before step e, in brackets where it binds less close than its place asks for.
@@ -322,13 +297,6 @@ fn put_formula(bytes: &[u8], steps: &[u16], e: usize, level: u8, out: &mut [u8],
     Place { at: a.at, n: o }
 }
 
-// The greater of two numbers.
-fn greater(a: usize, b: usize) -> usize
-    ensures { result ≡ max a b }
-{
-    if a < b { b } else { a }
-}
-
 // How deep brackets are nested in the text of the formula whose steps end before step e.
 fn depth(steps: &[u16], e: usize, level: u8) -> Nesting
     requires { (bytes : List ℕ) × Ready bytes steps.now e }
@@ -342,17 +310,9 @@ fn depth(steps: &[u16], e: usize, level: u8) -> Nesting
     let p = binding(s);
     let b = depth(steps, i, p + 1);
     let a = depth(steps, b.at, p);
-    let most = greater(a.deep, b.deep);
-    if p < level {
-        return Nesting {
-            at: a.at,
-            deep: most + 1,
-        };
-    }
-    Nesting {
-        at: a.at,
-        deep: most,
-    }
+    let most = a.deep.max(b.deep);
+    let deep = if p < level { most + 1 } else { most };
+    Nesting { at: a.at, deep }
 }
 
 // ---- the answer
@@ -361,15 +321,13 @@ fn depth(steps: &[u16], e: usize, level: u8) -> Nesting
 fn size_unmarked(bytes: &[u8]) -> usize
     ensures { result ≡ length (unmarked bytes.now) }
 {
-    let mut at: usize = 0;
+    let mut at = 0;
+    // a `loop`: each turn goes on behind the token that it read, and a relation is longer than one byte
     loop {
-        let t = read_token(bytes, at);
-        match t {
-            Token::Bad => return at,
-            Token::End => return at,
-            Token::And => at += 1,
-            Token::Or => at += 1,
-            Token::Rel(_, _, m) => at = at + 4 + m,
+        match read_token(bytes, at) {
+            Token::Bad | Token::End => return at,
+            Token::And | Token::Or => at += 1,
+            Token::Rel(_, _, m) => at += 4 + m,
         }
     }
 }
@@ -387,7 +345,7 @@ fn deliver(bytes: &[u8], steps: &[u16], out: &mut [u8]) -> Answer
     if out.len() < size {
         return Answer::Refused(33);
     }
-    store(out, 0, &text[start..2560]);
+    out[..size].copy_from_slice(&text[start..]);
     Answer::Text(size)
 }
 
@@ -415,10 +373,8 @@ pub fn to_text(bytes: &[u8], out: &mut [u8]) -> Answer
     ensures { answers result out.new ≡ written_of bytes.now out.old }
 {
     let mut steps = [0u16; 2047];
-    let parsed = parse(bytes, &mut steps);
-    if parsed.refused == 0 {
-        let count = parsed.count;
-        return answered(bytes, &steps[0..count], out);
+    match parse(bytes, &mut steps) {
+        Ok(count) => answered(bytes, &steps[..count], out),
+        Err(refusal) => Answer::Refused(u8::from(refusal)),
     }
-    Answer::Refused(parsed.refused)
 }

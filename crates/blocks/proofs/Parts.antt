@@ -1,18 +1,20 @@
 -- The owners part by part: what a part is counted, passed over or made a word for, and the counts of runs.
-use mathlib.Core.Path.{◌≡◌, refl, sym, ap, ◌∙◌}
-use mathlib.Core.Bool.{Bool, true, false, cond}
+use mathlib.Core.Path.{◌≡◌, refl, sym, ap, subst, ◌∙◌}
+use mathlib.Core.Bool.{Bool, true, false, cond, not}
 use Prim.Native.Nat.{ℕ, zero, suc, ◌+◌, ◌-◌, ◌^◌, ◌≤◌, ◌<◌}
 use native.Mathlib.Nat.{zero-add, add-zero, pow-suc}
 use native.Mathlib.Numerals.{add-one}
 use native.Mathlib.Omega.{arith}
-use mathlib.Core.List.{List, [], ◌∷◌}
-use lib.ListN.{length, get_or, set, take, drop, length-set, length-drop, get_or-eq_default}
-use lib.Seq.{drop-cons, drop-drop, take_all, length-take-le, get_or-set_same, get_or-set_other}
-use lib.Dec.{eqb, eqb-suc-zero}
-use borrow.Author.Tests.{eq-eqb, ne_eqb}
+use mathlib.Core.List.{List, [], ◌∷◌, ◌++◌}
+use lib.ListN.{length, get_or, set, take, drop, length-set, length-drop, length-append, get_or-eq_default}
+use lib.Seq.{drop-cons, drop-drop, take_all, take_at, drop_at, length-take-le, get_or-set_same, get_or-set_other}
+use lib.Dec.{eqb, ltb, eqb-suc-zero}
+use borrow.Author.Tests.{eq-eqb, ne_eqb, ltb-false}
+use Rattle.std.specs.Prelude.{Some, None, position}
+use Rattle.std.specs.List.{position_or_len}
 use Rattle.blocks.specs.Owners.{blocks, next_of, nth, word_of}
 use Rattle.blocks.proofs.Bits.{by_lt, by_eq}
-use Rattle.blocks.proofs.Owners.{blocks_le, nth_zero, nth_next, nth_le}
+use Rattle.blocks.proofs.Owners.{blocks_le, next_le, nth_zero, nth_next, nth_le}
 
 -- ---- counting
 
@@ -31,6 +33,29 @@ blocks_few v (suc m) (o ∷ os) = go (eqb o v) (blocks_few v m os)
     go : (t : Bool) → blocks v (take m os) ≤ m → cond t 1 0 + blocks v (take m os) ≤ suc m
     go true h = omega arith
     go false h = omega arith
+
+-- what is counted in two lists that stand one behind the other
+pub blocks_join : (v : ℕ) (part rest : List ℕ) → blocks v (part ++ rest) ≡ blocks v part + blocks v rest
+unfolding blocks
+blocks_join v [] rest = sym (zero-add (blocks v rest))
+blocks_join v (o ∷ os) rest = omega (arith, blocks_join v os rest)
+
+-- a part of 64 blocks that comes off those from block b on
+pub record Whole (owner part rest : List ℕ) (b : ℕ) : Type 0 where
+  pub inside : b + 64 ≤ length owner
+  pub is_part : part ≡ take (b + 64 - b) (drop b owner)
+  pub is_rest : rest ≡ drop (b + 64) owner
+
+pub whole : (owner part rest left : List ℕ) (b : ℕ) → left ≡ drop b owner → left ≡ part ++ rest → length part ≡ 64 → Whole owner part rest b
+whole owner part rest left b e j l =
+    let d : drop b owner ≡ part ++ rest = sym e ∙ j in
+    let n : length part ≡ b + 64 - b = omega arith in
+    let s : length owner - b ≡ length part + length rest = sym (length-drop b owner) ∙ ap length d ∙ length-append part rest in
+    record {
+      inside = omega arith;
+      is_part = sym (ap (take (b + 64 - b)) d ∙ take_at part rest (b + 64 - b) n);
+      is_rest = sym (sym (drop-drop 64 b owner) ∙ ap (drop 64) d ∙ drop_at part rest 64 l);
+    }
 
 -- the part from block `from` to block `end`
 pub part_count : (v : ℕ) (owner : List ℕ) (from end : ℕ) → from ≤ end
@@ -78,6 +103,41 @@ next_from v (o ∷ os) (suc s) j h =
   where
     more : (a b : ℕ) → suc (a + b) ≡ suc a + b
     more a b = omega arith
+
+-- the first block of the owner, as a position
+next_first : (v : ℕ) (owner : List ℕ) → next_of v owner 0 ≡ position_or_len (λ (o : ℕ). eqb o v) owner
+unfolding next_of
+next_first v [] = refl
+next_first v (o ∷ os) = go (eqb o v) (next_first v os)
+  where
+    go : (t : Bool) → next_of v os 0 ≡ position_or_len (λ (o : ℕ). eqb o v) os
+        → cond t 0 (suc (next_of v os 0)) ≡ cond (not t) (1 + position_or_len (λ (o : ℕ). eqb o v) os) 0
+    go true e = refl
+    go false e = omega (arith, e)
+
+module _ (v : ℕ) (owner : List ℕ) (s : ℕ) (h : s ≤ length owner) where
+  abbrev at : ℕ
+  at = position_or_len (λ (o : ℕ). eqb o v) (drop s owner)
+
+  next_split : next_of v owner s ≡ s + at
+  next_split = ap (next_of v owner) (sym (add-zero s)) ∙ next_from v owner s 0 h ∙ ap (λ (k : ℕ). s + k) (next_first v (drop s owner))
+
+  whole_rest : take (length owner - s) (drop s owner) ≡ drop s owner
+  whole_rest = take_all (length owner - s) (drop s owner) (omega (arith, length-drop s owner))
+
+  pub next_some : (k : ℕ) → position (λ (o : ℕ). eqb o v) (take (length owner - s) (drop s owner)) ≡ Some k → s + k ≡ next_of v owner s
+  next_some k e = go (ltb at (length (drop s owner))) (rw whole_rest at e)
+    where
+      go : (t : Bool) → cond t (Some at) None ≡ Some k → s + k ≡ next_of v owner s
+      go true q = let i : at ≡ k = cc in omega (arith, next_split, i)
+      go false q = absurd (let i : ◌≡◌ {A = ℕ} 0 1 = cc in omega arith)
+
+  pub next_no : position (λ (o : ℕ). eqb o v) (take (length owner - s) (drop s owner)) ≡ None → length owner ≡ next_of v owner s
+  next_no e = go (ltb at (length (drop s owner))) refl (rw whole_rest at e)
+    where
+      go : (t : Bool) → ltb at (length (drop s owner)) ≡ t → cond t (Some at) None ≡ None → length owner ≡ next_of v owner s
+      go true q r = absurd (let i : ◌≡◌ {A = ℕ} 0 1 = cc in omega arith)
+      go false q r = omega (arith, next_split, ltb-false at (length (drop s owner)) q, length-drop s owner, next_le v owner s)
 
 module _ (v : ℕ) (owner : List ℕ) (s : ℕ) (h : s ≤ length owner) where
   pub find_start : next_of v owner s ≡ s + nth v (drop s owner) 0
@@ -198,6 +258,13 @@ module _ (owner : List ℕ) (v : ℕ) where
           → blocks u (drop from owner) ≡ cond t (end - from) 0 + blocks u (drop end owner)
       go true a c = omega arith
       go false a c = omega arith
+
+  pub run_all : (from n : ℕ) → from + n ≤ length owner → ((k : ℕ) → k < n → get_or owner (from + k) 0 ≡ v) → RunTo owner v from (from + n)
+  run_all from zero h each = let e : from ≡ from + 0 = omega arith in subst (λ (k : ℕ). RunTo owner v from k) e (run_none from)
+  run_all from (suc n) h each =
+      let e : from + n + 1 ≡ from + suc n = omega arith in
+      subst (λ (k : ℕ). RunTo owner v from k) e
+      (run_join from (from + n) (from + n + 1) (omega arith) (omega arith) (run_all from n (omega arith) (λ k l. each k (omega arith))) (run_one (from + n) (omega arith) (each n (omega arith))))
 
 -- where all blocks are of one owner, no other has one
 others_none : (u v : ℕ) (xs : List ℕ) → (v ≡ u → ⊥) → blocks v xs ≡ length xs → blocks u xs ≡ 0

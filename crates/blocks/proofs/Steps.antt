@@ -9,6 +9,7 @@ use mathlib.Core.List.{List, [], ◌∷◌, ◌++◌, append-nil, append_assoc}
 use lib.ListN.{length, get_or, set, take, drop, length-set, length-append, drop_of_length-le}
 use lib.Seq.{drop-cons, take-suc, take-suc-set, take_all, drop-set-lt, append_snoc, drop-drop, take-add, sets, sets-eq, length-take-le, take_at, set_out}
 use lib.Dec.{eqb, leb}
+use borrow.Rule.Slice.PartMut.{put_mid}
 use borrow.Author.Tests.{eq-eqb, ne_eqb}
 use Rattle.blocks.specs.FreeMap.{bit_at, marked, free_count, lowest, cleared, reserved_map}
 use Rattle.blocks.specs.Owners.{is_free, reserved_owner, released_owner, released_map, word_of, map_of}
@@ -135,6 +136,11 @@ pub part_sets : (l xs : List ℕ) (s e : ℕ) → e ≡ s + length xs → e ≤ 
 part_sets l xs s e q h =
     let n : s + (e - s) ≡ s + length xs = omega arith in
     rw drop-drop (rw n (sym (append_assoc (take s l) xs (drop (s + length xs) l)) ∙ sym (sets-eq xs l s (omega arith))))
+
+pub part_put : (l xs run : List ℕ) (s n : ℕ) → xs ≡ run → n ≡ length run → s + length run ≤ length l → put_mid s n l xs ≡ sets l s run
+part_put l xs run s n e q h =
+    let k : s + n - s ≡ n = omega arith in
+    ap₂ (λ (p : List ℕ) (m : ℕ). put_mid s m l p) e (sym k) ∙ part_sets l run s (s + n) (omega arith) (omega arith)
 
 -- a run read into its place: the bytes read so far grow by it
 pub run_read : (out run target : List ℕ) (i e : ℕ) → i ≤ e → e ≤ length out → length run ≡ e - i → take i out ≡ take i target → run ≡ take (e - i) (drop i target)

@@ -10,13 +10,16 @@
 // A call's cost is linear in the blocks and in the bytes that it moves: no block is searched for anew from the first one.
 #![tactic(auto)]
 
-ghost use Rattle.std.specs.Prelude.{◌≡◌, cond, List, ℕ, ◌+◌, ◌-◌, ◌*◌, ◌/◌, ◌%◌, ◌^◌, ◌≤◌, ◌<◌, length, get_or, set, take, drop, replicate, eqb};
+ghost use Rattle.std.specs.Prelude.{◌≡◌, cond, List, ℕ, ◌+◌, ◌-◌, ◌*◌, ◌/◌, ◌%◌, ◌^◌, ◌≤◌, ◌<◌, length, get_or, set, take, drop, replicate, eqb, position};
 ghost use Rattle.std.proofs.lemmas.List.Edits.{sets};
+ghost use Rattle.refusal.specs.Refusal.{number_of};
 ghost use Rattle.blocks.specs.FreeMap.{free_count, lowest, cleared, marked, reserved_map};
 ghost use Rattle.blocks.specs.Owners.{is_free, blocks, held_count, counts_of, next_of, nth, reserved_owner, released_owner, released_map, word_of, map_of};
 ghost use Rattle.blocks.specs.Contents.{held, stored};
 ghost use Rattle.blocks.specs.Check.{within, map_is, agrees_test};
 ghost use Rattle.blocks.specs.Answers.{make_number, make_owner, make_map, store_fits, reserve_number, reserve_map, reserve_owner, release_number, release_map, release_owner, disk_fits, window_number, write_disk, read_out};
+
+use refusal::Refusal;
 
 // ---- counting
 
@@ -26,10 +29,8 @@ fn count_bits(map: &[u64]) -> usize
     ensures { result ≡ free_count map.now }
 {
     let mut n: usize = 0;
-    let mut i = 0;
-    while i < map.len() {
-        n += u64::count_ones(map[i]) as usize;
-        i += 1;
+    for w in map {
+        n += w.count_ones() as usize;
     }
     n
 }
@@ -38,11 +39,7 @@ fn count_bits(map: &[u64]) -> usize
 pub fn free_count(map: &[u64]) -> usize
     ensures { result ≡ free_count (take 64 map.now) }
 {
-    if map.len() <= 64 {
-        return count_bits(map);
-    }
-    let end: usize = 64;
-    count_bits(&map[..end])
+    count_bits(&map[..map.len().min(64)])
 }
 
 // The end of the part of at most `size` blocks from block `from` on.
@@ -50,10 +47,7 @@ fn part_end(n: usize, from: usize, size: usize) -> usize
     requires { (from < n) × (n ≤ 9223372036854775807) × (0 < size) × (size ≤ 4096) }
     ensures { (from < result) × (result ≤ n) × (result ≤ from + size) × (result < from + size → result ≡ n) }
 {
-    if n - from < size {
-        return n;
-    }
-    from + size
+    n.min(from + size)
 }
 
 // The number of blocks with owner v, of few: in 16 bits, so that the compiler counts eight at a time.
@@ -62,13 +56,9 @@ fn count_few(owner: &[u16], v: u16) -> u16
     ensures { result ≡ blocks v owner.now }
 {
     let mut n: u16 = 0;
-    let mut i = 0;
-    while i < owner.len() {
-        if owner[i] == v {
+    for o in owner {
+        if *o == v {
             n += 1;
-            i += 1;
-        } else {
-            i += 1;
         }
     }
     n
@@ -79,11 +69,8 @@ fn count_of(owner: &[u16], v: u16) -> usize
     ensures { result ≡ blocks v owner.now }
 {
     let mut n: usize = 0;
-    let mut from = 0;
-    while from < owner.len() {
-        let end = part_end(owner.len(), from, 4096);
-        n += count_few(&owner[from..end], v) as usize;
-        from = end;
+    for part in owner.chunks(4096) {
+        n += count_few(part, v) as usize;
     }
     n
 }
@@ -112,8 +99,15 @@ fn add_run(n: &mut [usize; 257], v: u16, run: usize)
 {
     let at = v as usize;
     if at < 257 {
-        n[at] = n[at] + run;
+        n[at] += run;
     }
+}
+
+// How many blocks from the first one on are of owner v.
+fn run_of(owner: &[u16], v: u16) -> usize
+    ensures { (result ≤ length owner.now) × ((k : ℕ) → k < result → get_or owner.now k 0 ≡ v) }
+{
+    owner.iter().position(|o| *o != v).unwrap_or(owner.len())
 }
 
 // The first block from block `from` on and before block `end` that is not of owner v, or `end`.
@@ -122,15 +116,7 @@ fn scan_other(owner: &[u16], v: u16, from: usize, end: usize) -> usize
     ensures { (from ≤ result) × (result ≤ end)
         × ((u : ℕ) → blocks u (drop from owner.now) ≡ cond (eqb v u) (result - from) 0 + blocks u (drop result owner.now)) }
 {
-    let mut b = from;
-    while b < end {
-        if owner[b] == v {
-            b += 1;
-        } else {
-            return b;
-        }
-    }
-    b
+    from + run_of(&owner[from..end], v)
 }
 
 // From block `from` on, past each 64 blocks that are all of owner v.
@@ -140,13 +126,11 @@ fn pass_whole(owner: &[u16], v: u16, from: usize) -> usize
         × ((u : ℕ) → blocks u (drop from owner.now) ≡ cond (eqb v u) (result - from) 0 + blocks u (drop result owner.now)) }
 {
     let mut b = from;
-    while 64 <= owner.len() - b {
-        let end = b + 64;
-        if count_few(&owner[b..end], v) == 64 {
-            b = end;
-        } else {
+    for part in owner[from..].chunks_exact(64) {
+        if count_few(part, v) != 64 {
             return b;
         }
+        b += 64;
     }
     b
 }
@@ -173,6 +157,7 @@ pub fn counts(owner: &[u16]) -> [usize; 257]
 {
     let mut n = [0usize; 257];
     let mut i = 0;
+    // a `while`: each turn goes on where a run ended, and `chunk_by` would look at each block, where `run_end` passes 64 at once
     while i < owner.len() {
         let end = run_end(owner, i);
         add_run(&mut n, owner[i], end - i);
@@ -186,32 +171,23 @@ pub fn counts(owner: &[u16]) -> [usize; 257]
 // From block `from` on, past each 64 blocks that are none of owner v's.
 fn pass_parts(owner: &[u16], v: u16, from: usize) -> usize
     requires { from ≤ length owner.now }
-    ensures { next_of v owner.now from ≡ next_of v owner.now result }
+    ensures { (result ≤ length owner.now) × (next_of v owner.now from ≡ next_of v owner.now result) }
 {
     let mut b = from;
-    while 64 <= owner.len() - b {
-        let end = b + 64;
-        if count_few(&owner[b..end], v) == 0 {
-            b = end;
-        } else {
+    for part in owner[from..].chunks_exact(64) {
+        if count_few(part, v) != 0 {
             return b;
         }
+        b += 64;
     }
     b
 }
 
-// The lowest block from block `from` on with owner v, or the number of blocks, one block after the other.
-fn scan_of(owner: &[u16], v: u16, from: usize) -> usize
-    ensures { result ≡ next_of v owner.now from }
+// The lowest block with owner v, if there is one.
+fn first_of(owner: &[u16], v: u16) -> Option<usize>
+    ensures { result ≡ position (λ o. eqb o v) owner.now }
 {
-    let mut b = from;
-    while b < owner.len() {
-        if owner[b] == v {
-            return b;
-        }
-        b += 1;
-    }
-    owner.len()
+    owner.iter().position(|o| *o == v)
 }
 
 // The lowest block from block `from` on with owner v, or the number of blocks. Mostly it is block `from` itself.
@@ -224,7 +200,11 @@ fn next_of(owner: &[u16], v: u16, from: usize) -> usize
     if owner[from] == v {
         return from;
     }
-    scan_of(owner, v, pass_parts(owner, v, from))
+    let left = pass_parts(owner, v, from);
+    match first_of(&owner[left..], v) {
+        Some(b) => left + b,
+        None => owner.len(),
+    }
 }
 
 // The lowest block from block `from` on that the file place has, or the number of blocks where there is none.
@@ -250,34 +230,25 @@ fn skip_parts(owner: &[u16], v: u16, k: usize) -> Spot
 {
     let mut from = 0;
     let mut left = k;
-    while 64 <= owner.len() - from {
-        let end = from + 64;
-        let has = count_few(&owner[from..end], v) as usize;
+    for part in owner.chunks_exact(64) {
+        let has = count_few(part, v) as usize;
         if left < has {
-            return Spot {
-                from: from,
-                left: left,
-            };
+            break;
         }
         left -= has;
-        from = end;
+        from += 64;
     }
-    Spot {
-        from: from,
-        left: left,
-    }
+    Spot { from, left }
 }
 
 // The k-th block of owner v, counted from 0, or the number of blocks. Each search goes on where the last one ended.
 fn find_block(owner: &[u16], v: u16, k: usize) -> usize
     ensures { result ≡ nth v owner.now k }
 {
-    let spot = skip_parts(owner, v, k);
-    let mut b = next_of(owner, v, spot.from);
-    let mut i = 0;
-    while i < spot.left {
+    let Spot { from, left } = skip_parts(owner, v, k);
+    let mut b = next_of(owner, v, from);
+    for _ in 0..left {
         b = next_of(owner, v, b + 1);
-        i += 1;
     }
     b
 }
@@ -287,9 +258,10 @@ fn next_before(owner: &[u16], v: u16, from: usize, done: usize, n: usize) -> usi
     ensures { done < n → result ≡ next_of v owner.now from }
 {
     if done < n {
-        return next_of(owner, v, from);
+        next_of(owner, v, from)
+    } else {
+        from
     }
-    from
 }
 
 // ---- the map that belongs to the owners
@@ -298,7 +270,7 @@ fn next_before(owner: &[u16], v: u16, from: usize, done: usize, n: usize) -> usi
 fn free_bit(o: u16) -> u64
     ensures { result ≡ is_free o }
 {
-    if o == 0 { 1 } else { 0 }
+    u64::from(o == 0)
 }
 
 // The word of the 64 blocks from block 64 * i on, built from its highest bit down.
@@ -307,10 +279,9 @@ fn word_of(owner: &[u16], i: usize) -> u64
     ensures { result ≡ word_of 64 (drop (64 * i) owner.now) }
 {
     let start = 64 * i;
-    let mut b = part_end(owner.len(), start, 64);
+    let end = part_end(owner.len(), start, 64);
     let mut w: u64 = 0;
-    while start < b {
-        b -= 1;
+    for b in (start..end).rev() {
         w = free_bit(owner[b]) + 2 * w;
     }
     w
@@ -319,29 +290,13 @@ fn word_of(owner: &[u16], i: usize) -> u64
 // ---- making an empty store
 
 // 33 for sizes outside the table.
-fn make_number(words: usize, n: usize) -> u8
-    ensures { result ≡ make_number words n }
+fn sizes_fit(words: usize, n: usize) -> Result<(), Refusal>
+    ensures { number_of result ≡ make_number words n }
 {
-    if n < 1 {
-        return 33;
-    }
-    if 4096 < n {
-        return 33;
-    }
-    if words == (n + 63) / 64 {
-        return 0;
-    }
-    33
-}
-
-// Every owner 0.
-fn free_all(owner: &mut [u16])
-    ensures { owner.new ≡ replicate (length owner.old) 0 }
-{
-    let mut i = 0;
-    while i < owner.len() {
-        owner[i] = 0;
-        i += 1;
+    if 1 <= n && n <= 4096 && words == (n + 63) / 64 {
+        Ok(())
+    } else {
+        Err(Refusal::BadSize)
     }
 }
 
@@ -350,26 +305,22 @@ fn fill_map(map: &mut [u64], owner: &[u16])
     requires { 64 * length map.old < length owner.now + 64 }
     ensures { map.new ≡ map_of (length map.old) owner.now }
 {
-    let mut i = 0;
-    while i < map.len() {
-        map[i] = word_of(owner, i);
-        i += 1;
+    for (i, w) in map.iter_mut().enumerate() {
+        *w = word_of(owner, i);
     }
 }
 
 // An empty store: every block free. 33 for sizes outside the table or a map that has not exactly the words of the blocks.
-pub fn make(map: &mut [u64], owner: &mut [u16]) -> u8
-    ensures value { result ≡ make_number (length map.old) (length owner.old) }
+#[tactic(auto, using(refusal::proofs::Laws::not_done), unfolding(crate::specs::Answers::make_map, crate::specs::Answers::make_owner))]
+pub fn make(map: &mut [u64], owner: &mut [u16]) -> Result<(), Refusal>
+    ensures value { number_of result ≡ make_number (length map.old) (length owner.old) }
     ensures map_after { map.new ≡ make_map map.old owner.old }
     ensures owner_after { owner.new ≡ make_owner map.old owner.old }
 {
-    let refused = make_number(map.len(), owner.len());
-    if refused == 0 {
-        free_all(owner);
-        fill_map(map, owner);
-        return 0;
-    }
-    refused
+    sizes_fit(map.len(), owner.len())?;
+    owner.fill(0);
+    fill_map(map, owner);
+    Ok(())
 }
 
 // ---- the check
@@ -379,13 +330,9 @@ fn owners_within(owner: &[u16], files: u16) -> bool
     ensures { result ≡ within files owner.now }
 {
     let mut good = true;
-    let mut k = 0;
-    while k < owner.len() {
-        if files < owner[k] {
+    for o in owner {
+        if files < *o {
             good = false;
-            k += 1;
-        } else {
-            k += 1;
         }
     }
     good
@@ -413,11 +360,8 @@ fn map_is(map: &[u64], owner: &[u16]) -> bool
     requires { 64 * length map.now < length owner.now + 64 }
     ensures { result ≡ map_is map.now owner.now }
 {
-    let mut i = 0;
-    while i < map.len() {
-        if word_is(map[i], owner, i) {
-            i += 1;
-        } else {
+    for (i, w) in map.iter().enumerate() {
+        if !word_is(*w, owner, i) {
             return false;
         }
     }
@@ -429,13 +373,7 @@ fn map_is(map: &[u64], owner: &[u16]) -> bool
 pub fn agrees(map: &[u64], owner: &[u16], files: u16) -> bool
     ensures { result ≡ agrees_test map.now owner.now files }
 {
-    if map.len() == (owner.len() + 63) / 64 {
-        if owners_within(owner, files) {
-            return map_is(map, owner);
-        }
-        return false;
-    }
-    false
+    map.len() == (owner.len() + 63) / 64 && owners_within(owner, files) && map_is(map, owner)
 }
 
 // ---- reserving
@@ -444,29 +382,20 @@ pub fn agrees(map: &[u64], owner: &[u16], files: u16) -> bool
 fn store_fits(words: usize, n: usize, place: u16) -> bool
     ensures { result ≡ store_fits words n place }
 {
-    if n < 1 {
-        return false;
-    }
-    if 64 < words {
-        return false;
-    }
-    if 64 * words < n {
-        return false;
-    }
-    place < 256
+    1 <= n && words <= 64 && n <= 64 * words && place < 256
 }
 
 // 33 for sizes, then 13 for too few free blocks.
-fn reserve_number(map: &[u64], size: usize, place: u16, n: usize) -> u8
-    ensures { result ≡ reserve_number map.now size place n }
+fn room_for(map: &[u64], size: usize, place: u16, n: usize) -> Result<(), Refusal>
+    ensures { number_of result ≡ reserve_number map.now size place n }
 {
-    if store_fits(map.len(), size, place) {
-        if count_bits(map) < n {
-            return 13;
-        }
-        return 0;
+    if !store_fits(map.len(), size, place) {
+        return Err(Refusal::BadSize);
     }
-    33
+    if count_bits(map) < n {
+        return Err(Refusal::NoRoom);
+    }
+    Ok(())
 }
 
 // The lowest free block, where all words before word `from` are 0.
@@ -474,15 +403,13 @@ fn lowest_free(map: &[u64], from: usize) -> usize
     requires { (length map.now ≤ 64) × (from ≤ length map.now) × (64 * from + lowest (drop from map.now) ≡ lowest map.now) }
     ensures { result ≡ lowest map.now }
 {
-    let mut i = from;
-    while i < map.len() {
+    for i in from..map.len() {
         let w = map[i];
         if w != 0 {
-            return 64 * i + u64::trailing_zeros(w) as usize;
+            return 64 * i + w.trailing_zeros() as usize;
         }
-        i += 1;
     }
-    64 * i
+    64 * map.len()
 }
 
 // Owner v for block b; a number past the last block changes nothing.
@@ -515,26 +442,22 @@ fn take_blocks(map: &mut [u64], owner: &mut [u16], v: u16, n: usize)
     ensures map_after { map.new ≡ reserved_map n map.old }
     ensures owner_after { owner.new ≡ reserved_owner v n map.old owner.old }
 {
-    let mut left = n;
     let mut i = 0;
-    while 0 < left {
+    for _ in 0..n {
         i = take_lowest(map, owner, v, i);
-        left -= 1;
     }
 }
 
 // The n lowest free blocks become the place's: their bits are cleared and their owner is the place plus 1.
-pub fn reserve(map: &mut [u64], owner: &mut [u16], place: u16, n: usize) -> u8
-    ensures value { result ≡ reserve_number map.old (length owner.old) place n }
+#[tactic(auto, using(refusal::proofs::Laws::not_done), unfolding(crate::specs::Answers::reserve_map, crate::specs::Answers::reserve_owner))]
+pub fn reserve(map: &mut [u64], owner: &mut [u16], place: u16, n: usize) -> Result<(), Refusal>
+    ensures value { number_of result ≡ reserve_number map.old (length owner.old) place n }
     ensures map_after { map.new ≡ reserve_map map.old owner.old place n }
     ensures owner_after { owner.new ≡ reserve_owner map.old owner.old place n }
 {
-    let refused = reserve_number(map, owner.len(), place, n);
-    if refused == 0 {
-        take_blocks(map, owner, place + 1, n);
-        return 0;
-    }
-    refused
+    room_for(map, owner.len(), place, n)?;
+    take_blocks(map, owner, place + 1, n);
+    Ok(())
 }
 
 // ---- releasing
@@ -556,13 +479,9 @@ fn mark(map: &mut [u64], b: usize)
 fn mark_blocks(map: &mut [u64], owner: &[u16], v: u16)
     ensures { map.new ≡ released_map v owner.now 0 map.old }
 {
-    let mut b = 0;
-    while b < owner.len() {
-        if owner[b] == v {
+    for (b, o) in owner.iter().enumerate() {
+        if *o == v {
             mark(map, b);
-            b += 1;
-        } else {
-            b += 1;
         }
     }
 }
@@ -571,29 +490,26 @@ fn mark_blocks(map: &mut [u64], owner: &[u16], v: u16)
 fn clear_blocks(owner: &mut [u16], v: u16)
     ensures { owner.new ≡ released_owner v owner.old }
 {
-    let mut b = 0;
-    while b < owner.len() {
-        if owner[b] == v {
-            owner[b] = 0;
-            b += 1;
-        } else {
-            b += 1;
+    for o in owner.iter_mut() {
+        if *o == v {
+            *o = 0;
         }
     }
 }
 
 // Each block of the place becomes free. Where its bit is set already, the map stays as it is.
-pub fn release(map: &mut [u64], owner: &mut [u16], place: u16) -> u8
-    ensures value { result ≡ release_number (length map.old) (length owner.old) place }
+#[tactic(auto, using(refusal::proofs::Laws::not_done), unfolding(crate::specs::Answers::release_map, crate::specs::Answers::release_owner))]
+pub fn release(map: &mut [u64], owner: &mut [u16], place: u16) -> Result<(), Refusal>
+    ensures value { number_of result ≡ release_number (length map.old) (length owner.old) place }
     ensures map_after { map.new ≡ release_map map.old owner.old place }
     ensures owner_after { owner.new ≡ release_owner map.old owner.old place }
 {
-    if store_fits(map.len(), owner.len(), place) {
-        mark_blocks(map, owner, place + 1);
-        clear_blocks(owner, place + 1);
-        return 0;
+    if !store_fits(map.len(), owner.len(), place) {
+        return Err(Refusal::BadSize);
     }
-    33
+    mark_blocks(map, owner, place + 1);
+    clear_blocks(owner, place + 1);
+    Ok(())
 }
 
 // ---- writing and reading
@@ -602,65 +518,37 @@ pub fn release(map: &mut [u64], owner: &mut [u16], place: u16) -> u8
 fn disk_fits(size: usize, n: usize, place: u16) -> bool
     ensures { result ≡ disk_fits size n place }
 {
-    if n < 1 {
-        return false;
-    }
-    if 4096 < n {
-        return false;
-    }
-    if size < 256 * n {
-        return false;
-    }
-    place < 256
+    1 <= n && n <= 4096 && 256 * n <= size && place < 256
 }
 
 // 33 for sizes, then 35 where the place's blocks do not have the n bytes from byte `at` on.
-fn window_number(size: usize, owner: &[u16], place: u16, at: usize, n: usize) -> u8
-    ensures { result ≡ window_number size owner.now place at n }
+fn window_fits(size: usize, owner: &[u16], place: u16, at: usize, n: usize) -> Result<(), Refusal>
+    ensures { number_of result ≡ window_number size owner.now place at n }
 {
-    if disk_fits(size, owner.len(), place) {
-        let most = 256 * count_of(owner, place + 1);
-        if most < at {
-            return 35;
-        }
-        if most - at < n {
-            return 35;
-        }
-        return 0;
+    if !disk_fits(size, owner.len(), place) {
+        return Err(Refusal::BadSize);
     }
-    33
+    let most = 256 * count_of(owner, place + 1);
+    if most < at || most - at < n {
+        return Err(Refusal::Unsound);
+    }
+    Ok(())
 }
 
 // How many of `left` bytes stand in one block from byte `at` on.
 fn run_length(at: usize, left: usize) -> usize
     ensures { (result ≤ left) × (at % 256 + result ≤ 256) × (0 < left → 0 < result) × (result < left → at % 256 + result ≡ 256) }
 {
-    let room = 256 - at % 256;
-    if left < room {
-        return left;
-    }
-    room
-}
-
-// Copies `from` to `to`.
-fn copy(to: &mut [u8], from: &[u8])
-    requires { length to.old ≡ length from.now }
-    ensures { to.new ≡ from.now }
-{
-    let mut i = 0;
-    while i < to.len() {
-        to[i] = from[i];
-        i += 1;
-    }
+    left.min(256 - at % 256)
 }
 
 // Stores a run of bytes from byte s of the disk on.
+#[tactic(auto, using(crate::proofs::Steps::part_put))]
 fn put_run(disk: &mut [u8], s: usize, run: &[u8])
     requires { s + length run.now ≤ length disk.old }
     ensures { disk.new ≡ sets disk.old s run.now }
 {
-    let e = s + run.len();
-    copy(&mut disk[s..e], run);
+    disk[s..s + run.len()].copy_from_slice(run);
 }
 
 // Stores the bytes from byte `at` of owner v on, a run for each block that they touch.
@@ -670,6 +558,7 @@ fn put_runs(disk: &mut [u8], owner: &[u16], v: u16, at: usize, bytes: &[u8])
 {
     let mut b = find_block(owner, v, at / 256);
     let mut i = 0;
+    // a `while`: each turn goes on behind the run that it moved, and the first and the last run are shorter than a block
     while i < bytes.len() {
         let e = i + run_length(at + i, bytes.len() - i);
         put_run(disk, 256 * b + (at + i) % 256, &bytes[i..e]);
@@ -679,16 +568,20 @@ fn put_runs(disk: &mut [u8], owner: &[u16], v: u16, at: usize, bytes: &[u8])
 }
 
 // Stores the bytes from byte `at` of the place's contents on, across the borders of its blocks.
-pub fn write(disk: &mut [u8], owner: &[u16], place: u16, at: usize, bytes: &[u8]) -> u8
-    ensures value { result ≡ window_number (length disk.old) owner.now place at (length bytes.now) }
+#[tactic(auto, using(refusal::proofs::Laws::not_done), unfolding(crate::specs::Answers::write_disk))]
+pub fn write(
+    disk: &mut [u8],
+    owner: &[u16],
+    place: u16,
+    at: usize,
+    bytes: &[u8],
+) -> Result<(), Refusal>
+    ensures value { number_of result ≡ window_number (length disk.old) owner.now place at (length bytes.now) }
     ensures disk_after { disk.new ≡ write_disk disk.old owner.now place at bytes.now }
 {
-    let refused = window_number(disk.len(), owner, place, at, bytes.len());
-    if refused == 0 {
-        put_runs(disk, owner, place + 1, at, bytes);
-        return 0;
-    }
-    refused
+    window_fits(disk.len(), owner, place, at, bytes.len())?;
+    put_runs(disk, owner, place + 1, at, bytes);
+    Ok(())
 }
 
 // Fills `out` from byte s of the disk on.
@@ -696,8 +589,7 @@ fn get_run(disk: &[u8], s: usize, out: &mut [u8])
     requires { s + length out.old ≤ length disk.now }
     ensures { out.new ≡ take (length out.old) (drop s disk.now) }
 {
-    let e = s + out.len();
-    copy(out, &disk[s..e]);
+    out.copy_from_slice(&disk[s..s + out.len()]);
 }
 
 // Fills `out` with the bytes from byte `at` of owner v on, a run for each block that they touch.
@@ -707,6 +599,7 @@ fn get_runs(disk: &[u8], owner: &[u16], v: u16, at: usize, out: &mut [u8])
 {
     let mut b = find_block(owner, v, at / 256);
     let mut i = 0;
+    // a `while`: each turn goes on behind the run that it moved, and the first and the last run are shorter than a block
     while i < out.len() {
         let e = i + run_length(at + i, out.len() - i);
         get_run(disk, 256 * b + (at + i) % 256, &mut out[i..e]);
@@ -716,14 +609,18 @@ fn get_runs(disk: &[u8], owner: &[u16], v: u16, at: usize, out: &mut [u8])
 }
 
 // Fills `out` with the bytes from byte `at` of the place's contents on.
-pub fn read(disk: &[u8], owner: &[u16], place: u16, at: usize, out: &mut [u8]) -> u8
-    ensures value { result ≡ window_number (length disk.now) owner.now place at (length out.old) }
+#[tactic(auto, using(refusal::proofs::Laws::not_done), unfolding(crate::specs::Answers::read_out))]
+pub fn read(
+    disk: &[u8],
+    owner: &[u16],
+    place: u16,
+    at: usize,
+    out: &mut [u8],
+) -> Result<(), Refusal>
+    ensures value { number_of result ≡ window_number (length disk.now) owner.now place at (length out.old) }
     ensures out_after { out.new ≡ read_out disk.now owner.now place at out.old }
 {
-    let refused = window_number(disk.len(), owner, place, at, out.len());
-    if refused == 0 {
-        get_runs(disk, owner, place + 1, at, out);
-        return 0;
-    }
-    refused
+    window_fits(disk.len(), owner, place, at, out.len())?;
+    get_runs(disk, owner, place + 1, at, out);
+    Ok(())
 }

@@ -6,7 +6,7 @@ use Rattle.session.specs.declared.state.Listed.{Listed}
 use Rattle.session.specs.declared.reply.Reply.TheVariants.{Nothing, Closing, DownloadError, Aborted, Completed, Selected}
 use Rattle.session.specs.State.{closed_session, with_down, with_next, with_selection}
 use Rattle.files.specs.Completion.{destinations_at}
-use Rattle.files.specs.Selection.{Selects, select_of}
+use Rattle.files.specs.Selection.{count_in, refusal_in, Selects, select_of}
 use Rattle.carry.specs.declared.turn.Last.{Last}
 use Rattle.carry.specs.declared.turn.Turn.{Turn}
 use Rattle.carry.specs.Turn.{turn_of, Chooses, chooses}
@@ -18,9 +18,9 @@ close_turn last selected = chooses (turn_of closed_session last Closing) (replic
 -- "SELECT_RESP has their number"; "a refused SELECT keeps the old selection"
 unfoldable pub selected_as : Session → Last → Selects → Chooses
 selected_as s last r =
-    cond (eqb r.answer.refused 0)
-    (chooses (turn_of (with_selection s r.answer.count) last (Selected r.answer.count)) r.selected)
-    (chooses (turn_of s last (DownloadError r.answer.refused)) r.selected)
+    cond (eqb (refusal_in r.answer) 0)
+    (chooses (turn_of (with_selection s (count_in r.answer)) last (Selected (count_in r.answer))) r.selected)
+    (chooses (turn_of s last (DownloadError (refusal_in r.answer))) r.selected)
 
 unfoldable pub select_turn : Session → Last → ℕ → ℕ → List ℕ → List ℕ → List ℕ → List ℕ → List ℕ → Chooses
 select_turn s last most size info disk owner table selected =

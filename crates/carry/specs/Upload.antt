@@ -1,12 +1,10 @@
 -- The acts of the uplink (document 01, "Uplink", "Header at DATA_END"). Assumes nothing.
-use Rattle.std.specs.Prelude.{cond, List, ℕ, ◌+◌, ◌%◌, eqb, ltb, length, take}
+use Rattle.std.specs.Prelude.{cond, List, ℕ, ◌+◌, ◌%◌, eqb, ltb, length, take, Option, Some, None, Result, Ok, Err}
 use Rattle.session.specs.declared.state.Session.{Session}
 use Rattle.session.specs.declared.state.Uplink.{Uplink}
 use Rattle.session.specs.declared.state.Uplink.TheVariants as up
 use Rattle.session.specs.declared.reply.Reply.TheVariants.{Nothing, Go, UploadError, Ack, Nak}
 use Rattle.session.specs.State.{with_up}
-use Rattle.table.specs.declared.Given.{Given}
-use Rattle.table.specs.declared.Given.TheVariants.{UsedUp, Next}
 use Rattle.table.specs.Given.{next_number, upload_time, given_number}
 use Rattle.files.specs.declared.Begun.{Begun}
 use Rattle.files.specs.declared.Begun.TheVariants.{Refused, Started}
@@ -14,8 +12,6 @@ use Rattle.files.specs.Uploads as files
 use Rattle.files.specs.Completion.{check_of, complete_of}
 use Rattle.carry.specs.declared.turn.Last.{Last}
 use Rattle.carry.specs.declared.turn.Turn.{Turn}
-use Rattle.carry.specs.declared.upload.Judged.{Judged}
-use Rattle.carry.specs.declared.upload.Judged.TheVariants.{Rejected, Accepted}
 use Rattle.carry.specs.Turn.{last_of, turn_of, Frees, frees, Writes, writes, Moves, moves}
 
 -- ---- UPLOAD_CMD
@@ -29,9 +25,9 @@ unfoldable pub begun_as : ℕ → Session → Last → files.Begins → Frees
 begun_as number s last b = frees (begun_turn b.answer s last number) b.map b.owner b.table
 
 -- "UPLOAD new: 1, 3, 13"
-unfoldable pub begin_with : Given → Session → Last → ℕ → List ℕ → List ℕ → List ℕ → Frees
-begin_with UsedUp s last size map owner table = frees (turn_of s last (UploadError (given_number UsedUp))) map owner table
-begin_with (Next number) s last size map owner table = begun_as number s last (files.begin_of map owner table last.number size)
+unfoldable pub begin_with : Option ℕ → Session → Last → ℕ → List ℕ → List ℕ → List ℕ → Frees
+begin_with None s last size map owner table = frees (turn_of s last (UploadError (given_number None))) map owner table
+begin_with (Some number) s last size map owner table = begun_as number s last (files.begin_of map owner table last.number size)
 
 abbrev pub begin_turn : Session → Last → ℕ → List ℕ → List ℕ → List ℕ → Frees
 begin_turn s last size map owner table = begin_with (next_number last.number) s last size map owner table
@@ -67,13 +63,13 @@ discard_turn s last place u number map owner table =
 -- ---- DATA_END
 
 -- the checks of the header, "then 3"
-unfoldable pub timed : Given → Judged
-timed UsedUp = Rejected (given_number UsedUp)
-timed (Next time) = Accepted time
+unfoldable pub timed : Option ℕ → Result ℕ ℕ
+timed None = Err (given_number None)
+timed (Some time) = Ok time
 
-unfoldable pub judged_at : Last → ℕ → ℕ → List ℕ → List ℕ → List ℕ → Judged
+unfoldable pub judged_at : Last → ℕ → ℕ → List ℕ → List ℕ → List ℕ → Result ℕ ℕ
 judged_at last place clock disk owner table =
-    cond (eqb (check_of disk owner table place) 0) (timed (upload_time clock last.time)) (Rejected (check_of disk owner table place))
+    cond (eqb (check_of disk owner table place) 0) (timed (upload_time clock last.time)) (Err (check_of disk owner table place))
 
 -- "On success the server sets" its fields, five with file_name
 unfoldable pub accepted_as : ℕ → Session → Last → ℕ → Turn
@@ -92,9 +88,9 @@ unfoldable pub with_blocks : List ℕ → List ℕ → Writes → Moves
 with_blocks map owner r = moves r.turn r.disk map owner r.table
 
 -- "DATA_END gets UL_ACK_RESP or UL_NAK_RESP."
-unfoldable pub finish_as : Judged → Session → Last → ℕ → List ℕ → List ℕ → List ℕ → List ℕ → Moves
-finish_as (Rejected number) s last place disk map owner table = with_disk disk (discard_turn s last place up.Idle number map owner table)
-finish_as (Accepted time) s last place disk map owner table = with_blocks map owner (accept_turn s last place time disk owner table)
+unfoldable pub finish_as : Result ℕ ℕ → Session → Last → ℕ → List ℕ → List ℕ → List ℕ → List ℕ → Moves
+finish_as (Err number) s last place disk map owner table = with_disk disk (discard_turn s last place up.Idle number map owner table)
+finish_as (Ok time) s last place disk map owner table = with_blocks map owner (accept_turn s last place time disk owner table)
 
 abbrev pub finish_turn : Session → Last → ℕ → ℕ → List ℕ → List ℕ → List ℕ → List ℕ → Moves
 finish_turn s last place clock disk map owner table = finish_as (judged_at last place clock disk owner table) s last place disk map owner table

@@ -11,11 +11,7 @@ use session::state::{Downlink, Listed, Session};
 pub fn forget(selected: &mut [u32])
     ensures { selected.new ≡ replicate (length selected.old) 0 }
 {
-    let mut k = 0;
-    while k < selected.len() {
-        selected[k] = 0;
-        k += 1;
-    }
+    selected.fill(0);
 }
 
 // The link is closed: the selection is forgotten, and the partial stays as it is.
@@ -44,12 +40,13 @@ pub(crate) fn select(
     if info.len() < size {
         return reply_only(s, last, Reply::Nothing);
     }
-    let selection = files::select(&info[..size], disk, owner, table, selected, most);
-    if selection.refused != 0 {
-        return reply_only(s, last, Reply::DownloadError(selection.refused));
+    match files::select(&info[..size], disk, owner, table, selected, most) {
+        Ok(count) => {
+            let next = session::state::with_selection(s, count);
+            reply_only(next, last, Reply::Selected(count))
+        }
+        Err(refusal) => reply_only(s, last, Reply::DownloadError(u8::from(refusal))),
     }
-    let next = session::state::with_selection(s, selection.count);
-    reply_only(next, last, Reply::Selected(selection.count))
 }
 
 // DOWNLOAD_CMD of a complete file: 10, or the download begins and `passed` selected files lie behind it.

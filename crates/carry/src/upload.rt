@@ -7,7 +7,6 @@ use crate::turn::{Last, Turn, reply_only, uplink_only};
 use files::Begun;
 use session::reply::Reply;
 use session::state::{Session, Uplink};
-use table::Given;
 
 // A file begun or refused.
 fn begun(answer: Begun, s: Session, last: Last, number: u32) -> Turn
@@ -31,6 +30,7 @@ fn begun(answer: Begun, s: Session, last: Last, number: u32) -> Turn
 }
 
 // A new upload: 3, then 13.
+#[tactic(auto, unfolding(crate::specs::Upload::begin_with, crate::specs::Upload::begun_as))]
 pub(crate) fn begin(
     s: Session,
     last: Last,
@@ -42,14 +42,11 @@ pub(crate) fn begin(
     ensures { frees result map.new owner.new table.new
         ≡ begin_turn s last «length» map.old owner.old table.old }
 {
-    let number = table::next_number(last.number);
-    match number {
-        Given::UsedUp => reply_only(s, last, Reply::UploadError(3)),
-        Given::Next(n) => {
-            let answer = files::begin(map, owner, table, last.number, length);
-            begun(answer, s, last, n)
-        }
-    }
+    let Some(number) = table::next_number(last.number) else {
+        return reply_only(s, last, Reply::UploadError(3));
+    };
+    let answer = files::begin(map, owner, table, last.number, length);
+    begun(answer, s, last, number)
 }
 
 // An upload goes on where it stopped.
@@ -137,26 +134,23 @@ fn accept(
     uplink_only(s, next, Uplink::Idle, Reply::Ack)
 }
 
-// What DATA_END gives a file: the number of a refusal, or the upload time.
-#[derive(Clone, Copy)]
-enum Judged {
-    Rejected(u8),
-    Accepted(u32),
-}
-
-// The header's checks, "then 3".
-fn judge(last: Last, place: usize, clock: u32, disk: &[u8], owner: &[u16], table: &[u32]) -> Judged
+// What DATA_END gives a file: the upload time, or the number of a refusal. The header's checks, "then 3".
+#[tactic(auto, unfolding(crate::specs::Upload::judged_at, crate::specs::Upload::timed))]
+fn judge(
+    last: Last,
+    place: usize,
+    clock: u32,
+    disk: &[u8],
+    owner: &[u16],
+    table: &[u32],
+) -> Result<u32, u8>
     ensures { result ≡ judged_at last place clock disk.now owner.now table.now }
 {
     let refused = files::check(disk, owner, table, place);
     if refused != 0 {
-        return Judged::Rejected(refused);
+        return Err(refused);
     }
-    let time = table::upload_time(clock, last.time);
-    match time {
-        Given::UsedUp => Judged::Rejected(3),
-        Given::Next(t) => Judged::Accepted(t),
-    }
+    table::upload_time(clock, last.time).ok_or(3)
 }
 
 // DATA_END.
@@ -173,18 +167,8 @@ pub(crate) fn finish(
     ensures { moves result disk.new map.new owner.new table.new
         ≡ finish_turn s last place clock disk.old map.old owner.old table.old }
 {
-    let judged = judge(last, place, clock, &*disk, &*owner, &*table);
-    match judged {
-        Judged::Rejected(number) => discard(
-            s,
-            last,
-            place,
-            Uplink::Idle,
-            number,
-            map,
-            owner,
-            table,
-        ),
-        Judged::Accepted(time) => accept(s, last, place, time, disk, &*owner, table),
+    match judge(last, place, clock, &*disk, &*owner, &*table) {
+        Err(number) => discard(s, last, place, Uplink::Idle, number, map, owner, table),
+        Ok(time) => accept(s, last, place, time, disk, &*owner, table),
     }
 }

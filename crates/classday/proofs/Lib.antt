@@ -1,5 +1,4 @@
 pub mod Parts
-pub mod Starting
 pub mod Words
 pub mod Whole
 pub mod Same

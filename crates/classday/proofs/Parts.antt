@@ -1,21 +1,18 @@
--- Laws on the parts of a turn: a line that is answered, and input that is read. Assumes nothing.
-use Rattle.std.proofs.Common.{◌≡◌, ℕ, suc, ◌+◌, ◌-◌, ◌*◌, ◌^◌, ◌<◌, ◌≤◌, Bool, true, false, cond, eqb, ltb, List, ◌++◌, length, take, drop, sym, refl, ap, ◌∙◌, arith, take-append-drop, take_all, ltb-false}
+-- Laws on the part of a turn that is the program's own: a line that is answered. Assumes nothing.
+use Rattle.std.proofs.Common.{◌≡◌, ℕ, suc, ◌+◌, ◌-◌, ◌*◌, ◌^◌, ◌<◌, ◌≤◌, Bool, true, false, cond, eqb, ltb, List, ◌++◌, length, take, drop, sym, refl, ap, ◌∙◌, arith, take-append-drop, take_all, ltb-false, None, Some}
+use Rattle.std.proofs.Common as std
 use mathlib.Core.Option.{Option, none, some}
 use Rattle.server.specs.State.{Lent}
 use Rattle.lines.specs.Lines.{printed, printed_in}
 use Rattle.input.specs.Parts.{bytes_from, least_of, wrapped}
 use Rattle.input.proofs.PartLaws.{bytes_part}
-use Rattle.input.specs.Input.{shifted, shift_of}
-use Rattle.input.proofs.Places.{end_part, put_end, wrapped_same, input_brought}
+use Rattle.input.proofs.Places.{end_part, put_end}
 use Rattle.script.specs.declared.Day.{Day}
 use Rattle.script.specs.Line.{Ran, ran}
 use Rattle.replies.specs.Reply.{Replies, replies, replied}
-use Rattle.replies.specs.declared.Reply.{Reply}
-use Rattle.replies.specs.declared.Reply.TheVariants as reply
 use Rattle.pass.specs.declared.Pass.{Pass}
-use Rattle.pass.specs.Pass.{put, pass_of, memory, passing, passed_over, said_of, error_then_last_put}
-use Rattle.pass.specs.Narrow.{Filled}
-use Rattle.pass.proofs.Parts.{none_said, some_said, input_filled}
+use Rattle.pass.specs.Pass.{put, memory, passing, passed_over, said_of, error_then_last_put}
+use Rattle.pass.proofs.Parts.{none_said, some_said}
 use Rattle.classday.specs.Sheet.{only_prints, prints_at, class_words, behind, reply_behind}
 
 -- ---- a part of a list that is cut to it
@@ -36,7 +33,7 @@ take_records n p r l e f = rw f (take_least (4 * p) l) ∙ by (ltb n (length l))
 
 -- ---- a reply behind what waits
 
-pub reply_put : (prints : List ℕ → Option (List ℕ)) (input text part : List ℕ) (from to at stop start place : ℕ) (r : Reply)
+pub reply_put : (prints : List ℕ → Option (List ℕ)) (input text part : List ℕ) (from to at stop start place : ℕ) (r : std.Option ℕ)
     → stop ≡ cond (ltb to (length input)) to (length input) → start ≡ cond (ltb from stop) from stop → place ≡ least_of at (length text)
     → replies r part ≡ replied (prints (take (stop - start) (drop start input))) (take (length text - place) (drop place text))
     → replies r (take place text ++ (part ++ drop (length text - place) (drop place text))) ≡ reply_behind at (prints (bytes_from from to input)) text
@@ -46,13 +43,13 @@ reply_put prints input text part from to at stop start place r p q e f =
     (f ∙ ap (λ (l : List ℕ). replied (prints l) (take (length text - place) (drop place text))) (bytes_part input from to stop start p q)
     ∙ ap (λ (t : List ℕ). replied (prints (bytes_from from to input)) t) (end_part place text)))
 
-kind : Reply → ℕ
-kind reply.Unreadable = 0
-kind (reply.Line n) = suc n
+kind : std.Option ℕ → ℕ
+kind None = 0
+kind (Some n) = suc n
 
-size_of : Reply → ℕ
-size_of reply.Unreadable = 0
-size_of (reply.Line n) = n
+size_of : std.Option ℕ → ℕ
+size_of None = 0
+size_of (Some n) = n
 
 -- what a reply says of the line that is printed
 record Line (at size : ℕ) (o : Option (List ℕ)) (text now : List ℕ) : Type 0 where
@@ -63,12 +60,12 @@ record Line (at size : ℕ) (o : Option (List ℕ)) (text now : List ℕ) : Type
   left : now ≡ take (least_of at (length text)) text ++ part
 
 module _ (at : ℕ) (text now : List ℕ) where
-  none_behind : (o : Option (List ℕ)) → replies reply.Unreadable now ≡ reply_behind at o text → (o ≡ none) × (now ≡ text)
+  none_behind : (o : Option (List ℕ)) → replies None now ≡ reply_behind at o text → (o ≡ none) × (now ≡ text)
   unfolding replied kind
   none_behind none e = (refl, ap (λ (x : Replies). x.text) e ∙ take-append-drop (least_of at (length text)) text)
   none_behind (some line) e = absurd (omega (arith, ap (λ (x : Replies). kind x.reply) e))
 
-  line_behind : (size : ℕ) (o : Option (List ℕ)) → replies (reply.Line size) now ≡ reply_behind at o text → Line at size o text now
+  line_behind : (size : ℕ) (o : Option (List ℕ)) → replies (Some size) now ≡ reply_behind at o text → Line at size o text now
   unfolding replied kind size_of
   line_behind size none e = absurd (omega (arith, ap (λ (x : Replies). kind x.reply) e))
   line_behind size (some line) e =
@@ -94,15 +91,15 @@ words_some day l line said e = rw e
 no_some : (o : Option Ran) (r : Ran) → o ≡ some r → o ≡ none → ⊥
 no_some o r e f = let z : ◌≡◌ {A = ℕ} 0 1 = cc in omega arith
 
-module _ (p r : Pass) (to : ℕ) (l : Lent) (input bytes text now line : List ℕ) (said : Reply)
+module _ (p r : Pass) (to : ℕ) (l : Lent) (input bytes text now line : List ℕ) (said : std.Option ℕ)
     (e : replies said now ≡ reply_behind p.filled (prints_at p.day.server l.disk l.owner l.table line) text) where
-  pub answered_none : said ≡ reply.Unreadable → (after : List ℕ) → put r after ≡ error_then_last_put p l.map l.owner now
+  pub answered_none : said ≡ None → (after : List ℕ) → put r after ≡ error_then_last_put p l.map l.owner now
       → passing r (memory l input bytes after) ≡ said_of (class_words p.day l line) p to (memory l input bytes text)
   answered_none z after f =
       let n = none_behind p.filled text now (prints_at p.day.server l.disk l.owner l.table line) (rw z at e) in
       none_said p r to l input bytes text (class_words p.day l line) (words_none p.day l line n.0) after (rw n.1 at f)
 
-  pub answered_line : (size : ℕ) → said ≡ reply.Line size
+  pub answered_line : (size : ℕ) → said ≡ Some size
       → r ≡ passed_over p.day p to (wrapped (least_of p.filled (length now) + size)) → length now ≡ length text
       → passing r (memory l input bytes now) ≡ said_of (class_words p.day l line) p to (memory l input bytes text)
   answered_line size z f g =
@@ -111,23 +108,7 @@ module _ (p r : Pass) (to : ℕ) (l : Lent) (input bytes text now line : List �
       (some_said p r to l input bytes text (class_words p.day l line) p.day l n.line n.part size
       (words_some p.day l line n.line n.said) n.is (rw g at f))
 
-  pub line_not_none : (size : ℕ) → said ≡ reply.Line size → class_words p.day l line ≡ none → ⊥
+  pub line_not_none : (size : ℕ) → said ≡ Some size → class_words p.day l line ≡ none → ⊥
   line_not_none size z f =
       let n = line_behind p.filled text now size (prints_at p.day.server l.disk l.owner l.table line) (rw z at e) in
       no_some (class_words p.day l line) (ran p.day l n.line) (words_some p.day l line n.line n.said) f
-
--- ---- input that is read
-
-pub input_refilled : (p r : Pass) (input moved brought whole : List ℕ) (size kept n : ℕ) → length input < 2 ^ 63
-    → r ≡ pass_of p.day 0 (wrapped (kept + n)) (eqb n 0) p.lines p.filled p.stage
-    → shifted size moved ≡ shift_of p.from p.end input
-    → length moved ≡ length input
-    → (kept ≤ length moved) × (kept ≡ least_of size (length moved))
-    → length brought ≡ length (take (length moved - kept) (drop kept moved))
-    → whole ≡ take kept moved ++ (brought ++ drop (length moved - kept) (drop kept moved))
-    → n ≤ length (take (length whole - kept) (drop kept whole))
-    → Filled p input r whole
-input_refilled p r input moved brought whole size kept n small is e f g h i j =
-    let b = input_brought p.from p.end input moved brought whole size kept n e f g h i j in
-    let w : wrapped (kept + n) ≡ kept + n = wrapped_same (kept + n) (omega (arith, small, f, g.0, b.size, b.most)) in
-    rw (is, w) (input_filled p input moved brought whole size kept n e f g h i j)

@@ -1,43 +1,34 @@
--- The run of the program from its own start: a server just made in the program's memory. It meets what EveryRun (crates/pass, specs/Run.antt) asks of a
--- start, so what EveryRun says holds of it. Assumes nothing.
-use Rattle.std.specs.Prelude.{◌≡◌, ◌^◌, ◌<◌, true, length}
+-- The run of the program from its own start: a server just made in the program's memory (crates/pass, specs/Whole.antt, with the words of a class). It meets
+-- what EveryRun (crates/pass, specs/Run.antt) asks of a start, so what EveryRun says holds of it. Assumes nothing.
 use Rattle.server.specs.State.{Lent}
-use Rattle.history.specs.Calls.{Start, legal, made}
+use Rattle.history.specs.Calls.{Start}
 use Rattle.pass.specs.declared.Pass.{Pass}
-use Rattle.pass.specs.Pass.{Memory, memory, Passing, new_of}
-use Rattle.pass.specs.Run.{HasRoom, PrintsBy}
+use Rattle.pass.specs.Pass.{Memory, Passing}
 use Rattle.pass.specs.Run as program
+use Rattle.pass.specs.Whole as whole
 use Rattle.classday.specs.Sheet.{class_words, class_sheet_of}
 
 -- "a server of 128 blocks, 32 files, 4 sessions and MAXSEL 50"
 abbrev pub start_of : Lent → Start
-start_of l = record { blocks = 128; files = 32; sessions = 4; most = 50; lent = l }
+start_of l = whole.start_of l
 
 -- the turns of this program; 8,192 bytes have room for any line that it prints
 abbrev pub Played : Pass → Memory → Passing → Type 0
 Played p m after = program.Played 8192 class_words p m after
 
 -- the memory is as large as EveryRun asks
-pub record Ready (m : Memory) : Type 0 where
-  pub legal : legal (start_of m.lent) ≡ true
-  pub room : HasRoom 8192 m
+abbrev pub Ready : Memory → Type 0
+Ready m = whole.Ready 8192 m
 
 -- turns from the server just made
 abbrev pub PlayedAll : Memory → Passing → Type 0
-PlayedAll m after =
-    Played (new_of (made (start_of m.lent)).server) (memory (made (start_of m.lent)).lent m.input m.bytes m.text) after
+PlayedAll m after = whole.PlayedAll 8192 class_words m after
 
 -- the same in memory that the program has to itself: where it stands is all that is left of it
-pub record RanInMemory (r : Pass) : Type 0 where
-  pub memory : Memory
-  pub ready : Ready memory
-  pub after : Passing
-  pub played : PlayedAll memory after
-  pub pass : after.pass ≡ r
+abbrev pub RanInMemory : Pass → Type 0
+RanInMemory r = whole.RanInMemory 8192 class_words r
 
 -- THE PROGRAM: what its own run writes is the sheet of the class script that it read. `run` (src/main.rt) has the contract `PlayedAll`,
 -- `run_in_memory` the contract `RanInMemory`.
 abbrev pub ProgramPrints : Type 0
-ProgramPrints =
-    (m : Memory) → Ready m → (after : Passing) (p : PlayedAll m after) → length p.read < 2 ^ 63
-    → PrintsBy (class_sheet_of (start_of m.lent)) p.read p.wrote after
+ProgramPrints = whole.OwnRunOf 8192 class_words class_sheet_of

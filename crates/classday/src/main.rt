@@ -13,7 +13,7 @@ ghost use Rattle.classday.specs.Whole.{Ready, Played, PlayedAll, RanInMemory};
 use pass::Pass;
 use std::io::{Stdin, Stdout};
 
-// Turns of the program, until it is over. Nothing says that the input ends, so they are counted down from a number that no run uses up.
+// Turns of the program, until it is over. Nothing says that the input ends, so they are counted up to a number that no run reaches.
 fn play(
     stdin: Stdin,
     stdout: Stdout,
@@ -37,12 +37,13 @@ fn play(
         input.new bytes.new text.new)) }
 {
     let mut pass = start;
-    let mut turns = u64::MAX;
-    while 0 < turns {
+    for _turn in 0..u64::MAX {
         pass = turn::turn(
             stdin, stdout, pass, disk, map, owner, table, selected, held, input, bytes, text,
         );
-        turns = pass::turns_left(pass, turns);
+        if pass::is_over(pass) {
+            return pass;
+        }
     }
     pass
 }

@@ -1,5 +1,5 @@
-// A turn of the program: a step of the line that is being run, the next line, the last lines, more input, or output written. All but the reading, the
-// writing and the words that passday does not know is done by the crate pass.
+// A turn of the program: a step of the line that is being run, the next line, the last lines, more input, or output written. All but the words that
+// passday does not know is done by the crate pass.
 ghost use Rattle.std.specs.Prelude.{◌≡◌, ℕ, ◌+◌, List};
 ghost use Rattle.std.proofs.Math.Option.{none};
 ghost use Rattle.server.specs.State.{lent};
@@ -9,12 +9,10 @@ ghost use Rattle.lines.specs.Commands.{read_of};
 ghost use Rattle.replies.specs.Reply.{replies, replied};
 ghost use Rattle.script.specs.Sheet.{Counted};
 ghost use Rattle.pass.specs.Pass.{memory, passing, said_of, begun_of, Turned};
-ghost use Rattle.pass.specs.Narrow.{Flushed, Filled};
 ghost use Rattle.classday.specs.Sheet.{class_words, reply_behind, prints_at};
 
 use input::parts::least;
 use pass::{Next, Pass};
-use replies::Reply;
 use server::Server;
 use std::io::{Stdin, Stdout};
 use std::num::wrapping_add_usize;
@@ -30,7 +28,7 @@ fn reply(
     table: &[u32],
     line: &[u8],
     text: &mut [u8],
-) -> Reply
+) -> Option<usize>
     ensures { replies result text.new ≡ replied
         (prints_at server disk.now owner.now table.now line.now) text.old }
 {
@@ -58,7 +56,7 @@ fn reply_behind(
     to: usize,
     text: &mut [u8],
     at: usize,
-) -> Reply
+) -> Option<usize>
     ensures { replies result text.new ≡ reply_behind at
         (prints_at server disk.now owner.now table.now (bytes_from from to input.now)) text.old }
 {
@@ -97,10 +95,8 @@ fn answer_line(
         → class_words pass.day (lent disk.now map.now owner.now table.now selected held)
         (bytes_from pass.from to input.now) ≡ none → Counted map.now owner.now }
 {
-    let day = pass.day;
-    let server = day.server;
-    let said = reply_behind(
-        server,
+    match reply_behind(
+        pass.day.server,
         disk,
         owner,
         table,
@@ -109,10 +105,9 @@ fn answer_line(
         to,
         text,
         pass.filled,
-    );
-    match said {
-        Reply::Unreadable => pass::put_error(pass, map, owner, text),
-        Reply::Line(size) => pass::said(pass, day, to, text.len(), size),
+    ) {
+        None => pass::put_error(pass, map, owner, text),
+        Some(size) => pass::said(pass, pass.day, to, text.len(), size),
     }
 }
 
@@ -146,36 +141,10 @@ fn begin_line(
     answer_line(pass, to, disk, map, owner, table, input, text)
 }
 
-// Writes the first n bytes of the text, and says whether all were written.
-fn write_front(mut stdout: Stdout, text: &[u8], n: usize) -> bool {
-    let size = least(n, text.len());
-    streams::write_all(&mut stdout, &text[..size])
-}
-
-// Writes out what waits (`waiting_text`).
-fn flush(stdout: Stdout, pass: Pass, text: &[u8]) -> Pass
-    ensures { Flushed pass result }
-{
-    if write_front(stdout, text, pass.filled) {
-        return pass::written(pass);
-    }
-    pass::broken(pass)
-}
-
-// Moves the part of a line to the front of the input and reads more behind it.
-fn fill(mut stdin: Stdin, pass: Pass, input: &mut [u8]) -> Pass
-    ensures { Filled pass input.old result input.new }
-{
-    let left = input::shift(input, pass.from, pass.end);
-    let kept = least(left, input.len());
-    let n = streams::read(&mut stdin, &mut input[kept..]);
-    pass::refilled(pass, kept, n)
-}
-
 // One turn.
 pub(crate) fn turn(
-    stdin: Stdin,
-    stdout: Stdout,
+    mut stdin: Stdin,
+    mut stdout: Stdout,
     pass: Pass,
     disk: &mut [u8],
     map: &mut [u64],
@@ -195,12 +164,10 @@ pub(crate) fn turn(
         input.new bytes.new text.new)) }
 {
     let size = text.len();
-    let next = pass::decide(pass, ROOM, &*input, size);
-    match next {
+    match pass::decide(pass, ROOM, &*input, size) {
         Next::Step => {
-            let day = pass.day;
             let s = script::step(
-                day,
+                pass.day,
                 disk,
                 map,
                 owner,
@@ -216,8 +183,8 @@ pub(crate) fn turn(
         Next::Line(n) => begin_line(
             pass, n, &*disk, &*map, &*owner, &*table, &*input, bytes, text,
         ),
-        Next::Flush => flush(stdout, pass, &*text),
-        Next::Fill => fill(stdin, pass, input),
+        Next::Flush => pass::flush(&mut stdout, pass, &*text),
+        Next::Fill => pass::fill(&mut stdin, pass, input),
         Next::Last => pass::put_last(pass, &*map, &*owner, text),
         Next::Error => pass::put_error(pass, &*map, &*owner, text),
     }

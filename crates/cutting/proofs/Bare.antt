@@ -14,14 +14,13 @@ use Rattle.packet.specs.Frame.{Held, Event, none_held, byte}
 use Rattle.session.specs.declared.state.Session.{Session}
 use Rattle.session.specs.declared.reply.Reply.TheVariants as reply
 use Rattle.session.specs.State.{closed_session, fresh_session, with_held, with_selection}
-use Rattle.table.specs.declared.Given.{Given}
-use Rattle.table.specs.declared.Given.TheVariants.{UsedUp, Next}
+use Rattle.std.proofs.Common.{Option, Some, None}
 use Rattle.table.specs.Given.{next_number, upload_time}
 use Rattle.files.specs.declared.Begun.{Begun}
 use Rattle.files.specs.declared.Begun.TheVariants.{Refused, Started}
 use Rattle.files.specs.Uploads as filesUp
 use Rattle.files.specs.Completion.{check_of, complete_of, destinations_at}
-use Rattle.files.specs.Selection.{Selects, select_of}
+use Rattle.files.specs.Selection.{count_in, refusal_in, Selects, select_of}
 use Rattle.carry.specs.declared.turn.Last.{Last}
 use Rattle.carry.specs.declared.turn.Turn.{Turn}
 use Rattle.carry.specs.Turn.{turn_of, Mem, writes, chooses}
@@ -65,10 +64,10 @@ module _ (s : Session) (last : Last) (e : s.held ≡ 0) where
   begun_zero (Refused n) number = e
   begun_zero (Started place) number = e
 
-  begin_zero : (g : Given) (size : ℕ) (map owner table : List ℕ) → Zero (upload.begin_with g s last size map owner table).turn
+  begin_zero : (g : Option ℕ) (size : ℕ) (map owner table : List ℕ) → Zero (upload.begin_with g s last size map owner table).turn
   unfolding upload.begin_with upload.begun_as
-  begin_zero UsedUp size map owner table = e
-  begin_zero (Next number) size map owner table = begun_zero (filesUp.begin_of map owner table last.number size).answer number
+  begin_zero None size map owner table = e
+  begin_zero (Some number) size map owner table = begun_zero (filesUp.begin_of map owner table last.number size).answer number
 
   stored_zero : (refused place offset received : ℕ) → Zero (upload.stored_as refused s last place offset received)
   unfolding upload.stored_as
@@ -89,11 +88,11 @@ module _ (s : Session) (last : Last) (e : s.held ≡ 0) where
       go true = e
       go false = stored_zero w.answer place offset (upload.grown received size)
 
-  timed_zero : (g : Given) (place : ℕ) (disk map owner table : List ℕ)
+  timed_zero : (g : Option ℕ) (place : ℕ) (disk map owner table : List ℕ)
       → Zero (upload.finish_as (upload.timed g) s last place disk map owner table).turn
   unfolding upload.timed upload.finish_as upload.with_disk upload.discard_turn upload.with_blocks upload.accept_turn upload.accepted_as
-  timed_zero UsedUp place disk map owner table = e
-  timed_zero (Next time) place disk map owner table = either (eqb (complete_of disk owner table place time).answer 0) _ _ e e
+  timed_zero None place disk map owner table = e
+  timed_zero (Some time) place disk map owner table = either (eqb (complete_of disk owner table place time).answer 0) _ _ e e
 
   finish_zero : (place clock : ℕ) (disk map owner table : List ℕ) → Zero (upload.finish_turn s last place clock disk map owner table).turn
   unfolding upload.judged_at upload.finish_as upload.with_disk upload.discard_turn
@@ -107,7 +106,7 @@ module _ (s : Session) (last : Last) (e : s.held ≡ 0) where
       → Zero (download.select_turn s last most size info disk owner table selected).turn
   unfolding download.select_turn download.selected_as
   select_zero most size info disk owner table selected =
-      go (ltb (length info) size) (eqb (select_of (take size info) disk owner table selected most).answer.refused 0)
+      go (ltb (length info) size) (eqb (refusal_in (select_of (take size info) disk owner table selected most).answer) 0)
     where
       r : Selects
       r = select_of (take size info) disk owner table selected most
@@ -115,8 +114,8 @@ module _ (s : Session) (last : Last) (e : s.held ≡ 0) where
       go : (b d : Bool)
           → Zero
           (cond b (chooses (turn_of s last reply.Nothing) selected)
-          (cond d (chooses (turn_of (with_selection s r.answer.count) last (reply.Selected r.answer.count)) r.selected)
-          (chooses (turn_of s last (reply.DownloadError r.answer.refused)) r.selected))).turn
+          (cond d (chooses (turn_of (with_selection s (count_in r.answer)) last (reply.Selected (count_in r.answer))) r.selected)
+          (chooses (turn_of s last (reply.DownloadError (refusal_in r.answer))) r.selected))).turn
       go true d = e
       go false true = e
       go false false = e

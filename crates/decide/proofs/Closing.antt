@@ -17,8 +17,7 @@ use Rattle.session.specs.declared.state.Downlink.TheVariants as down
 use Rattle.session.specs.declared.reply.Reply.TheVariants.{DownloadError}
 use Rattle.session.specs.Expected.{takes_data, takes_upload, takes_command, takes_ack, takes_nak, expected_up, expected_down, expected}
 use Rattle.table.specs.declared.File.{File}
-use Rattle.table.specs.declared.Found.{Found}
-use Rattle.table.specs.declared.Found.TheVariants.{Nothing, At}
+use Rattle.std.proofs.Common.{Option, Some, None}
 use Rattle.table.specs.Table.{file_at, find_of}
 use Rattle.decide.specs.Words.{word_at}
 use Rattle.decide.specs.Uplink.{uploading, on_continued, on_upload, on_data, on_end, on_uplink}
@@ -92,10 +91,10 @@ end_stays up.Idle e = absurd (clash e)
 end_stays (up.Receiving place offset received) e = refl
 end_stays up.Ignoring e = refl
 
-continued_stays : (f : Found) (number size : ℕ) (links : List Session) (fs : List File) → closes (on_continued f number size links fs) ≡ false
+continued_stays : (f : Option ℕ) (number size : ℕ) (links : List Session) (fs : List File) → closes (on_continued f number size links fs) ≡ false
 unfolding on_continued
-continued_stays Nothing number size links fs = refl
-continued_stays (At place) number size links fs =
+continued_stays None number size links fs = refl
+continued_stays (Some place) number size links fs =
     either (eqb (file_at fs place).time 0) _ _
     (either (eqb (file_at fs place).size size) _ _ (either (uploading links place) _ _ refl refl) refl)
     refl
@@ -123,10 +122,10 @@ uplink_stays u links kind size info fs e = by-type (eqb kind 0) (eqb kind 1) (eq
 
 -- ---- the downlink
 
-found_stays : (f : Found) (offset lock passed : ℕ) (fs : List File) → closes (on_found f offset lock passed fs) ≡ false
+found_stays : (f : Option ℕ) (offset lock passed : ℕ) (fs : List File) → closes (on_found f offset lock passed fs) ≡ false
 unfolding on_found
-found_stays Nothing offset lock passed fs = refl
-found_stays (At place) offset lock passed fs =
+found_stays None offset lock passed fs = refl
+found_stays (Some place) offset lock passed fs =
     either (eqb (file_at fs place).time 0) _ _ refl (either (ltb (file_at fs place).size offset) _ _ refl refl)
 
 numbered_stays : (number offset lock count next : ℕ) (fs : List File) (selected : List ℕ)
@@ -143,10 +142,10 @@ unfolding on_download
 download_stays count next size info fs selected =
     either (eqb size 9) _ _ (numbered_stays (word_at info 0) (word_at info 4) (get_or info 8 0) count next fs selected) refl
 
-list_found_stays : (f : Found) (long : Bool) (next : ℕ) (fs : List File) → closes (list_found f long next fs) ≡ false
+list_found_stays : (f : Option ℕ) (long : Bool) (next : ℕ) (fs : List File) → closes (list_found f long next fs) ≡ false
 unfolding list_found
-list_found_stays Nothing long next fs = refl
-list_found_stays (At place) long next fs = either (eqb (file_at fs place).time 0) _ _ refl refl
+list_found_stays None long next fs = refl
+list_found_stays (Some place) long next fs = either (eqb (file_at fs place).time 0) _ _ refl refl
 
 directory_stays : (long : Bool) (count next size : ℕ) (info : List ℕ) (fs : List File) → closes (on_directory long count next size info fs) ≡ false
 unfolding on_directory list_numbered

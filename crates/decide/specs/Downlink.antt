@@ -1,12 +1,10 @@
 -- What a packet of the downlink asks for (document 01, "Downlink", "Refusals by number"). Assumes nothing.
-use Rattle.std.specs.Prelude.{Bool, true, false, cond, List, ℕ, ◌+◌, ◌-◌, eqb, ltb, get_or}
+use Rattle.std.specs.Prelude.{Bool, true, false, cond, List, ℕ, ◌+◌, ◌-◌, eqb, ltb, get_or, Option, Some, None}
 use Rattle.session.specs.declared.state.Downlink.{Downlink}
 use Rattle.session.specs.declared.state.Downlink.TheVariants as down
 use Rattle.session.specs.declared.state.Listed.TheVariants as listed
 use Rattle.session.specs.declared.reply.Reply.TheVariants.{DataEnd, DownloadError, Aborted}
 use Rattle.table.specs.declared.File.{File}
-use Rattle.table.specs.declared.Found.{Found}
-use Rattle.table.specs.declared.Found.TheVariants.{Nothing, At}
 use Rattle.table.specs.Table.{file_at, find_of, find_number}
 use Rattle.decide.specs.Words.{word_at}
 use Rattle.decide.specs.declared.act.Act.{Act}
@@ -14,9 +12,9 @@ use Rattle.decide.specs.declared.act.Act.TheVariants as act
 
 -- "DOWNLOAD: 1, then 5 or 4, 11, 2, 10": 4 "no such file"; 11 "download of a partial file"; 2 "download offset beyond the file's length"; 10 is
 -- found when the download begins. `passed` selected files lie behind an accepted command.
-unfoldable pub on_found : Found → ℕ → ℕ → ℕ → List File → Act
-on_found Nothing offset lock passed fs = act.Tell (DownloadError (find_number Nothing))
-on_found (At place) offset lock passed fs =
+unfoldable pub on_found : Option ℕ → ℕ → ℕ → ℕ → List File → Act
+on_found None offset lock passed fs = act.Tell (DownloadError (find_number None))
+on_found (Some place) offset lock passed fs =
     cond (eqb (file_at fs place).time 0) (act.Tell (DownloadError 11))
     (cond (ltb (file_at fs place).size offset) (act.Tell (DownloadError 2))
     (act.Send place offset lock passed))
@@ -40,9 +38,9 @@ unfoldable pub ten_from : ℕ → ℕ → ℕ
 ten_from next count = cond (ltb (count - next) 10) count (next + 10)
 
 -- "for one file": the place in the selection stays
-unfoldable pub list_found : Found → Bool → ℕ → List File → Act
-list_found Nothing long next fs = act.Tell (DownloadError (find_number Nothing))
-list_found (At place) long next fs =
+unfoldable pub list_found : Option ℕ → Bool → ℕ → List File → Act
+list_found None long next fs = act.Tell (DownloadError (find_number None))
+list_found (Some place) long next fs =
     cond (eqb (file_at fs place).time 0) (act.Tell (DownloadError 11)) (act.List (listed.One place) long next)
 
 -- "An accepted directory of number 0 moves the same place in the selection that downloads move, past every file it sends."

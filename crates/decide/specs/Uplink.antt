@@ -1,13 +1,11 @@
 -- What a packet of the uplink asks for (document 01, "Uplink", "Refusals by number"). Assumes nothing.
-use Rattle.std.specs.Prelude.{Bool, true, false, cond, List, ℕ, ◌+◌, eqb, ltb, get_or}
+use Rattle.std.specs.Prelude.{Bool, true, false, cond, List, ℕ, ◌+◌, eqb, ltb, get_or, Option, Some, None}
 use Rattle.session.specs.declared.state.Session.{Session}
 use Rattle.session.specs.declared.state.Uplink.{Uplink}
 use Rattle.session.specs.declared.state.Uplink.TheVariants as up
 use Rattle.session.specs.declared.reply.Reply.TheVariants.{UploadError}
 use Rattle.session.specs.State.{closed_session}
 use Rattle.table.specs.declared.File.{File}
-use Rattle.table.specs.declared.Found.{Found}
-use Rattle.table.specs.declared.Found.TheVariants.{Nothing, At}
 use Rattle.table.specs.Table.{file_at, find_of, find_number}
 use Rattle.decide.specs.Words.{word_at}
 use Rattle.decide.specs.declared.act.Act.{Act}
@@ -33,9 +31,9 @@ uploading links place =
 
 -- "UPLOAD continued: 1, 4, 12, 2": 4 "no such file"; 12 "continuing a complete file"; 2 "continued length differs from the first, or
 -- another session is uploading it (H)"
-unfoldable pub on_continued : Found → ℕ → ℕ → List Session → List File → Act
-on_continued Nothing number size links fs = act.Tell (UploadError (find_number Nothing))
-on_continued (At place) number size links fs =
+unfoldable pub on_continued : Option ℕ → ℕ → ℕ → List Session → List File → Act
+on_continued None number size links fs = act.Tell (UploadError (find_number None))
+on_continued (Some place) number size links fs =
     cond (eqb (file_at fs place).time 0)
     (cond (eqb (file_at fs place).size size)
     (cond (uploading links place) (act.Tell (UploadError 2))

@@ -7,38 +7,34 @@ use crate::act::Act;
 use crate::uplink::word;
 use session::reply::Reply;
 use session::state::{Downlink, Listed};
-use table::Found;
 
 // DOWNLOAD_CMD for a file that is looked for.
-fn on_found(found: Found, offset: u32, lock: u8, passed: usize, table: &[u32]) -> Act
+#[tactic(auto, unfolding(crate::specs::Downlink::on_found))]
+fn on_found(found: Option<usize>, offset: u32, lock: u8, passed: usize, table: &[u32]) -> Act
     ensures { result ≡ on_found found offset lock passed (files table.now) }
 {
-    match found {
-        Found::Nothing => Act::Tell(Reply::DownloadError(4)),
-        Found::At(place) => {
-            let f = table::get(table, place);
-            if f.time == 0 {
-                return Act::Tell(Reply::DownloadError(11));
-            }
-            if f.size < offset {
-                return Act::Tell(Reply::DownloadError(2));
-            }
-            Act::Send(place, offset, lock, passed)
-        }
+    let Some(place) = found else {
+        return Act::Tell(Reply::DownloadError(4));
+    };
+    let f = table::get(table, place);
+    if f.time == 0 {
+        return Act::Tell(Reply::DownloadError(11));
     }
+    if f.size < offset {
+        return Act::Tell(Reply::DownloadError(2));
+    }
+    Act::Send(place, offset, lock, passed)
 }
 
 // The selected number at a place, 0 past the last.
 fn selected_at(selected: &[u32], next: usize) -> u32
     ensures { result ≡ get_or selected.now next 0 }
 {
-    if next < selected.len() {
-        return selected[next];
-    }
-    0
+    selected.get(next).copied().unwrap_or(0)
 }
 
 // DOWNLOAD_CMD by its number.
+#[tactic(auto, unfolding(crate::specs::Downlink::on_numbered))]
 fn on_numbered(
     number: u32,
     offset: u32,
@@ -50,18 +46,19 @@ fn on_numbered(
 ) -> Act
     ensures { result ≡ on_numbered number offset lock count next (files table.now) selected.now }
 {
-    if number == 0 {
-        if next < count {
-            let found = table::find(table, selected_at(selected, next));
-            return on_found(found, offset, lock, next + 1, table);
-        }
+    if number != 0 {
+        let found = table::find(table, number);
+        return on_found(found, offset, lock, next, table);
+    }
+    if count <= next {
         return Act::Tell(Reply::DownloadError(5));
     }
-    let found = table::find(table, number);
-    on_found(found, offset, lock, next, table)
+    let found = table::find(table, selected_at(selected, next));
+    on_found(found, offset, lock, next + 1, table)
 }
 
 // DOWNLOAD_CMD.
+#[tactic(auto, unfolding(crate::specs::Downlink::on_download))]
 fn on_download(
     count: usize,
     next: usize,
@@ -82,47 +79,44 @@ fn on_download(
 }
 
 // How many selected files lie behind a directory of the next ones: ten more, or all.
+#[tactic(auto, unfolding(crate::specs::Downlink::ten_from))]
 fn ten_from(next: usize, count: usize) -> usize
     requires { next ≤ count }
     ensures { result ≡ ten_from next count }
 {
-    if count - next < 10 {
-        return count;
-    }
-    next + 10
+    next + (count - next).min(10)
 }
 
 // A directory of one file that is looked for.
-fn list_found(found: Found, long: bool, next: usize, table: &[u32]) -> Act
+#[tactic(auto, unfolding(crate::specs::Downlink::list_found))]
+fn list_found(found: Option<usize>, long: bool, next: usize, table: &[u32]) -> Act
     ensures { result ≡ list_found found long next (files table.now) }
 {
-    match found {
-        Found::Nothing => Act::Tell(Reply::DownloadError(4)),
-        Found::At(place) => {
-            let f = table::get(table, place);
-            if f.time == 0 {
-                return Act::Tell(Reply::DownloadError(11));
-            }
-            Act::List(Listed::One(place), long, next)
-        }
+    let Some(place) = found else {
+        return Act::Tell(Reply::DownloadError(4));
+    };
+    if table::get(table, place).time == 0 {
+        return Act::Tell(Reply::DownloadError(11));
     }
+    Act::List(Listed::One(place), long, next)
 }
 
 // A directory by its number.
+#[tactic(auto, unfolding(crate::specs::Downlink::list_numbered))]
 fn list_numbered(number: u32, long: bool, count: usize, next: usize, table: &[u32]) -> Act
     ensures { result ≡ list_numbered number long count next (files table.now) }
 {
-    if number == 0 {
-        if next < count {
-            return Act::List(Listed::Selected(next), long, ten_from(next, count));
-        }
+    if number != 0 {
+        return list_found(table::find(table, number), long, next, table);
+    }
+    if count <= next {
         return Act::Tell(Reply::DownloadError(5));
     }
-    let found = table::find(table, number);
-    list_found(found, long, next, table)
+    Act::List(Listed::Selected(next), long, ten_from(next, count))
 }
 
 // DIR_SHORT_CMD and DIR_LONG_CMD.
+#[tactic(auto, unfolding(crate::specs::Downlink::on_directory))]
 fn on_directory(
     long: bool,
     count: usize,
@@ -137,60 +131,40 @@ fn on_directory(
     if size != 4 {
         return Act::Tell(Reply::DownloadError(1));
     }
-    let number = word(info, 0);
-    list_numbered(number, long, count, next, table)
+    list_numbered(word(info, 0), long, count, next, table)
 }
 
 // DL_ACK_CMD.
+#[tactic(auto, unfolding(crate::specs::Downlink::on_ack))]
 fn on_ack(down: Downlink, size: usize, destination: u8) -> Act
     ensures { result ≡ on_ack down size destination }
 {
-    match down {
-        Downlink::Idle => Act::Close,
-        Downlink::Sending {
-            place: _,
-            offset: _,
-            sent: _,
-        } => Act::Close,
-        Downlink::Ended { place } => {
-            if size == 1 {
-                return Act::Confirm(place, destination);
-            }
-            Act::End(Reply::Aborted)
-        }
-        Downlink::Aborting { place: _ } => Act::Close,
-        Downlink::Listing {
-            listed: _,
-            long: _,
-            done: _,
-            sent: _,
-        } => Act::Close,
+    let Downlink::Ended { place } = down else {
+        return Act::Close;
+    };
+    if size == 1 {
+        Act::Confirm(place, destination)
+    } else {
+        Act::End(Reply::Aborted)
     }
 }
 
 // DL_NAK_CMD.
+#[tactic(auto, unfolding(crate::specs::Downlink::on_nak))]
 fn on_nak(down: Downlink) -> Act
     ensures { result ≡ on_nak down }
 {
     match down {
         Downlink::Idle => Act::Ignore,
-        Downlink::Sending {
-            place,
-            offset: _,
-            sent: _,
-        } => Act::Abort(place),
-        Downlink::Ended { place: _ } => Act::End(Reply::Aborted),
-        Downlink::Aborting { place: _ } => Act::Close,
-        Downlink::Listing {
-            listed: _,
-            long: _,
-            done: _,
-            sent: _,
-        } => Act::End(Reply::DataEnd),
+        Downlink::Sending { place, .. } => Act::Abort(place),
+        Downlink::Ended { .. } => Act::End(Reply::Aborted),
+        Downlink::Aborting { .. } => Act::Close,
+        Downlink::Listing { .. } => Act::End(Reply::DataEnd),
     }
 }
 
 // An expected packet of the downlink.
+#[tactic(auto, unfolding(crate::specs::Downlink::on_downlink))]
 pub(crate) fn on_downlink(
     down: Downlink,
     count: usize,
@@ -204,20 +178,11 @@ pub(crate) fn on_downlink(
     requires { length info.now ≡ 256 }
     ensures { result ≡ on_downlink down count next kind size info.now (files table.now) selected.now }
 {
-    if kind == 8 {
-        return on_download(count, next, size, info, table, selected);
+    match kind {
+        8 => on_download(count, next, size, info, table, selected),
+        12 => on_ack(down, size, info[0]),
+        13 => on_nak(down),
+        16 => Act::Select,
+        _ => on_directory(kind == 15, count, next, size, info, table),
     }
-    if kind == 12 {
-        return on_ack(down, size, info[0]);
-    }
-    if kind == 13 {
-        return on_nak(down);
-    }
-    if kind == 16 {
-        return Act::Select;
-    }
-    if kind == 15 {
-        return on_directory(true, count, next, size, info, table);
-    }
-    on_directory(false, count, next, size, info, table)
 }

@@ -15,6 +15,7 @@ use packet::frame::Frame;
 use session::state::Session;
 
 // A whole packet. Closing comes before the numbers 1 to 16.
+#[tactic(auto, unfolding(crate::specs::Decide::on_packet))]
 fn on_packet(
     s: Session,
     links: [Session; 4],
@@ -27,18 +28,18 @@ fn on_packet(
     requires { length info.now ≡ 256 }
     ensures { result ≡ on_packet s links kind size info.now (files table.now) selected.now }
 {
-    if session::state::expects(s, kind, size) {
-        if kind < 8 {
-            let up = s.up;
-            return uplink::on_uplink(up, links, kind, size, info, table);
-        }
-        let down = s.down;
-        return downlink::on_downlink(down, s.count, s.next, kind, size, info, table, selected);
+    if !session::state::expects(s, kind, size) {
+        return Act::Close;
     }
-    Act::Close
+    if kind < 8 {
+        uplink::on_uplink(s.up, links, kind, size, info, table)
+    } else {
+        downlink::on_downlink(s.down, s.count, s.next, kind, size, info, table, selected)
+    }
 }
 
 // What the bytes of a link came to asks for. The information is 256 bytes, padded with zeros; a shorter one asks for nothing.
+#[tactic(auto, unfolding(crate::specs::Decide::decide_of, crate::specs::Decide::on_frame))]
 pub fn decide(
     s: Session,
     links: [Session; 4],
@@ -53,9 +54,8 @@ pub fn decide(
         return Act::Ignore;
     }
     match frame {
-        Frame::Open => Act::Ignore,
+        Frame::Open | Frame::Refused(_) => Act::Ignore,
         Frame::TooLong => Act::Close,
         Frame::Whole(kind, size) => on_packet(s, links, kind, size, info, table, selected),
-        Frame::Refused(_) => Act::Ignore,
     }
 }

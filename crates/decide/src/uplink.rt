@@ -8,7 +8,6 @@ use crate::act::Act;
 use numbers::number32;
 use session::reply::Reply;
 use session::state::{Session, Uplink};
-use table::Found;
 
 // The four bytes from a place on, as a number.
 pub(crate) fn word(info: &[u8], at: usize) -> u32
@@ -19,70 +18,56 @@ pub(crate) fn word(info: &[u8], at: usize) -> u32
 }
 
 // An uplink in this state is receiving the file at a place.
+#[tactic(auto, unfolding(crate::specs::Uplink::uploads_in))]
 fn receives_in(up: Uplink, place: usize) -> bool
     ensures { result ≡ uploads_in up place }
 {
-    match up {
-        Uplink::Idle => false,
-        Uplink::Receiving {
-            place: p,
-            offset: _,
-            received: _,
-        } => p == place,
-        Uplink::Ignoring => false,
-    }
+    matches!(up, Uplink::Receiving { place: p, .. } if p == place)
 }
 
 // The session is uploading the file at a place; one whose link is not there uploads nothing.
+#[tactic(auto, unfolding(crate::specs::Uplink::uploads))]
 fn receives(s: Session, place: usize) -> bool
     ensures { result ≡ uploads s place }
 {
-    if s.linked {
-        let up = s.up;
-        return receives_in(up, place);
-    }
-    false
+    s.linked && receives_in(s.up, place)
 }
 
 // One of the sessions is uploading the file at a place.
+#[tactic(auto, unfolding(crate::specs::Uplink::uploading))]
 fn in_use(links: [Session; 4], place: usize) -> bool
     ensures { result ≡ uploading links place }
 {
-    if receives(links[0], place) {
-        return true;
-    }
-    if receives(links[1], place) {
-        return true;
-    }
-    if receives(links[2], place) {
-        return true;
-    }
-    receives(links[3], place)
+    let [a, b, c, d] = links;
+    receives(a, place) || receives(b, place) || receives(c, place) || receives(d, place)
 }
 
 // UPLOAD_CMD for a file that is to be continued.
-fn on_continued(found: Found, number: u32, size: u32, links: [Session; 4], table: &[u32]) -> Act
+#[tactic(auto, unfolding(crate::specs::Uplink::on_continued))]
+fn on_continued(
+    found: Option<usize>,
+    number: u32,
+    size: u32,
+    links: [Session; 4],
+    table: &[u32],
+) -> Act
     ensures { result ≡ on_continued found number size links (files table.now) }
 {
-    match found {
-        Found::Nothing => Act::Tell(Reply::UploadError(4)),
-        Found::At(place) => {
-            let f = table::get(table, place);
-            if f.time != 0 {
-                return Act::Tell(Reply::UploadError(12));
-            }
-            if f.size == size {
-                if in_use(links, place) {
-                    return Act::Tell(Reply::UploadError(2));
-                }
-                return Act::Resume(place, number, f.received);
-            }
-            Act::Tell(Reply::UploadError(2))
-        }
+    let Some(place) = found else {
+        return Act::Tell(Reply::UploadError(4));
+    };
+    let f = table::get(table, place);
+    if f.time != 0 {
+        return Act::Tell(Reply::UploadError(12));
     }
+    if f.size != size || in_use(links, place) {
+        return Act::Tell(Reply::UploadError(2));
+    }
+    Act::Resume(place, number, f.received)
 }
 
 // UPLOAD_CMD.
+#[tactic(auto, unfolding(crate::specs::Uplink::on_upload))]
 fn on_upload(links: [Session; 4], size: usize, info: &[u8], table: &[u32]) -> Act
     requires { length info.now ≡ 256 }
     ensures { result ≡ on_upload links size info.now (files table.now) }
@@ -100,6 +85,7 @@ fn on_upload(links: [Session; 4], size: usize, info: &[u8], table: &[u32]) -> Ac
 }
 
 // DATA.
+#[tactic(auto, unfolding(crate::specs::Uplink::on_data))]
 fn on_data(up: Uplink, size: usize, table: &[u32]) -> Act
     ensures { result ≡ on_data up size (files table.now) }
 {
@@ -111,10 +97,7 @@ fn on_data(up: Uplink, size: usize, table: &[u32]) -> Act
             received,
         } => {
             let f = table::get(table, place);
-            if f.size < f.received {
-                return Act::Overrun(place);
-            }
-            if ((f.size - f.received) as usize) < size {
+            if f.size < f.received || ((f.size - f.received) as usize) < size {
                 return Act::Overrun(place);
             }
             Act::Store(place, offset, received)
@@ -124,21 +107,19 @@ fn on_data(up: Uplink, size: usize, table: &[u32]) -> Act
 }
 
 // DATA_END.
+#[tactic(auto, unfolding(crate::specs::Uplink::on_end))]
 fn on_end(up: Uplink) -> Act
     ensures { result ≡ on_end up }
 {
     match up {
         Uplink::Idle => Act::Close,
-        Uplink::Receiving {
-            place,
-            offset: _,
-            received: _,
-        } => Act::Finish(place),
+        Uplink::Receiving { place, .. } => Act::Finish(place),
         Uplink::Ignoring => Act::Stop,
     }
 }
 
 // An expected packet of the uplink.
+#[tactic(auto, unfolding(crate::specs::Uplink::on_uplink))]
 pub(crate) fn on_uplink(
     up: Uplink,
     links: [Session; 4],
@@ -150,11 +131,9 @@ pub(crate) fn on_uplink(
     requires { length info.now ≡ 256 }
     ensures { result ≡ on_uplink up links kind size info.now (files table.now) }
 {
-    if kind == 0 {
-        return on_data(up, size, table);
+    match kind {
+        0 => on_data(up, size, table),
+        1 => on_end(up),
+        _ => on_upload(links, size, info, table),
     }
-    if kind == 1 {
-        return on_end(up);
-    }
-    on_upload(links, size, info, table)
 }

@@ -8,13 +8,12 @@ use lib.ListN.{length, get_or, take, drop, length-map, length-take, length-drop,
 use lib.Seq.{get_or-take, get_or-drop}
 use Rattle.session.specs.declared.state.Listed.TheVariants as listed
 use Rattle.table.specs.declared.File.{File}
-use Rattle.table.specs.declared.Found.{Found}
-use Rattle.table.specs.declared.Found.TheVariants.{Nothing}
+use Rattle.std.proofs.Common.{Option, None}
 use Rattle.table.specs.Table.{find_of}
 use Rattle.directory.specs.Directory.{found_in}
 
 -- a directory of one file has no second one
-pub none_past_one : (f : Found) (k : ℕ) → k ≢ 0 → Nothing ≡ get_or (f ∷ []) k Nothing
+pub none_past_one : (f : Option ℕ) (k : ℕ) → k ≢ 0 → None ≡ get_or (f ∷ []) k None
 none_past_one f zero h = absurd (h refl)
 none_past_one f (suc k) h = refl
 
@@ -31,13 +30,13 @@ module _ (first next : ℕ) (fs : List File) (selected : List ℕ) where
   unfolding found_in part
   found_count = rw length-map part_length
 
-  found_part : (k : ℕ) → get_or (found_in (listed.Selected first) next fs selected) k Nothing ≡ find_of fs (get_or part k 0)
+  found_part : (k : ℕ) → get_or (found_in (listed.Selected first) next fs selected) k None ≡ find_of fs (get_or part k 0)
   unfolding found_in part
   found_part k = get_or-map (find_of fs) (take (next - first) (drop first selected)) k 0
 
   pub found_within : (k : ℕ)
       → k < min next (length selected) - first
-      → get_or (found_in (listed.Selected first) next fs selected) k Nothing ≡ find_of fs (get_or selected (first + k) 0)
+      → get_or (found_in (listed.Selected first) next fs selected) k None ≡ find_of fs (get_or selected (first + k) 0)
   unfolding part
   found_within k h =
       let inside : k < next - first = omega arith in
@@ -45,5 +44,5 @@ module _ (first next : ℕ) (fs : List File) (selected : List ℕ) where
 
   pub found_past : (k : ℕ)
       → min next (length selected) - first ≤ k
-      → get_or (found_in (listed.Selected first) next fs selected) k Nothing ≡ Nothing
+      → get_or (found_in (listed.Selected first) next fs selected) k None ≡ None
   found_past k h = found_part k ∙ ap (find_of fs) (get_or-eq_default part 0 (rw part_length h))

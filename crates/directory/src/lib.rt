@@ -2,13 +2,11 @@
 // Both functions take any numbers and slices of any length.
 #![tactic(auto)]
 
-ghost use Rattle.std.specs.Prelude.{◌≡◌, ◌-◌, min, length, get_or};
-ghost use Rattle.table.specs.declared.Found.TheVariants.{Nothing};
+ghost use Rattle.std.specs.Prelude.{◌≡◌, ◌-◌, min, length, get_or, None};
 ghost use Rattle.table.specs.Table.{files};
 ghost use Rattle.directory.specs.Directory.{found_in};
 
 use session::state::Listed;
-use table::Found;
 
 // How many selected numbers from one on lie before the session's place in the selection.
 fn selected_count(first: usize, next: usize, size: usize) -> usize
@@ -37,21 +35,27 @@ pub fn count(listed: Listed, next: usize, table: &[u32], selected: &[u32]) -> us
 }
 
 // Where its file k is, counted from 0; nowhere past the last one.
-pub fn found_at(listed: Listed, next: usize, k: usize, table: &[u32], selected: &[u32]) -> Found
-    ensures { result ≡ get_or (found_in listed next (files table.now) selected.now) k Nothing }
+pub fn found_at(
+    listed: Listed,
+    next: usize,
+    k: usize,
+    table: &[u32],
+    selected: &[u32],
+) -> Option<usize>
+    ensures { result ≡ get_or (found_in listed next (files table.now) selected.now) k None }
 {
     match listed {
         Listed::One(place) => {
             if k == 0 {
-                return Found::At(place);
+                return Some(place);
             }
-            Found::Nothing
+            None
         }
         Listed::Selected(first) => {
             if k < selected_count(first, next, selected.len()) {
                 return table::find(table, selected[first + k]);
             }
-            Found::Nothing
+            None
         }
     }
 }

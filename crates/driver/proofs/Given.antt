@@ -14,15 +14,14 @@ use Rattle.session.specs.declared.state.Downlink.TheVariants as down
 use Rattle.session.specs.declared.reply.Reply.{Reply}
 use Rattle.session.specs.State.{closed_session, fresh_session}
 use Rattle.table.specs.declared.File.{File}
-use Rattle.table.specs.declared.Given.{Given}
-use Rattle.table.specs.declared.Given.TheVariants.{UsedUp, Next}
+use Rattle.std.proofs.Common.{Option, Some, None}
 use Rattle.table.specs.Table.{file_at}
 use Rattle.table.specs.Given.{next_number, upload_time}
 use Rattle.files.specs.declared.Begun.{Begun}
 use Rattle.files.specs.declared.Begun.TheVariants.{Refused, Started}
 use Rattle.files.specs.Uploads as files
 use Rattle.files.specs.Completion.{check_of, complete_of, destinations_at}
-use Rattle.files.specs.Selection.{select_of}
+use Rattle.files.specs.Selection.{refusal_in, select_of}
 use Rattle.decide.specs.declared.act.Act.{Act}
 use Rattle.decide.specs.declared.act.Act.TheVariants as act
 use Rattle.carry.specs.declared.turn.Last.{Last}
@@ -64,9 +63,9 @@ record Keeps (t : Turn) : Type 0 where
 
 -- ---- what is given
 
-abbrev Below : Given → Type 0
-Below UsedUp = Unit {0}
-Below (Next n) = n < 4294967296
+abbrev Below : Option ℕ → Type 0
+Below None = Unit {0}
+Below (Some n) = n < 4294967296
 
 number_below : (last : ℕ) → last < 4294967296 → Below (next_number last)
 number_below last h = by_test Below (eqb last 4294967295) _ _ (λ e. tt) (λ e. omega (arith, eqb-false last 4294967295 e))
@@ -91,10 +90,10 @@ module _ (s : Session) (last : Last) (fits : LastFits last) (linked : s.linked �
   begun_keeps (Refused n) number h = stays s _ linked
   begun_keeps (Started place) number h = gives _ (last_of number last.time) _ (record { number = h; time = fits.time }) linked
 
-  begin_keeps : (g : Given) → Below g → (size : ℕ) (map owner table : List ℕ) → Keeps (upload.begin_with g s last size map owner table).turn
+  begin_keeps : (g : Option ℕ) → Below g → (size : ℕ) (map owner table : List ℕ) → Keeps (upload.begin_with g s last size map owner table).turn
   unfolding upload.begin_with upload.begun_as
-  begin_keeps UsedUp h size map owner table = stays s _ linked
-  begin_keeps (Next number) h size map owner table = begun_keeps (files.begin_of map owner table last.number size).answer number h
+  begin_keeps None h size map owner table = stays s _ linked
+  begin_keeps (Some number) h size map owner table = begun_keeps (files.begin_of map owner table last.number size).answer number h
 
   store_keeps : (place offset received size : ℕ) (info disk owner table : List ℕ)
       → Keeps (upload.store_turn s last place offset received size info disk owner table).turn
@@ -110,11 +109,11 @@ module _ (s : Session) (last : Last) (fits : LastFits last) (linked : s.linked �
       by_test Keeps (eqb n 0) _ _ (λ e. gives _ (last_of last.number time) _ (record { number = fits.number; time = h }) linked)
       (λ e. stays _ _ linked)
 
-  timed_keeps : (g : Given) → Below g → (place : ℕ) (disk map owner table : List ℕ)
+  timed_keeps : (g : Option ℕ) → Below g → (place : ℕ) (disk map owner table : List ℕ)
       → Keeps (upload.finish_as (upload.timed g) s last place disk map owner table).turn
   unfolding upload.finish_as upload.timed upload.with_disk upload.with_blocks upload.discard_turn upload.accept_turn
-  timed_keeps UsedUp h place disk map owner table = stays _ _ linked
-  timed_keeps (Next time) h place disk map owner table = accepted_keeps (complete_of disk owner table place time).answer time h
+  timed_keeps None h place disk map owner table = stays _ _ linked
+  timed_keeps (Some time) h place disk map owner table = accepted_keeps (complete_of disk owner table place time).answer time h
 
   finish_keeps : (place clock : ℕ) (disk map owner table : List ℕ) → clock < 4294967296
       → Keeps (upload.finish_turn s last place clock disk map owner table).turn
@@ -130,7 +129,7 @@ module _ (s : Session) (last : Last) (fits : LastFits last) (linked : s.linked �
   select_keeps most size info disk owner table selected =
       by_test (λ (x : Chooses). Keeps x.turn) (ltb (length info) size) _ _ (λ e. stays s _ linked)
       (λ e.
-      by_test (λ (x : Chooses). Keeps x.turn) (eqb (select_of (take size info) disk owner table selected most).answer.refused 0) _ _
+      by_test (λ (x : Chooses). Keeps x.turn) (eqb (refusal_in (select_of (take size info) disk owner table selected most).answer) 0) _ _
       (λ d. stays _ _ linked) (λ d. stays s _ linked))
 
   send_keeps : (place offset lock passed : ℕ) (disk owner table : List ℕ)

@@ -1,13 +1,14 @@
 -- Words written one after the other are written as one run.
 use mathlib.Core.Path.{◌≡◌, refl, ap, ◌∙◌}
-use mathlib.Core.Bool.{true, false}
+use mathlib.Core.Bool.{Bool, true, false, cond, ◌&&◌}
 use mathlib.Core.List.{List, [], ◌∷◌, ◌++◌}
 use Prim.Native.Nat.{ℕ, zero, suc, ◌+◌, ◌≤◌, ◌<◌}
 use native.Mathlib.Omega.{arith}
 use mathlib.Core.List.{append-nil}
 use lib.ListN.{length, length-append, get_or, set, take, drop}
 use lib.Seq.{sets, sets-eq}
-use borrow.Author.Tests.{eq-eqb, ne_eqb}
+use lib.Dec.{eqb}
+use lib.Pointwise.{pointwise}
 use Rattle.session.specs.declared.state.Session.{Session}
 use Rattle.session.specs.declared.state.Uplink.{Uplink}
 use Rattle.session.specs.declared.state.Uplink.TheVariants as up
@@ -146,24 +147,14 @@ encode_alone sv l h = rw (drop_all l 54 h) (append-nil (words_of sv))
 
 -- ---- comparing
 
--- one word further, where the words are the same; else they differ
-pub same_step : (xs ys : List ℕ) (i : ℕ) → i < length xs → i < length ys → get_or xs i 0 ≡ get_or ys i 0
-    → same_words (drop (i + 1) xs) (drop (i + 1) ys) ≡ same_words (drop i xs) (drop i ys)
+-- std's comparison of words
+pub words_same : (xs ys : List ℕ) → pointwise eqb xs ys ≡ same_words xs ys
 unfolding same_words
-same_step [] ys i h k e = absurd (omega arith)
-same_step (x ∷ xs) [] i h k e = absurd (omega arith)
-same_step (x ∷ xs) (y ∷ ys) zero h k e = rw (eq-eqb x y e)
-same_step (x ∷ xs) (y ∷ ys) (suc i) h k e =
-    let s : suc i + 1 ≡ suc (i + 1) = omega arith in rw s (same_step xs ys i (omega arith) (omega arith) e)
-
-pub same_stop : (xs ys : List ℕ) (i : ℕ) → i < length xs → i < length ys → (get_or xs i 0 ≡ get_or ys i 0 → ⊥)
-    → same_words (drop i xs) (drop i ys) ≡ false
-unfolding same_words
-same_stop [] ys i h k e = absurd (omega arith)
-same_stop (x ∷ xs) [] i h k e = absurd (omega arith)
-same_stop (x ∷ xs) (y ∷ ys) zero h k e = rw (ne_eqb x y e)
-same_stop (x ∷ xs) (y ∷ ys) (suc i) h k e = same_stop xs ys i (omega arith) (omega arith) e
-
-pub same_end : (xs ys : List ℕ) (i : ℕ) → length xs ≤ i → length ys ≤ i → same_words (drop i xs) (drop i ys) ≡ true
-unfolding same_words
-same_end xs ys i h k = rw (drop_all xs i h, drop_all ys i k)
+words_same [] [] = refl
+words_same [] (y ∷ ys) = refl
+words_same (x ∷ xs) [] = refl
+words_same (x ∷ xs) (y ∷ ys) = go (eqb x y) (words_same xs ys)
+  where
+    go : (b : Bool) → pointwise eqb xs ys ≡ same_words xs ys → (b && pointwise eqb xs ys) ≡ cond b (same_words xs ys) false
+    go true e = e
+    go false e = refl

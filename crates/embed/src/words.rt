@@ -298,22 +298,6 @@ pub(crate) fn server_at(state: &[u64]) -> Server
 
 // ---- which words are a state
 
-fn same(a: &[u64], b: &[u64]) -> bool
-    requires { length a.now ≡ length b.now }
-    ensures { result ≡ same_words a.now b.now }
-{
-    let n = a.len();
-    let mut i = 0;
-    while i < n {
-        if a[i] == b[i] {
-            i += 1;
-        } else {
-            return false;
-        }
-    }
-    true
-}
-
 // The words are those of the server that they are read as.
 fn is_state(state: &[u64]) -> bool
     requires { 54 ≤ length state.now }
@@ -322,8 +306,7 @@ fn is_state(state: &[u64]) -> bool
     let mut words = [0u64; 54];
     let server = server_at(state);
     encode(server, &mut words);
-    let n: usize = 54;
-    same(&state[..n], &words)
+    state[..54] == words[..]
 }
 
 // What is lent fits the sizes in the words, or 33; the words are a state, or 35.

@@ -2,7 +2,8 @@
 use mathlib.Core.Path.{◌≡◌, refl, sym, ap, ap₂, ◌∙◌}
 use mathlib.Core.Bool.{Bool, true, false, cond}
 use mathlib.Core.List.{List, [], ◌∷◌, ◌++◌}
-use Prim.Native.Nat.{ℕ, zero, suc, ◌+◌, ◌-◌, ◌*◌, ◌≤◌}
+use Rattle.std.proofs.Common.{Result, Ok, Err, ◌<◌}
+use Prim.Native.Nat.{ℕ, zero, suc, ◌+◌, ◌-◌, ◌*◌, ◌≤◌, min}
 use native.Mathlib.Omega.{arith}
 use lib.Dec.{ltb, eqb}
 use lib.ListN.{length, take, drop, replicate, length-append, length-take, length-drop, take-append-drop, drop_of_length-le}
@@ -19,7 +20,7 @@ use Rattle.blocks.proofs.Laws.{read_gives, read_refused as read_kept}
 use Rattle.header.specs.Header.{header_length, check_items, place_of, header_of, refused_with}
 use Rattle.header.specs.Entries.{long_entry, short_entry, entry_of}
 use Rattle.header.specs.declared.scan.Header.{Header}
-use Rattle.header.proofs.Set.{header_refusal, header_passed}
+use Rattle.header.proofs.Set.{header_refused, header_accepted, header_read}
 use Rattle.header.proofs.EntryLaws.{uploaded, header_within, short_is, short_length, long_length, entry_passed, entry_refused}
 use Rattle.stored.specs.Answers.{file_at, sizes_fit, header_at}
 use Rattle.entries.specs.Entry.{entry_at, reads, put_front, read_of}
@@ -44,6 +45,11 @@ put_split bytes out = go (ltb (length bytes) (length out)) refl
         ap (λ (l : List ℕ). take (length out) bytes ++ l) (p ∙ sym q)
 
 -- the first n bytes stored at the front, n being the lesser of both lengths
+-- the least of two numbers is the library's
+pub least_is_min : (a b : ℕ) → min a b ≡ least_of a b
+unfolding least_of
+least_is_min a b = grind arith
+
 pub stored_front : (bytes out : List ℕ) (n : ℕ)
     → (n ≡ least_of (length bytes) (length out)) × (n ≤ length bytes) × (n ≤ length out)
     → stored_at out 0 (take n bytes) ≡ put_front bytes out
@@ -135,55 +141,60 @@ module _ (disk owner : List ℕ) (place received : ℕ) (f : sizes_fit disk owne
 
 -- ---- the answers
 
--- a header read that is not refused: the sizes fit, and it is what the file's header says
+-- a header that is read: the sizes fit, and it is what the file's header says
 record Says (disk owner : List ℕ) (place received : ℕ) (h : Header) : Type 0 where
   sizes : sizes_fit disk owner place ≡ true
   items : check_items (file_at disk owner place received) ≡ 0
   size : h.size ≡ header_length (file_at disk owner place received)
   upload : h.place.at ≡ (place_of 18 (file_at disk owner place received)).at
 
-module _ (disk owner : List ℕ) (place received : ℕ) (h : Header) (e : h ≡ header_at disk owner place received 18) where
-  says : h.refusal ≡ 0 → Says disk owner place received h
-  says z = go (sizes_fit disk owner place) refl (unfold header_at in e)
-    where
-      go : (t : Bool)
-          → sizes_fit disk owner place ≡ t
-          → h ≡ cond t (header_of 18 (file_at disk owner place received)) (refused_with 33)
-          → Says disk owner place received h
-      go true f e =
-          let i : check_items (file_at disk owner place received) ≡ 0 =
-          sym (header_refusal 18 (file_at disk owner place received)) ∙ ap (λ (x : Header). x.refusal) (sym e) ∙ z in
-          let p = e ∙ header_passed 18 (file_at disk owner place received) i in
-          record { sizes = f; items = i; size = ap (λ (x : Header). x.size) p; upload = ap (λ (x : Header). x.place.at) p }
-      go false f e = let w : ◌≡◌ {A = ℕ} 33 0 = ap (λ (x : Header). x.refusal) (sym e) ∙ z in absurd (omega arith)
+abbrev refusal_in : Result Header ℕ → ℕ
+refusal_in (Ok h) = 0
+refusal_in (Err n) = n
 
-  -- a refused one: the file has no entry
-  none : (long : Bool) → (h.refusal ≡ 0 → ⊥) → entry_at long disk owner place received ≡ []
+module _ (disk owner : List ℕ) (place received : ℕ) where
+  -- a refused header: the file has no entry
+  none : (long : Bool) (n : ℕ) → 0 < n → Err n ≡ header_at disk owner place received 18 → entry_at long disk owner place received ≡ []
   unfolding entry_at
-  none long n = go (sizes_fit disk owner place) refl (unfold header_at in e)
+  none long n p e = go (sizes_fit disk owner place) refl (unfold header_at in e)
     where
       go : (t : Bool)
           → sizes_fit disk owner place ≡ t
-          → h ≡ cond t (header_of 18 (file_at disk owner place received)) (refused_with 33)
+          → Err n ≡ cond t (header_of 18 (file_at disk owner place received)) (refused_with 33)
           → cond t (entry_of long (file_at disk owner place received)) [] ≡ []
       go true f e =
-          entry_refused long (file_at disk owner place received)
-          (λ i. n (ap (λ (x : Header). x.refusal) e ∙ header_refusal 18 (file_at disk owner place received) ∙ i))
+          let r = header_refused 18 n (file_at disk owner place received) e in
+          entry_refused long (file_at disk owner place received) (λ i. absurd (omega arith))
       go false f e = refl
 
-  module _ (skip : ℕ) (out : List ℕ) where
-    pub read_refused : (long : Bool) → (h.refusal ≡ 0 → ⊥) → reads 0 out ≡ read_of long disk owner place received skip out
-    unfolding read_of
-    read_refused long n = rw (none long n, drop-nil skip, take-nil (length out))
+  pub read_refused : (skip : ℕ) (out : List ℕ) (long : Bool) (n : ℕ) → 0 < n
+      → Err n ≡ header_at disk owner place received 18
+      → reads 0 out ≡ read_of long disk owner place received skip out
+  unfolding read_of
+  read_refused skip out long n p e = rw (none long n p e, drop-nil skip, take-nil (length out))
 
+module _ (disk owner : List ℕ) (place received : ℕ) (h : Header) (e : Ok h ≡ header_at disk owner place received 18) where
+  says : Says disk owner place received h
+  says = go (sizes_fit disk owner place) refl (unfold header_at in e)
+    where
+      go : (t : Bool)
+          → sizes_fit disk owner place ≡ t
+          → Ok h ≡ cond t (header_of 18 (file_at disk owner place received)) (refused_with 33)
+          → Says disk owner place received h
+      go true f e =
+          let file : List ℕ = file_at disk owner place received in
+          let p = header_read 18 file h e in
+          record { sizes = f; items = header_accepted 18 file h e; size = ap (λ (x : Header). x.size) p; upload = ap (λ (x : Header). x.place.at) p }
+      go false f e = let w : ◌≡◌ {A = ℕ} 0 33 = ap refusal_in e in absurd (omega arith)
+
+  module _ (skip : ℕ) (out : List ℕ) where
     pub read_long : (long : Bool) (after : List ℕ)
-        → h.refusal ≡ 0
         → long ≡ true
         → after ≡ read_front disk owner place skip (least_of (h.size - skip) (length out)) out
         → reads h.size after ≡ read_of long disk owner place received skip out
     unfolding read_of entry_at
-    read_long long after z l q =
-        let s = says z in
+    read_long long after l q =
+        let s = says in
         let file : List ℕ = file_at disk owner place received in
         let entry : entry_at true disk owner place received ≡ long_entry file = rw s.sizes (entry_passed true file s.items) in
         ap₂ (λ (n : ℕ) (x : List ℕ). reads n x) (s.size ∙ sym (long_length file s.items))
@@ -193,14 +204,13 @@ module _ (disk owner : List ℕ) (place received : ℕ) (h : Header) (e : h ≡ 
         ∙ ap (λ (b : Bool). read_of b disk owner place received skip out) (sym l)
 
     pub read_short : (long : Bool) (at : ℕ) (after : List ℕ)
-        → h.refusal ≡ 0
         → long ≡ false
         → at ≡ h.place.at - 3
         → after ≡ put_front (drop skip (short_read disk owner place at)) out
         → reads 80 after ≡ read_of long disk owner place received skip out
     unfolding read_of entry_at
-    read_short long at after z l a q =
-        let s = says z in
+    read_short long at after l a q =
+        let s = says in
         let file : List ℕ = file_at disk owner place received in
         let entry : entry_at false disk owner place received ≡ short_entry file = rw s.sizes (entry_passed false file s.items) in
         let k : at ≡ (place_of 18 file).at - 3 = a ∙ ap (λ (n : ℕ). n - 3) s.upload in

@@ -10,32 +10,13 @@ ghost use Rattle.entries.specs.Reading.{least_of, read_front, short_read};
 
 use stored::read_header;
 
-// The lesser of two numbers.
-fn least(a: usize, b: usize) -> usize
-    ensures { (result ≡ least_of a b) × (result ≤ a) × (result ≤ b) }
-{
-    if a < b {
-        return a;
-    }
-    b
-}
-
-// How many bytes of `size` are left past the first `skip`.
-fn past(size: usize, skip: usize) -> usize
-    ensures { result ≡ size - skip }
-{
-    if skip < size {
-        return size - skip;
-    }
-    0
-}
-
 // Copies bytes to the front of what is lent, as many as it has room for.
 fn put_front(bytes: &[u8], out: &mut [u8])
     ensures { out.new ≡ put_front bytes.now out.old }
 {
-    let n = least(bytes.len(), out.len());
-    numbers::store(out, 0, &bytes[..n]);
+    let n = bytes.len().min(out.len());
+    // not refused: as many bytes as both have
+    let _ = numbers::store(out, 0, &bytes[..n]);
 }
 
 // Copies the bytes of a place from byte `skip` up to byte `size`, as many as there is room for.
@@ -43,8 +24,9 @@ fn read_long(disk: &[u8], owner: &[u16], place: u16, size: usize, skip: usize, o
     ensures { out.new
         ≡ read_front disk.now owner.now place skip (least_of (size - skip) (length out.old)) out.old }
 {
-    let n = least(past(size, skip), out.len());
-    blocks::read(disk, owner, place, skip, &mut out[..n]);
+    let n = size.saturating_sub(skip).min(out.len());
+    // where the place has no such bytes, what is lent stays as it is
+    let _ = blocks::read(disk, owner, place, skip, &mut out[..n]);
 }
 
 // The short form: the first 70 bytes of a place, the 7 from byte `at` on, and the end mark.
@@ -52,8 +34,9 @@ fn short_form(disk: &[u8], owner: &[u16], place: u16, at: usize) -> [u8; 80]
     ensures { result ≡ short_read disk.now owner.now place at }
 {
     let mut entry = [0u8; 80];
-    blocks::read(disk, owner, place, 0, &mut entry[..70]);
-    blocks::read(disk, owner, place, at, &mut entry[70..77]);
+    // where the place has no such bytes, what is lent stays as it is
+    let _ = blocks::read(disk, owner, place, 0, &mut entry[..70]);
+    let _ = blocks::read(disk, owner, place, at, &mut entry[70..77]);
     entry
 }
 
@@ -80,16 +63,15 @@ pub fn read_entry(
 ) -> usize
     ensures { reads result out.new ≡ read_of long disk.now owner.now place received skip out.old }
 {
-    let header = read_header(disk, owner, place, received, 18);
-    if header.refusal == 0 {
-        if long {
-            let size = header.size;
-            read_long(disk, owner, place, size, skip, out);
-            return size;
-        }
-        let at = past(header.place.at, 3);
-        read_short(disk, owner, place, at, skip, out);
-        return 80;
+    let Ok(header) = read_header(disk, owner, place, received, 18) else {
+        return 0;
+    };
+    if long {
+        let size = header.size;
+        read_long(disk, owner, place, size, skip, out);
+        return size;
     }
-    0
+    let at = header.place.at.saturating_sub(3);
+    read_short(disk, owner, place, at, skip, out);
+    80
 }

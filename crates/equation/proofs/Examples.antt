@@ -11,8 +11,7 @@ use Rattle.equation.specs.Holds.{holds}
 use Rattle.equation.specs.Symbols.{stars_in, good_text, good_number, good, connective_of, relation_at, token_of, follow, symbols_past}
 use Rattle.equation.specs.Tree.{pushed, joined, result, bind, run, parse, truth}
 use Rattle.equation.specs.Answer.{said, answer, answer_of, refusal, validity_of}
-use Rattle.equation.specs.declared.evaluation.Truth.{Truth}
-use Rattle.equation.specs.declared.evaluation.Truth.TheVariants.{No, Yes}
+use Rattle.std.proofs.Common.{Result, Ok}
 
 -- a file of 80 bytes with the mandatory items alone: file_name "abcdefgh", upload_time 5
 pub file80 : List ℕ
@@ -60,8 +59,8 @@ number_row g w = record { Of = ℕ; got = g; want = w }
 abbrev pub match_row : Bool → Bool → Row
 match_row g w = record { Of = Bool; got = g; want = w }
 
-abbrev pub truth_row : Truth → Truth → Row
-truth_row g w = record { Of = Truth; got = g; want = w }
+abbrev pub truth_row : Result Bool ℕ → Result Bool ℕ → Row
+truth_row g w = record { Of = Result Bool ℕ; got = g; want = w }
 
 pub table : List Row
 table =
@@ -79,26 +78,26 @@ table =
     ∷ number_row (validity_of (144 ∷ 18 ∷ 0 ∷ 1 ∷ 4 ∷ 0 ∷ 0 ∷ [])) 8
     ∷ number_row (validity_of (144 ∷ 18 ∷ 0 ∷ 1 ∷ 4 ∷ 1 ∷ [])) 8
     -- upload_time greater than 4 in one byte, than 5 in four bytes and a mark
-    ∷ truth_row (answer_of (144 ∷ 18 ∷ 0 ∷ 1 ∷ 4 ∷ []) file80) Yes
-    ∷ truth_row (answer_of (144 ∷ 18 ∷ 0 ∷ 4 ∷ 5 ∷ 0 ∷ 0 ∷ 0 ∷ 0 ∷ []) file80) No
+    ∷ truth_row (answer_of (144 ∷ 18 ∷ 0 ∷ 1 ∷ 4 ∷ []) file80) (Ok true)
+    ∷ truth_row (answer_of (144 ∷ 18 ∷ 0 ∷ 4 ∷ 5 ∷ 0 ∷ 0 ∷ 0 ∷ 0 ∷ []) file80) (Ok false)
     -- file_name "AB*h" and upload_time greater than 4
-    ∷ truth_row (answer_of (131 ∷ 2 ∷ 0 ∷ 4 ∷ 65 ∷ 66 ∷ 42 ∷ 104 ∷ 144 ∷ 18 ∷ 0 ∷ 1 ∷ 4 ∷ 1 ∷ 0 ∷ []) file80) Yes
+    ∷ truth_row (answer_of (131 ∷ 2 ∷ 0 ∷ 4 ∷ 65 ∷ 66 ∷ 42 ∷ 104 ∷ 144 ∷ 18 ∷ 0 ∷ 1 ∷ 4 ∷ 1 ∷ 0 ∷ []) file80) (Ok true)
     -- an absent item, and a number relation on an item of eight bytes, are false for not equal too; bytes that are no header have no items
-    ∷ truth_row (answer_of (176 ∷ 34 ∷ 0 ∷ 1 ∷ 4 ∷ []) file80) No
-    ∷ truth_row (answer_of (176 ∷ 2 ∷ 0 ∷ 1 ∷ 4 ∷ []) file80) No
-    ∷ truth_row (answer_of (144 ∷ 18 ∷ 0 ∷ 1 ∷ 4 ∷ []) (170 ∷ 84 ∷ [])) No
+    ∷ truth_row (answer_of (176 ∷ 34 ∷ 0 ∷ 1 ∷ 4 ∷ []) file80) (Ok false)
+    ∷ truth_row (answer_of (176 ∷ 2 ∷ 0 ∷ 1 ∷ 4 ∷ []) file80) (Ok false)
+    ∷ truth_row (answer_of (144 ∷ 18 ∷ 0 ∷ 1 ∷ 4 ∷ []) (170 ∷ 84 ∷ [])) (Ok false)
     -- 02, A2: "a file to A and B is both equal to A and not equal to A", also in one equation; and it is equal to B, and not to C
-    ∷ truth_row (answer_of (131 ∷ 20 ∷ 0 ∷ 1 ∷ 65 ∷ []) letter) Yes
-    ∷ truth_row (answer_of (179 ∷ 20 ∷ 0 ∷ 1 ∷ 65 ∷ []) letter) Yes
-    ∷ truth_row (answer_of (131 ∷ 20 ∷ 0 ∷ 1 ∷ 65 ∷ 179 ∷ 20 ∷ 0 ∷ 1 ∷ 65 ∷ 1 ∷ []) letter) Yes
-    ∷ truth_row (answer_of (131 ∷ 20 ∷ 0 ∷ 1 ∷ 66 ∷ []) letter) Yes
-    ∷ truth_row (answer_of (131 ∷ 20 ∷ 0 ∷ 1 ∷ 67 ∷ []) letter) No
+    ∷ truth_row (answer_of (131 ∷ 20 ∷ 0 ∷ 1 ∷ 65 ∷ []) letter) (Ok true)
+    ∷ truth_row (answer_of (179 ∷ 20 ∷ 0 ∷ 1 ∷ 65 ∷ []) letter) (Ok true)
+    ∷ truth_row (answer_of (131 ∷ 20 ∷ 0 ∷ 1 ∷ 65 ∷ 179 ∷ 20 ∷ 0 ∷ 1 ∷ 65 ∷ 1 ∷ []) letter) (Ok true)
+    ∷ truth_row (answer_of (131 ∷ 20 ∷ 0 ∷ 1 ∷ 66 ∷ []) letter) (Ok true)
+    ∷ truth_row (answer_of (131 ∷ 20 ∷ 0 ∷ 1 ∷ 67 ∷ []) letter) (Ok false)
     -- an item of the wrong width hinders no other, and meets nothing: 7 is there, 9 is there, nothing is below 7
-    ∷ truth_row (answer_of (128 ∷ 48 ∷ 0 ∷ 1 ∷ 7 ∷ []) mixed) Yes
-    ∷ truth_row (answer_of (128 ∷ 48 ∷ 0 ∷ 4 ∷ 9 ∷ 0 ∷ 0 ∷ 0 ∷ []) mixed) Yes
-    ∷ truth_row (answer_of (160 ∷ 48 ∷ 0 ∷ 1 ∷ 7 ∷ []) mixed) No
+    ∷ truth_row (answer_of (128 ∷ 48 ∷ 0 ∷ 1 ∷ 7 ∷ []) mixed) (Ok true)
+    ∷ truth_row (answer_of (128 ∷ 48 ∷ 0 ∷ 4 ∷ 9 ∷ 0 ∷ 0 ∷ 0 ∷ []) mixed) (Ok true)
+    ∷ truth_row (answer_of (160 ∷ 48 ∷ 0 ∷ 1 ∷ 7 ∷ []) mixed) (Ok false)
     -- 100 results on the stack, and 101
-    ∷ truth_row (answer_of (times 100 (179 ∷ 2 ∷ 0 ∷ 0 ∷ []) ++ times 99 (1 ∷ [])) file80) Yes
+    ∷ truth_row (answer_of (times 100 (179 ∷ 2 ∷ 0 ∷ 0 ∷ []) ++ times 99 (1 ∷ [])) file80) (Ok true)
     ∷ number_row (validity_of (times 101 (179 ∷ 2 ∷ 0 ∷ 0 ∷ []) ++ times 100 (1 ∷ []))) 8
     -- 2,047 bytes are taken, 2,048 are not
     ∷ number_row (validity_of (times 2047 (0 ∷ []))) 8

@@ -10,6 +10,7 @@ use lib.ListN.{length, get_or, take, drop, set, length-set, take-append-drop, dr
 use lib.Seq.{drop-cons, take_all, take-suc-set, drop-set-lt}
 use borrow.Author.Tests.{lt-ltb, le-ltb}
 use Rattle.header.specs.Items.{Field, head_of, walk}
+use Rattle.header.specs.declared.items.Head.{Head}
 use Rattle.header.specs.declared.items.Head.TheVariants as head
 use Rattle.header.specs.declared.items.Head.TheVariants.{Broken, Item}
 use Rattle.header.proofs.Walk as walks
@@ -127,3 +128,12 @@ module _ (rs : List Relation) (file start ms : List ℕ) (at : ℕ) (h : Walking
         sized = ap length g' ∙ settled_length (record { id = i; bytes = take n (drop (at + 3) file) }) rs ms ∙ h.sized;
         same = h.same ∙ rw (walks.walk_item file at i n e, g');
       }
+
+  -- what is no item ends the walk
+  pub walk_over : ((i n : ℕ) → head_of (drop at file) ≡ Item i n → ⊥) → ms ≡ settled_by (walk 0 file).items rs start
+  walk_over f = go (head_of (drop at file)) refl
+    where
+      go : (x : Head) → head_of (drop at file) ≡ x → ms ≡ settled_by (walk 0 file).items rs start
+      go Broken e = walk_broken e
+      go head.End e = walk_end e
+      go (Item i n) e = absurd (f i n e)

@@ -17,7 +17,7 @@ use Rattle.equation.specs.Marks.{settled_by, relations_of, marked_true}
 use Rattle.equation.specs.Answer.{number_of, verdict, answer, outcome_of, answer_on, validity_of}
 use Rattle.equation.specs.Parsed.{relation_from, symbol_at, symbols_by, relations_by, outcome_by, steps_of}
 use Rattle.equation.specs.Steps.{finished, combine, stack_of, rest}
-use Rattle.equation.specs.declared.evaluation.Truth.TheVariants.{Refused}
+use Rattle.std.proofs.Common.{Err}
 use Rattle.equation.proofs.SymbolLaws.{join_symbol}
 use Rattle.equation.proofs.StepLaws.{symbols_by_law, relations_by_law}
 use Rattle.equation.proofs.Stacks as stacks
@@ -56,7 +56,7 @@ module _ (steps ms : List ℕ) (st : List Bool) (d i k : ℕ) (h : Running steps
   unfolding outcome_by rest
   said o e = ap verdict (sym (h.same ∙ e))
 
-  refused : rest ms k (drop i steps) (stack_of st d) ≡ none → Refused 8 ≡ outcome_by steps ms
+  refused : rest ms k (drop i steps) (stack_of st d) ≡ none → Err 8 ≡ outcome_by steps ms
   unfolding verdict
   refused e = said none e
 
@@ -64,7 +64,7 @@ module _ (steps ms : List ℕ) (st : List Bool) (d i k : ℕ) (h : Running steps
   run_end l = stacks.finish_is st d ∙ said _ (unfold rest run in rw (drop_of_length-le steps {i = i} l))
 
   module _ (l : i < length steps) where
-    pub run_bad : 2049 < get_or steps i 0 → Refused 8 ≡ outcome_by steps ms
+    pub run_bad : 2049 < get_or steps i 0 → Err 8 ≡ outcome_by steps ms
     run_bad e = refused (unfold rest run in rw (drop-cons steps i 0 l, bad_symbol (get_or steps i 0) e))
 
     module _ (e : 2048 ≤ get_or steps i 0) (f : get_or steps i 0 ≤ 2049) where
@@ -81,7 +81,7 @@ module _ (steps ms : List ℕ) (st : List Bool) (d i k : ℕ) (h : Running steps
           go true j = rw j
           go false j = rw j
 
-      pub run_few : d < 2 → Refused 8 ≡ outcome_by steps ms
+      pub run_few : d < 2 → Err 8 ≡ outcome_by steps ms
       unfolding bind
       run_few g = refused (joins none (stacks.join_few (combine (eqb (get_or steps i 0) 2048)) st d g))
 
@@ -109,7 +109,7 @@ module _ (steps ms : List ℕ) (st : List Bool) (d i k : ℕ) (h : Running steps
       unfolding rest run symbol_at
       pushes o j = rw (drop-cons steps i 0 l, lt-ltb (get_or steps i 0) 2048 e, j)
 
-      pub run_full : 100 ≤ d → Refused 8 ≡ outcome_by steps ms
+      pub run_full : 100 ≤ d → Err 8 ≡ outcome_by steps ms
       unfolding bind
       run_full f = refused (pushes none (stacks.push_full st d (marked_true ms k) f))
 

@@ -6,8 +6,10 @@ use Prim.Native.Nat.{ℕ, zero, suc, ◌+◌, ◌-◌, ◌≤◌, ◌<◌}
 use native.Mathlib.Omega.{arith}
 use native.Mathlib.Numerals.{add-one}
 use lib.Dec.{eqb}
-use lib.ListN.{length, get_or, take, drop, replicate}
+use lib.ListN.{length, get_or, take, drop, replicate, length-drop}
+use Rattle.std.proofs.lemmas.Bool.Decides.{nat_tests}
 use lib.Seq.{drop-drop, get_or-drop, take_all}
+use Rattle.std.specs.List.{starts_with}
 use Rattle.header.specs.Items.{Field, walk, marked, fields_of}
 use Rattle.equation.specs.Holds.{Relation, met_by, holds}
 use Rattle.equation.specs.Marks.{mark_after, settled, settled_by, relations_of, marked_true}
@@ -108,11 +110,15 @@ fields_short [] h = refl
 fields_short (a ∷ []) h = refl
 fields_short (a ∷ b ∷ bs) h = let z : ⊥ = omega arith in absurd z
 
-pub fields_at : (file : List ℕ)
-    → 2 ≤ length file
-    → fields_of file
-    ≡ cond (cond (eqb (get_or file 0 0) 170) (eqb (get_or file 1 0) 85) false) (walk 0 (take (length file - 2) (drop 2 file))).items []
-unfolding fields_of marked
-fields_at [] h = let z : ⊥ = omega arith in absurd z
-fields_at (a ∷ []) h = let z : ⊥ = omega arith in absurd z
-fields_at (a ∷ b ∷ bs) h = rw (take_all (suc (suc (length bs)) - 2) bs (omega arith))
+-- whether a file begins with the mark, as the code asks it
+begins : (file : List ℕ) → starts_with eqb file (170 ∷ 85 ∷ []) ≡ marked file
+unfolding marked
+begins [] = refl
+begins (a ∷ []) = grind arith
+begins (a ∷ b ∷ bs) = grind (arith, nat_tests)
+
+pub fields_at : (file : List ℕ) (b : Bool)
+    → b ≡ starts_with eqb file (170 ∷ 85 ∷ [])
+    → fields_of file ≡ cond b (walk 0 (take (length file - 2) (drop 2 file))).items []
+unfolding fields_of
+fields_at file b e = rw (e, begins file, take_all (length file - 2) (drop 2 file) (omega (arith, length-drop 2 file)))

@@ -13,7 +13,7 @@ use borrow.Author.Tests.{eqb-true, eqb-false, lt-ltb, le-ltb}
 use Rattle.equation.specs.Tree.{pushed, joined, result}
 use Rattle.equation.specs.Answer.{verdict}
 use Rattle.equation.specs.Steps.{stack_of, finished}
-use Rattle.equation.specs.declared.evaluation.Truth.TheVariants.{No, Yes, Refused}
+use Rattle.std.proofs.Common.{Ok, Err}
 
 stack_length : (bits : List Bool) (d : ℕ) → length (stack_of bits d) ≡ d
 unfolding stack_of
@@ -62,11 +62,11 @@ join_few f bits (suc zero) h = refl
 join_few f bits (suc (suc d)) h = let z : ⊥ = omega arith in absurd z
 
 -- exactly one result is the answer
-one_left : (bits : List Bool) (d : ℕ) → d ≡ 1 → verdict (result (stack_of bits d)) ≡ cond (get_or bits 0 false) Yes No
+one_left : (bits : List Bool) (d : ℕ) → d ≡ 1 → verdict (result (stack_of bits d)) ≡ Ok (get_or bits 0 false)
 unfolding stack_of result verdict
 one_left bits d h = rw h refl
 
-not_one : (bits : List Bool) (d : ℕ) → (d ≡ 1 → ⊥) → Refused 8 ≡ verdict (result (stack_of bits d))
+not_one : (bits : List Bool) (d : ℕ) → (d ≡ 1 → ⊥) → Err 8 ≡ verdict (result (stack_of bits d))
 unfolding stack_of result verdict
 not_one bits zero h = refl
 not_one bits (suc zero) h = absurd (h refl)
@@ -75,6 +75,6 @@ not_one bits (suc (suc d)) h = refl
 pub finish_is : (bits : List Bool) (d : ℕ) → finished d (get_or bits 0 false) ≡ verdict (result (stack_of bits d))
 finish_is bits d = go (eqb d 1) refl
   where
-    go : (x : Bool) → eqb d 1 ≡ x → cond x (cond (get_or bits 0 false) Yes No) (Refused 8) ≡ verdict (result (stack_of bits d))
+    go : (x : Bool) → eqb d 1 ≡ x → cond x (Ok (get_or bits 0 false)) (Err 8) ≡ verdict (result (stack_of bits d))
     go true e = sym (one_left bits d (eqb-true d 1 e))
     go false e = not_one bits d (eqb-false d 1 e)

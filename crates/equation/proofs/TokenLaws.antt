@@ -5,32 +5,21 @@ use mathlib.Core.List.{List, [], ◌∷◌}
 use Prim.Native.Nat.{ℕ, suc, ◌+◌, ◌-◌, ◌*◌, ◌≤◌, ◌<◌}
 use native.Mathlib.Omega.{arith}
 use native.Mathlib.Numerals.{add-one}
+use Rattle.std.proofs.Common.{◌==◌}
+use Rattle.std.specs.List.{count_by}
+use Rattle.std.proofs.lemmas.List.Recursion.{is_count_by}
 use lib.Dec.{eqb, leb, ltb}
 use lib.ListN.{length, get_or, take, drop, length-drop, drop_of_length-le}
 use lib.Seq.{drop-cons}
-use borrow.Author.Tests.{ltb-true, ltb-false, leb-true, lt-leb, le-leb, eq-eqb, ne_eqb}
+use borrow.Author.Tests.{ltb-true, ltb-false, leb-true, lt-leb, le-leb}
 use Rattle.numbers.specs.Numbers.{number}
 use Rattle.equation.specs.Symbols.{stars_in, good, connective_of, relation_at, token_of}
 use Rattle.equation.specs.declared.tokens.Token.TheVariants.{Bad, End, And, Or, Rel}
 
--- ---- stars, counted from a place on
-
-stars_at : (s : List ℕ) (i : ℕ)
-    → i < length s
-    → stars_in (drop i s) ≡ cond (eqb (get_or s i 0) 42) (suc (stars_in (drop (suc i) s))) (stars_in (drop (suc i) s))
+-- the stars, as the code counts them
+pub stars_counted : (s : List ℕ) → count_by (λ b. b == 42) s ≡ stars_in s
 unfolding stars_in
-stars_at s i h = rw (drop-cons s i 0 h)
-
-module _ (s : List ℕ) (n i : ℕ) (e : n + stars_in (drop i s) ≡ stars_in s) where
-  pub stars_yes : i < length s → get_or s i 0 ≡ 42 → n + 1 + stars_in (drop (i + 1) s) ≡ stars_in s
-  stars_yes h g = let z = rw (eq-eqb (get_or s i 0) 42 g) at (stars_at s i h) in rw (add-one i) (omega arith)
-
-  pub stars_no : i < length s → (get_or s i 0 ≡ 42 → ⊥) → n + stars_in (drop (i + 1) s) ≡ stars_in s
-  stars_no h g = let z = rw (ne_eqb (get_or s i 0) 42 g) at (stars_at s i h) in rw (add-one i) (omega arith)
-
-  pub stars_end : length s ≤ i → n ≡ stars_in s
-  unfolding stars_in
-  stars_end h = omega (arith, rw (drop_of_length-le s h) at e)
+stars_counted s = sym (is_count_by stars_in (λ b. b == 42) refl (λ b bs. let e : suc (stars_in bs) ≡ 1 + stars_in bs = omega arith in rw e) s)
 
 -- ---- a relation by places
 

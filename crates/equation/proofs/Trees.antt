@@ -14,7 +14,7 @@ use Rattle.equation.specs.Symbols.{Symbol, rel, and, or, bad, symbols, relations
 use Rattle.equation.specs.Tree.{pushed, joined, result, bind, run, Tree, leaf, both, either, parse, truth}
 use Rattle.equation.specs.Marks.{relations_of}
 use Rattle.equation.specs.Answer.{number_of, said, verdict, answer, refusal, validity_of}
-use Rattle.equation.specs.declared.evaluation.Truth.TheVariants.{No, Yes, Refused}
+use Rattle.std.proofs.Common.{Ok, Err}
 
 abbrev pub map_o : {A B : Type 0} → (A → B) → Option A → Option B
 map_o h none = none
@@ -68,27 +68,23 @@ evaluated f eq = sym (said_verdict f (parse eq) ∙ ap verdict (run_is_truth f e
 number_said : (f : ℕ → Relation → Bool) (o : Option Tree) → number_of (said f o) ≡ refusal o
 unfolding said refusal
 number_said f none = unfold number_of in refl
-number_said f (some t) = go (truth f t)
-  where
-    go : (b : Bool) → number_of (cond b Yes No) ≡ 0
-    go true = unfold number_of in refl
-    go false = unfold number_of in refl
+number_said f (some t) = unfold number_of in refl
 
 -- the number of an answer is that of the equation, whatever the truth of its relations
 pub number_answer : (f : ℕ → Relation → Bool) (eq : List ℕ) → number_of (answer f eq) ≡ validity_of eq
 unfolding answer validity_of
 number_answer f eq = go (ltb 2047 (length eq))
   where
-    go : (x : Bool) → number_of (cond x (Refused 33) (said f (parse eq))) ≡ cond x 33 (refusal (parse eq))
+    go : (x : Bool) → number_of (cond x (Err 33) (said f (parse eq))) ≡ cond x 33 (refusal (parse eq))
     go true = unfold number_of in refl
     go false = number_said f (parse eq)
 
 -- a refused equation is refused on every file
-pub refused_answer : (f : ℕ → Relation → Bool) (eq : List ℕ) → (validity_of eq ≡ 0 → ⊥) → Refused (validity_of eq) ≡ answer f eq
+pub refused_answer : (f : ℕ → Relation → Bool) (eq : List ℕ) → (validity_of eq ≡ 0 → ⊥) → Err (validity_of eq) ≡ answer f eq
 unfolding answer validity_of refusal said
 refused_answer f eq h = go (ltb 2047 (length eq)) (parse eq) h
   where
-    go : (x : Bool) (o : Option Tree) → (cond x 33 (refusal o) ≡ 0 → ⊥) → Refused (cond x 33 (refusal o)) ≡ cond x (Refused 33) (said f o)
+    go : (x : Bool) (o : Option Tree) → (cond x 33 (refusal o) ≡ 0 → ⊥) → Err (cond x 33 (refusal o)) ≡ cond x (Err 33) (said f o)
     go true o h = refl
     go false none h = refl
     go false (some t) h = absurd (h refl)
@@ -104,7 +100,7 @@ module _ (eq : List ℕ) (h : length eq ≤ 2047) where
   invalid e = rw (le-ltb 2047 (length eq) h, e)
 
   -- and the answer of an accepted equation is the tree's truth
-  pub answer_truth : (f : ℕ → Relation → Bool) (t : Tree) → parse eq ≡ some t → answer f eq ≡ cond (truth f t) Yes No
+  pub answer_truth : (f : ℕ → Relation → Bool) (t : Tree) → parse eq ≡ some t → answer f eq ≡ Ok (truth f t)
   unfolding answer said
   answer_truth f t e = rw (le-ltb 2047 (length eq) h, e)
 

@@ -1,13 +1,11 @@
 -- An equation parsed: the list of its steps, by which its relations are found again without reading or judging its bytes anew. A step is a
 -- number: below 2,048 the place of a relation's first byte, 2,048 AND, 2,049 OR, any other what is none of these. Assumes nothing.
-use Rattle.std.specs.Prelude.{◌&&◌, ◌||◌, cond, List, [], ◌∷◌, ◌++◌, map, ℕ, zero, suc, ◌+◌, ◌*◌, ltb, leb, eqb, length, get_or, take, drop}
+use Rattle.std.specs.Prelude.{◌&&◌, ◌||◌, cond, List, [], ◌∷◌, ◌++◌, map, ℕ, zero, suc, ◌+◌, ◌*◌, ltb, leb, eqb, length, get_or, take, drop, Bool, Result, Ok, Err}
 use Rattle.equation.specs.Holds.{Relation, relation_of}
 use Rattle.equation.specs.Symbols.{token_of, Symbol, rel, and, or, bad, relations}
 use Rattle.equation.specs.Tree.{run}
 use Rattle.equation.specs.Marks.{marked_true}
 use Rattle.equation.specs.Answer.{validity_of, verdict}
-use Rattle.equation.specs.declared.evaluation.Parsed.{Parsed}
-use Rattle.equation.specs.declared.evaluation.Truth.{Truth}
 use Rattle.equation.specs.declared.tokens.Token.{Token}
 use Rattle.equation.specs.declared.tokens.Token.TheVariants.{Bad, End, And, Or, Rel}
 
@@ -28,7 +26,7 @@ abbrev pub relations_by : List ℕ → List ℕ → List Relation
 relations_by eq steps = relations (symbols_by eq steps)
 
 -- the run of steps by the marks of their relations; which relations they are does not matter then, so the symbols are those on no bytes
-unfoldable pub outcome_by : List ℕ → List ℕ → Truth
+unfoldable pub outcome_by : List ℕ → List ℕ → Result Bool ℕ
 outcome_by steps ms = verdict (run (λ k r. marked_true ms k) ◌&&◌ ◌||◌ 0 (symbols_by [] steps) [])
 
 -- ---- the steps of an equation
@@ -50,18 +48,19 @@ steps_past (suc n) at (c ∷ bs) = steps_past n (suc at) bs
 abbrev pub steps_of : List ℕ → List ℕ
 steps_of eq = steps_past 0 0 eq
 
--- ---- the answer of parsing, and the lent steps afterwards
+-- ---- the answer of parsing, how many steps there are or the number of the refusal, and the lent steps afterwards
 
 pub record Parses : Type 0 where
-  pub answer : Parsed
+  pub answer : Result ℕ ℕ
   pub steps : List ℕ
 
-abbrev pub parses : Parsed → List ℕ → Parses
+abbrev pub parses : Result ℕ ℕ → List ℕ → Parses
 parses answer steps = record { answer = answer; steps = steps }
 
--- 33 above 2,047 bytes or where fewer numbers are lent than the equation has bytes, and nothing is written; else 0 or 8, and the steps in front
+-- 33 above 2,047 bytes or where fewer numbers are lent than the equation has bytes, and nothing is written; else the steps in front, and 8 where
+-- they are refused
 unfoldable pub parse_of : List ℕ → List ℕ → Parses
 parse_of eq steps =
     cond (leb (length eq) 2047 && leb (length eq) (length steps))
-    (parses (record { refused = validity_of eq; count = length (steps_of eq) }) (steps_of eq ++ drop (length (steps_of eq)) steps))
-    (parses (record { refused = 33; count = 0 }) steps)
+    (parses (cond (eqb (validity_of eq) 0) (Ok (length (steps_of eq))) (Err (validity_of eq))) (steps_of eq ++ drop (length (steps_of eq)) steps))
+    (parses (Err 33) steps)

@@ -1,17 +1,15 @@
 -- What the evaluator's private steps find: the stack in an array, and the rest of a run. Assumes nothing.
-use Rattle.std.specs.Prelude.{Bool, false, ◌&&◌, ◌||◌, cond, List, [], ◌∷◌, ℕ, zero, suc, eqb, get_or}
+use Rattle.std.specs.Prelude.{Bool, false, ◌&&◌, ◌||◌, cond, List, [], ◌∷◌, ℕ, zero, suc, eqb, get_or, Result, Ok, Err}
 use Rattle.std.proofs.Math.Option.{Option}
 use Rattle.equation.specs.Symbols.{token_number}
 use Rattle.equation.specs.Tree.{run}
 use Rattle.equation.specs.Marks.{marked_true}
 use Rattle.equation.specs.Parsed.{symbols_by}
-use Rattle.equation.specs.declared.evaluation.Truth.{Truth}
-use Rattle.equation.specs.declared.evaluation.Truth.TheVariants.{No, Yes, Refused}
 use Rattle.equation.specs.declared.tokens.Token.TheVariants.{Bad}
 
 -- what a run's end says, by a depth and the result at the stack's bottom
-abbrev pub finished : ℕ → Bool → Truth
-finished d b = cond (eqb d 1) (cond b Yes No) (Refused (token_number Bad))
+abbrev pub finished : ℕ → Bool → Result Bool ℕ
+finished d b = cond (eqb d 1) (Ok b) (Err (token_number Bad))
 
 -- AND or OR of two results
 abbrev pub combine : Bool → Bool → Bool → Bool

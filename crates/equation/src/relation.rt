@@ -3,93 +3,72 @@ ghost use Rattle.std.specs.Prelude.{◌≡◌, ◌≤◌, length};
 ghost use Rattle.numbers.specs.Numbers.{number};
 ghost use Rattle.equation.specs.Relation.{width, compare, text_meets, number_meets, meets};
 
-// The number of up to four bytes.
+// The number of up to four bytes, the low one first.
 fn value(bytes: &[u8]) -> u64
     requires { length bytes.now ≤ 4 }
     ensures { result ≡ number bytes.now }
 {
-    let mut v: u64 = 0;
-    let mut i = bytes.len();
-    while 0 < i {
-        i -= 1;
-        v = bytes[i] as u64 + 256 * v;
+    let mut v = 0;
+    for b in bytes.iter().rev() {
+        v = u64::from(*b) + 256 * v;
     }
     v
 }
 
 // So many bytes are a number.
+#[tactic(auto, unfolding(crate::specs::Relation::width))]
 pub(crate) fn number_width(n: usize) -> bool
     ensures { result ≡ width n }
 {
-    if n == 1 {
-        return true;
-    }
-    if n == 2 {
-        return true;
-    }
-    n == 4
+    matches!(n, 1 | 2 | 4)
 }
 
 // The file's number against the constant's.
+#[tactic(auto, unfolding(crate::specs::Relation::compare))]
 fn relate(operator: u8, a: u64, b: u64) -> bool
     ensures { result ≡ compare operator a b }
 {
-    if operator == 0 {
-        return a == b;
+    match operator {
+        0 => a == b,
+        1 => b < a,
+        2 => a < b,
+        3 => a != b,
+        4 => b <= a,
+        5 => a <= b,
+        _ => false,
     }
-    if operator == 1 {
-        return b < a;
-    }
-    if operator == 2 {
-        return a < b;
-    }
-    if operator == 3 {
-        return a != b;
-    }
-    if operator == 4 {
-        return b <= a;
-    }
-    if operator == 5 {
-        return a <= b;
-    }
-    false
 }
 
+#[tactic(auto, unfolding(crate::specs::Relation::text_meets))]
 fn text_meets(operator: u8, constant: &[u8], item: &[u8]) -> bool
     ensures { result ≡ text_meets operator constant.now item.now }
 {
-    let m = text::text_matches(constant, item);
-    if operator == 0 {
-        return m;
+    let met = text::text_matches(constant, item);
+    match operator {
+        0 => met,
+        3 => !met,
+        _ => false,
     }
-    if operator == 3 {
-        return !m;
-    }
-    false
 }
 
+#[tactic(auto, unfolding(crate::specs::Relation::number_meets))]
 fn number_meets(operator: u8, constant: &[u8], item: &[u8]) -> bool
     ensures { result ≡ number_meets operator constant.now item.now }
 {
-    if number_width(constant.len()) {
-        if number_width(item.len()) {
-            return relate(operator, value(item), value(constant));
-        }
-    }
-    false
+    number_width(constant.len())
+        && number_width(item.len())
+        && relate(operator, value(item), value(constant))
 }
 
 // An item's bytes meet a relation, given as its first byte and its constant.
+#[tactic(auto, unfolding(crate::specs::Relation::meets))]
 pub fn item_meets(code: u8, constant: &[u8], item: &[u8]) -> bool
     ensures { result ≡ meets code constant.now item.now }
 {
     let operator = code / 16 % 8;
-    let kind = code % 16;
-    if kind == 3 {
-        return text_meets(operator, constant, item);
+    match code % 16 {
+        0 => number_meets(operator, constant, item),
+        3 => text_meets(operator, constant, item),
+        _ => false,
     }
-    if kind == 0 {
-        return number_meets(operator, constant, item);
-    }
-    false
 }

@@ -12,11 +12,11 @@ pub(crate) fn list_steps(eq: &[u8], steps: &mut [u16]) -> usize
     ensures value { result ≡ length (steps_of eq.now) }
     ensures steps_after { steps.new ≡ sets steps.old 0 (steps_of eq.now) }
 {
-    let mut at: usize = 0;
-    let mut n: usize = 0;
+    let mut at = 0;
+    let mut n = 0;
+    // a `loop`: each turn goes on behind the token that it read, and a relation is longer than one byte
     loop {
-        let t = read_token(eq, at);
-        match t {
+        match read_token(eq, at) {
             Token::Bad => {
                 steps[n] = 2050;
                 return n + 1;
@@ -35,7 +35,7 @@ pub(crate) fn list_steps(eq: &[u8], steps: &mut [u16]) -> usize
             Token::Rel(_, _, m) => {
                 steps[n] = at as u16;
                 n += 1;
-                at = at + 4 + m;
+                at += 4 + m;
             }
         }
     }

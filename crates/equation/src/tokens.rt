@@ -16,72 +16,47 @@ pub enum Token {
 fn stars(constant: &[u8]) -> usize
     ensures { result ≡ stars_in constant.now }
 {
-    let mut n: usize = 0;
-    let mut i = 0;
-    while i < constant.len() {
-        if constant[i] == 42 {
-            n += 1;
-            i += 1;
-        } else {
-            i += 1;
-        }
-    }
-    n
+    constant.iter().filter(|b| **b == b'*').count()
 }
 
+#[tactic(auto, unfolding(crate::specs::Symbols::good_text))]
 fn good_text(operator: u8, constant: &[u8]) -> bool
     ensures { result ≡ good_text operator constant.now }
 {
-    if operator == 0 {
-        return stars(constant) <= 4;
-    }
-    if operator == 3 {
-        return stars(constant) <= 4;
-    }
-    false
+    matches!(operator, 0 | 3) && stars(constant) <= 4
 }
 
+#[tactic(auto, unfolding(crate::specs::Symbols::good_number))]
 fn good_number(operator: u8, n: usize) -> bool
     ensures { result ≡ good_number operator n }
 {
-    if operator <= 5 {
-        crate::relation::number_width(n)
-    } else {
-        false
-    }
+    operator <= 5 && crate::relation::number_width(n)
 }
 
 // A relation that is not refused, by its first byte and its constant.
+#[tactic(auto, unfolding(crate::specs::Symbols::good))]
 fn good_relation(code: u8, constant: &[u8]) -> bool
     ensures { result ≡ good code constant.now }
 {
     let operator = code / 16 % 8;
-    let kind = code % 16;
-    if kind == 3 {
-        return good_text(operator, constant);
+    match code % 16 {
+        0 => good_number(operator, constant.len()),
+        3 => good_text(operator, constant),
+        _ => false,
     }
-    if kind == 0 {
-        return good_number(operator, constant.len());
-    }
-    false
 }
 
 // A byte with bit 7 clear, with so many bytes left after it.
+#[tactic(auto, unfolding(crate::specs::Symbols::connective_of))]
 fn connective(code: u8, left: usize) -> Token
     ensures { result ≡ connective_of code left }
 {
-    if code == 1 {
-        return Token::And;
+    match code {
+        0 if left == 0 => Token::End,
+        1 => Token::And,
+        2 => Token::Or,
+        _ => Token::Bad,
     }
-    if code == 2 {
-        return Token::Or;
-    }
-    if code == 0 {
-        if left == 0 {
-            return Token::End;
-        }
-    }
-    Token::Bad
 }
 
 // The relation whose first byte stands at a place.

@@ -1,7 +1,7 @@
 -- A turn is the one that is due; what holds before the first. Assumes nothing.
-use Rattle.std.proofs.Common.{◌≡◌, ℕ, Bool, true, false, List, [], length, take, refl, ap, arith}
-use Rattle.input.specs.Turns.{Turned}
-use Rattle.input.proofs.Turning.{Playing, playing_none}
+use Rattle.std.proofs.Common.{◌≡◌, ℕ, ◌+◌, ◌-◌, ◌<◌, Bool, true, false, List, [], length, take, refl, ap, arith}
+use Rattle.input.specs.Turns.{Turned, Played}
+use Rattle.input.proofs.Turning.{Playing, playing_none, playing_on, played_out}
 use Rattle.equations.specs.declared.progress.Progress.{Progress}
 use Rattle.equations.specs.declared.progress.Stage.TheVariants as stage
 use Rattle.equations.specs.declared.progress.Next.{Next}
@@ -50,6 +50,17 @@ new_going = refl
 pub playing_first : (p : Progress) (input text : List ℕ) → p ≡ new_of
     → Playing is_over DueTurn (state new_of input text) (state p input text) 18446744073709551615
 playing_first p input text e = rw e (playing_none is_over DueTurn (state new_of input text) new_going)
+
+-- turns, one after the other: k of at most 2^64 - 1 were made
+module _ (first before after : State) (k : ℕ) (playing : Playing is_over DueTurn first before (18446744073709551615 - k)) (few : k < 18446744073709551615)
+    (turned : Turned DueTurn before after) (over : Bool) (is : over ≡ over_of after.progress.stage) where
+  pub playing_more : over ≡ false → Playing is_over DueTurn first after (18446744073709551615 - (k + 1))
+  playing_more e = playing_on is_over DueTurn first before after _ _ playing (omega (arith, few)) turned (rw (← is, e) (omega arith))
+
+  pub played_over : over ≡ true → Played is_over DueTurn first after
+  played_over e =
+      played_out is_over DueTurn first after 0
+      (playing_on is_over DueTurn first before after _ 0 playing (omega (arith, few)) turned (rw (← is, e) refl)) (omega arith)
 
 -- the sizes of the program's arrays
 pub has_room : (input text : List ℕ) → length input ≡ 262144 → length text ≡ 65536 → HasRoom input text

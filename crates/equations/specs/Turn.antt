@@ -1,14 +1,12 @@
 -- A turn of the program: the next line answered, the input's end, more input, or output written. What the C library's `read` brings and whether its `write`
 -- succeeds is not known beforehand. Assumes nothing.
-use Rattle.std.specs.Prelude.{◌≡◌, ℕ, ◌+◌, ◌≤◌, Bool, true, false, cond, List, [], ◌++◌, length, take, drop, ◌==◌, nat_lt}
+use Rattle.std.specs.Prelude.{◌≡◌, ℕ, ◌+◌, ◌≤◌, Bool, true, false, cond, List, [], ◌++◌, length, take, drop, ◌==◌, nat_lt, Option, None, Some}
 use Rattle.lines.specs.Lines.{Printed, printed_in, error_line}
 use Rattle.input.specs.declared.Found.{Found}
 use Rattle.input.specs.declared.Found.TheVariants as found
 use Rattle.input.specs.Parts.{bytes_from, rest_of, least_of, wrapped}
 use Rattle.input.specs.Input.{find_of, shift_of}
 use Rattle.replies.specs.Reply.{Replies, replies, reply_of}
-use Rattle.replies.specs.declared.Reply.{Reply}
-use Rattle.replies.specs.declared.Reply.TheVariants as reply
 use Rattle.equations.specs.declared.progress.Progress.{Progress}
 use Rattle.equations.specs.declared.progress.Stage.{Stage}
 use Rattle.equations.specs.declared.progress.Stage.TheVariants as stage
@@ -107,9 +105,9 @@ behind at text r = replies r.reply (take at text ++ r.text)
 abbrev pub reply_behind : ℕ → List ℕ → List ℕ → Replies
 reply_behind at line text = behind (least_of at (length text)) text (reply_of line (drop (least_of at (length text)) text))
 
-unfoldable pub on_reply : Progress → ℕ → Reply → List ℕ → Put
-on_reply p to reply.Unreadable text = error_put p text
-on_reply p to (reply.Line size) text = put (with_more (beyond p to) (least_of p.filled (length text)) size p.stage) text
+unfoldable pub on_reply : Progress → ℕ → Option ℕ → List ℕ → Put
+on_reply p to None text = error_put p text
+on_reply p to (Some size) text = put (with_more (beyond p to) (least_of p.filled (length text)) size p.stage) text
 
 abbrev pub line_at : Progress → ℕ → List ℕ → List ℕ
 line_at p n input = bytes_from p.from (wrapped (p.from + n)) input

@@ -12,15 +12,16 @@ ghost use Rattle.equations.specs.Whole.{PlayedAll, RanInMemory};
 use progress::Progress;
 use std::io::{Stdin, Stdout};
 
-// Turns of the program, until it is over. Nothing says that the input ends, so they are counted down from a number that no run uses up.
+// Turns of the program, until it is over. Nothing says that the input ends, so they are counted up to a number that no run reaches.
 fn play(stdin: Stdin, stdout: Stdout, input: &mut [u8], text: &mut [u8]) -> Progress
     ensures { PlayedAll input.old text.old (state result input.new text.new) }
 {
     let mut progress = progress::new_progress();
-    let mut turns = u64::MAX;
-    while 0 < turns {
+    for _turn in 0..u64::MAX {
         progress = progress::turn(stdin, stdout, progress, input, text);
-        turns = progress::turns_left(progress, turns);
+        if progress::is_over(progress) {
+            return progress;
+        }
     }
     progress
 }

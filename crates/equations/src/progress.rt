@@ -1,5 +1,5 @@
 // The program between two turns, and a turn of it: the next line answered, the input's end, more input, or output written.
-ghost use Rattle.std.specs.Prelude.{◌≡◌, ◌-◌, if◌then◌else◌};
+ghost use Rattle.std.specs.Prelude.{◌≡◌};
 ghost use Rattle.input.specs.Parts.{bytes_from};
 ghost use Rattle.input.specs.Input.{find_of};
 ghost use Rattle.input.specs.Turns.{Turned};
@@ -9,7 +9,6 @@ ghost use Rattle.equations.specs.Turn.{error_put, beyond, reply_behind, answered
 
 use input::Found;
 use input::parts::least;
-use replies::Reply;
 use std::io::{Stdin, Stdout};
 use std::num::wrapping_add_usize;
 
@@ -60,42 +59,18 @@ pub(crate) fn new_progress() -> Progress
     }
 }
 
-fn is_over(progress: Progress) -> bool
+// All was written, or it can't be.
+#[tactic(auto, unfolding(crate::specs::Turn::over_of))]
+pub(crate) fn is_over(progress: Progress) -> bool
     ensures { result ≡ over_of progress.stage }
 {
-    let stage = progress.stage;
-    match stage {
-        Stage::Going => false,
-        Stage::Last => false,
-        Stage::Done => true,
-        Stage::Broken => true,
-    }
-}
-
-// How many turns are left after a turn: none where the program is over, and else one less.
-pub(crate) fn turns_left(progress: Progress, turns: u64) -> u64
-    ensures { result ≡ (if over_of progress.stage then 0 else turns - 1) }
-{
-    if is_over(progress) {
-        return 0;
-    }
-    if 0 < turns {
-        return turns - 1;
-    }
-    0
+    matches!(progress.stage, Stage::Done | Stage::Broken)
 }
 
 fn with_stage(progress: Progress, stage: Stage) -> Progress
     ensures { result ≡ with_stage progress stage }
 {
-    Progress {
-        from: progress.from,
-        end: progress.end,
-        ended: progress.ended,
-        lines: progress.lines,
-        filled: progress.filled,
-        stage: stage,
-    }
+    Progress { stage, ..progress }
 }
 
 // With no line whole yet, what is printed is written before more is read.
@@ -109,6 +84,7 @@ fn flush_or_fill(filled: usize) -> Next
 }
 
 // The next line of the input, or what is to be done for one.
+#[tactic(auto, unfolding(crate::specs::Turn::on_found))]
 fn next_line(progress: Progress, input: &[u8]) -> Next
     ensures { result ≡ on_found (find_of (unread progress input.now) progress.ended) progress.filled }
 {
@@ -121,6 +97,7 @@ fn next_line(progress: Progress, input: &[u8]) -> Next
 }
 
 // Whether what waits is written first: where the text, of `size` bytes, has not room for any line, and where only writing is left.
+#[tactic(auto, unfolding(crate::specs::Turn::writes_first))]
 fn writes_first(stage: Stage, filled: usize, size: usize) -> bool
     ensures { result ≡ writes_first stage filled size }
 {
@@ -133,11 +110,11 @@ fn writes_first(stage: Stage, filled: usize, size: usize) -> bool
 }
 
 // What is to be done next.
+#[tactic(auto, unfolding(crate::specs::Turn::decide_of))]
 fn decide(progress: Progress, input: &[u8], size: usize) -> Next
     ensures { result ≡ decide_of progress input.now size }
 {
-    let stage = progress.stage;
-    if writes_first(stage, progress.filled, size) {
+    if writes_first(progress.stage, progress.filled, size) {
         return Next::Flush;
     }
     next_line(progress, input)
@@ -148,12 +125,9 @@ fn with_more(progress: Progress, at: usize, more: usize, stage: Stage) -> Progre
     ensures { result ≡ with_more progress at more stage }
 {
     Progress {
-        from: progress.from,
-        end: progress.end,
-        ended: progress.ended,
-        lines: progress.lines,
         filled: wrapping_add_usize(at, more),
-        stage: stage,
+        stage,
+        ..progress
     }
 }
 
@@ -170,19 +144,15 @@ fn put_error(progress: Progress, text: &mut [u8]) -> Progress
 fn passed(progress: Progress, to: usize) -> Progress
     ensures { result ≡ beyond progress to }
 {
-    let stage = progress.stage;
     Progress {
         from: least(wrapping_add_usize(to, 1), progress.end),
-        end: progress.end,
-        ended: progress.ended,
         lines: wrapping_add_usize(progress.lines, 1),
-        filled: progress.filled,
-        stage: stage,
+        ..progress
     }
 }
 
 // The reply to the line between two places of the input, behind the first `at` bytes of the text.
-fn reply_behind(input: &[u8], from: usize, to: usize, text: &mut [u8], at: usize) -> Reply
+fn reply_behind(input: &[u8], from: usize, to: usize, text: &mut [u8], at: usize) -> Option<usize>
     ensures { replies result text.new ≡ reply_behind at (bytes_from from to input.now) text.old }
 {
     let stop = least(to, input.len());
@@ -196,15 +166,13 @@ fn answer(progress: Progress, n: usize, input: &[u8], text: &mut [u8]) -> Progre
     ensures { put result text.new ≡ answered_of progress n input.now text.old }
 {
     let to = wrapping_add_usize(progress.from, n);
-    let reply = reply_behind(input, progress.from, to, text, progress.filled);
-    let stage = progress.stage;
-    match reply {
-        Reply::Unreadable => put_error(progress, text),
-        Reply::Line(size) => with_more(
+    match reply_behind(input, progress.from, to, text, progress.filled) {
+        None => put_error(progress, text),
+        Some(size) => with_more(
             passed(progress, to),
             least(progress.filled, text.len()),
             size,
-            stage,
+            progress.stage,
         ),
     }
 }
@@ -216,6 +184,7 @@ fn write_front(mut stdout: Stdout, text: &[u8], n: usize) -> bool {
 }
 
 // After what waits was written: where only that was left, the program is done.
+#[tactic(auto, unfolding(crate::specs::Turn::written_stage))]
 fn written_stage(stage: Stage) -> Stage
     ensures { result ≡ written_stage stage }
 {
@@ -228,19 +197,15 @@ fn written_stage(stage: Stage) -> Stage
 }
 
 // Writes out what waits (`waiting_text`).
+#[tactic(auto, unfolding(crate::specs::Turn::flushed_of))]
 fn flush(stdout: Stdout, progress: Progress, text: &[u8]) -> Progress
     ensures { Flushed progress result }
 {
-    let stage = progress.stage;
     if write_front(stdout, text, progress.filled) {
-        let then = written_stage(stage);
         return Progress {
-            from: progress.from,
-            end: progress.end,
-            ended: progress.ended,
-            lines: progress.lines,
             filled: 0,
-            stage: then,
+            stage: written_stage(progress.stage),
+            ..progress
         };
     }
     with_stage(progress, Stage::Broken)
@@ -250,7 +215,6 @@ fn flush(stdout: Stdout, progress: Progress, text: &[u8]) -> Progress
 fn fill(mut stdin: Stdin, progress: Progress, input: &mut [u8]) -> Progress
     ensures { Filled progress input.old result input.new }
 {
-    let stage = progress.stage;
     let left = input::shift(input, progress.from, progress.end);
     let kept = least(left, input.len());
     let n = streams::read(&mut stdin, &mut input[kept..]);
@@ -258,9 +222,7 @@ fn fill(mut stdin: Stdin, progress: Progress, input: &mut [u8]) -> Progress
         from: 0,
         end: kept + n,
         ended: n == 0,
-        lines: progress.lines,
-        filled: progress.filled,
-        stage: stage,
+        ..progress
     }
 }
 
@@ -274,8 +236,7 @@ pub(crate) fn turn(
 ) -> Progress
     ensures { Turned DueTurn (state progress input.old text.old) (state result input.new text.new) }
 {
-    let next = decide(progress, &*input, text.len());
-    match next {
+    match decide(progress, &*input, text.len()) {
         Next::Line(n) => answer(progress, n, &*input, text),
         Next::Flush => flush(stdout, progress, &*text),
         Next::Fill => fill(stdin, progress, input),

@@ -15,10 +15,7 @@ use Rattle.blocks.specs.Answers.{reserve_number, reserve_map, reserve_owner}
 use Rattle.blocks.proofs.Owners.{counts_entry}
 use Rattle.blocks.proofs.Laws.{reserve_leaves}
 use Rattle.table.specs.declared.File.{File}
-use Rattle.table.specs.declared.Found.{Found}
-use Rattle.table.specs.declared.Found.TheVariants.{Nothing, At}
-use Rattle.table.specs.declared.Given.{Given}
-use Rattle.table.specs.declared.Given.TheVariants.{UsedUp, Next}
+use Rattle.std.proofs.Common.{Option, Some, None}
 use Rattle.table.specs.Table.{no_file, files, put_table, free_of}
 use Rattle.table.specs.Given.{most_given, next_number, blocks_for}
 use Rattle.table.proofs.Records.{length_files, files_put, length_put, get_put, get_put_other, uploaded_none}
@@ -44,15 +41,15 @@ pub record NotBegun (map owner table : List ℕ) (last size : ℕ) : Type 0 wher
 
 pub record HasBegun (map owner table : List ℕ) (last size : ℕ) : Type 0 where
   pub place : ℕ
-  pub given : next_number last ≡ Next (last + 1)
-  pub found : free_of (files table) ≡ At place
+  pub given : next_number last ≡ Some (last + 1)
+  pub found : free_of (files table) ≡ Some place
   pub room : reserve_number map (length owner) place (blocks_for size) ≡ 0
   pub is : begin_of map owner table last size
       ≡ begins (Started place) (reserve_map map owner place (blocks_for size)) (reserve_owner map owner place (blocks_for size))
       (put_table table place (new_file (last + 1) size))
 
 module _ (map owner table : List ℕ) (last size : ℕ) where
-  at_place : (n p : ℕ) → n ≡ last + 1 → next_number last ≡ Next n → free_of (files table) ≡ At p
+  at_place : (n p : ℕ) → n ≡ last + 1 → next_number last ≡ Some n → free_of (files table) ≡ Some p
       → begin_of map owner table last size ≡ begin_at p n size map owner table → NotBegun map owner table last size ⊎ HasBegun map owner table last size
   unfolding begin_at
   at_place n p q g f e =
@@ -60,7 +57,7 @@ module _ (map owner table : List ℕ) (last size : ℕ) where
       by_number k
       (λ z. inr (record {
         place = p;
-        given = g ∙ ap Next q;
+        given = g ∙ ap Some q;
         found = f;
         room = z;
         is = e ∙ done k _ (begins (Refused k) map owner table) z
@@ -68,16 +65,16 @@ module _ (map owner table : List ℕ) (last size : ℕ) where
       }))
       (λ z. inl (record { number = k; nonzero = z; is = e ∙ refused k _ (begins (Refused k) map owner table) z }))
 
-  in_table : (n : ℕ) → next_number last ≡ Next n → begin_of map owner table last size ≡ begin_in (free_of (files table)) n size map owner table
-      → (f : Found) → free_of (files table) ≡ f → NotBegun map owner table last size ⊎ HasBegun map owner table last size
+  in_table : (n : ℕ) → next_number last ≡ Some n → begin_of map owner table last size ≡ begin_in (free_of (files table)) n size map owner table
+      → (f : Option ℕ) → free_of (files table) ≡ f → NotBegun map owner table last size ⊎ HasBegun map owner table last size
   unfolding begin_in
-  in_table n g e Nothing q = inl (record { number = 13; nonzero = λ z. omega arith; is = e ∙ ap (λ (f : Found). begin_in f n size map owner table) q })
-  in_table n g e (At p) q = at_place n p (number_given last n g).next g q (e ∙ ap (λ (f : Found). begin_in f n size map owner table) q)
+  in_table n g e None q = inl (record { number = 13; nonzero = λ z. omega arith; is = e ∙ ap (λ (f : Option ℕ). begin_in f n size map owner table) q })
+  in_table n g e (Some p) q = at_place n p (number_given last n g).next g q (e ∙ ap (λ (f : Option ℕ). begin_in f n size map owner table) q)
 
-  with_number : (g : Given) → next_number last ≡ g → NotBegun map owner table last size ⊎ HasBegun map owner table last size
+  with_number : (g : Option ℕ) → next_number last ≡ g → NotBegun map owner table last size ⊎ HasBegun map owner table last size
   unfolding begin_with
-  with_number UsedUp q = inl (record { number = 3; nonzero = λ z. omega arith; is = ap (λ (g : Given). begin_with g size map owner table) q })
-  with_number (Next n) q = in_table n q (ap (λ (g : Given). begin_with g size map owner table) q) (free_of (files table)) refl
+  with_number None q = inl (record { number = 3; nonzero = λ z. omega arith; is = ap (λ (g : Option ℕ). begin_with g size map owner table) q })
+  with_number (Some n) q = in_table n q (ap (λ (g : Option ℕ). begin_with g size map owner table) q) (free_of (files table)) refl
 
   pub begin_cases : NotBegun map owner table last size ⊎ HasBegun map owner table last size
   begin_cases = with_number (next_number last) refl
@@ -172,29 +169,29 @@ module _ (map owner table : List ℕ) (last latest : ℕ) (s : Sound map owner t
   reserve_is : (p : ℕ) → p < 256 → reserve_number map (length owner) p (blocks_for size) ≡ cond (leb (blocks_for size) (free_count map)) 0 13
   reserve_is p h = ap (λ (t : Bool). cond t (cond (leb (blocks_for size) (free_count map)) 0 13) 33) (store_is map owner table last latest s some most p h)
 
-  place_found : (p : ℕ) → free_of (files table) ≡ At p → p < 256
+  place_found : (p : ℕ) → free_of (files table) ≡ Some p → p < 256
   place_found p e = omega (arith, (free_found (files table) p e).below, length-map (files table) (λ (f : File). f.number), files_most map owner table last latest s)
 
   pub begin_used_up : last ≡ most_given → begin_of map owner table last size ≡ begins (Refused 3) map owner table
   unfolding begin_with
   begin_used_up e =
-      let g : next_number last ≡ UsedUp = rw (eq-eqb last most_given e) in
-      ap (λ (g : Given). begin_with g size map owner table) g
+      let g : next_number last ≡ None = rw (eq-eqb last most_given e) in
+      ap (λ (g : Option ℕ). begin_with g size map owner table) g
 
-  given_is : (last ≡ most_given → ⊥) → next_number last ≡ Next (last + 1)
+  given_is : (last ≡ most_given → ⊥) → next_number last ≡ Some (last + 1)
   given_is n = rw (ne_eqb last most_given n)
 
-  pub begin_no_place : (last ≡ most_given → ⊥) → free_of (files table) ≡ Nothing → begin_of map owner table last size ≡ begins (Refused 13) map owner table
+  pub begin_no_place : (last ≡ most_given → ⊥) → free_of (files table) ≡ None → begin_of map owner table last size ≡ begins (Refused 13) map owner table
   unfolding begin_with begin_in
   begin_no_place n e =
-      ap (λ (g : Given). begin_with g size map owner table) (given_is n) ∙ ap (λ (f : Found). begin_in f (last + 1) size map owner table) e
+      ap (λ (g : Option ℕ). begin_with g size map owner table) (given_is n) ∙ ap (λ (f : Option ℕ). begin_in f (last + 1) size map owner table) e
 
-  at_found : (last ≡ most_given → ⊥) → (p : ℕ) → free_of (files table) ≡ At p → begin_of map owner table last size ≡ begin_at p (last + 1) size map owner table
+  at_found : (last ≡ most_given → ⊥) → (p : ℕ) → free_of (files table) ≡ Some p → begin_of map owner table last size ≡ begin_at p (last + 1) size map owner table
   unfolding begin_with begin_in
   at_found n p e =
-      ap (λ (g : Given). begin_with g size map owner table) (given_is n) ∙ ap (λ (f : Found). begin_in f (last + 1) size map owner table) e
+      ap (λ (g : Option ℕ). begin_with g size map owner table) (given_is n) ∙ ap (λ (f : Option ℕ). begin_in f (last + 1) size map owner table) e
 
-  pub begin_few_blocks : (last ≡ most_given → ⊥) → (p : ℕ) → free_of (files table) ≡ At p → free_count map < blocks_for size
+  pub begin_few_blocks : (last ≡ most_given → ⊥) → (p : ℕ) → free_of (files table) ≡ Some p → free_count map < blocks_for size
       → begin_of map owner table last size ≡ begins (Refused 13) map owner table
   unfolding begin_at
   begin_few_blocks n p e h =
@@ -202,7 +199,7 @@ module _ (map owner table : List ℕ) (last latest : ℕ) (s : Sound map owner t
       let z : k ≡ 13 = reserve_is p (place_found p e) ∙ rw (lt-leb (blocks_for size) (free_count map) h) in
       at_found n p e ∙ refused k _ (begins (Refused k) map owner table) (λ y. omega arith) ∙ ap (λ (m : ℕ). begins (Refused m) map owner table) z
 
-  pub begin_done : (last ≡ most_given → ⊥) → (p : ℕ) → free_of (files table) ≡ At p → blocks_for size ≤ free_count map
+  pub begin_done : (last ≡ most_given → ⊥) → (p : ℕ) → free_of (files table) ≡ Some p → blocks_for size ≤ free_count map
       → (begin_of map owner table last size).answer ≡ Started p
   unfolding begin_at
   begin_done n p e h =

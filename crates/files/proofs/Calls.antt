@@ -11,7 +11,10 @@ use Rattle.blocks.specs.FreeMap.{free_count}
 use Rattle.blocks.specs.Answers.{store_fits, disk_fits, reserve_number, reserve_map, reserve_owner, release_number, release_map, release_owner, window_number, write_disk}
 use Rattle.blocks.proofs.Laws.{reserve_refused, release_refused, write_refused}
 use Rattle.equation.specs.Answer.{answer_of}
-use Rattle.equation.specs.declared.evaluation.Truth.TheVariants.{Refused}
+use Rattle.std.proofs.Common.{Result, Ok, Err}
+use Rattle.std.specs.Result.{result_unwrap_or}
+use Rattle.refusal.specs.declared.Refusal.{Refusal}
+use Rattle.refusal.specs.Refusal.{numbered}
 use Rattle.header.specs.Header.{header_of, refused_with}
 use Rattle.stored.specs.Answers.{file_at, check_at, header_at, truth_at, set_number, set_disk}
 use Rattle.table.specs.declared.File.{File}
@@ -20,7 +23,7 @@ use Rattle.table.specs.Given.{blocks_for}
 use Rattle.files.specs.declared.Begun.TheVariants as begun
 use Rattle.files.specs.View.{record_at}
 use Rattle.files.specs.Uploads.{begins, new_file, begin_at, after, place_number, writes, grown, room_number, append_number, append_of, frees, discard_number, discard_of}
-use Rattle.files.specs.Completion.{check_of, completed, complete_number, complete_of, destinations_at}
+use Rattle.files.specs.Completion.{check_of, completed, complete_number, complete_of, destinations_said, destinations_at}
 use Rattle.files.specs.Selection.{is_yes}
 
 -- ---- by a number
@@ -271,11 +274,17 @@ module _ (disk owner table : List ℕ) (place : ℕ) where
   pub destinations_past : 256 ≤ place → destinations_at disk owner table place ≡ 0
   unfolding destinations_at header_at
   destinations_past h =
-      ap (λ (t : Bool). (cond t (header_of 20 (file_at disk owner place check_file.received)) (refused_with 33)).destinations) (disk_past (length disk) (length owner) place h)
+      ap (λ (t : Bool). destinations_said (cond t (header_of 20 (file_at disk owner place check_file.received)) (refused_with 33))) (disk_past (length disk) (length owner) place h)
 
 -- ---- a selection
 
-none_met : (t : Bool) → is_yes (cond t (Refused 33) (Refused 33)) ≡ false
+-- an answer is true, and a refusal counts as false
+pub yes_is : (r : Result Bool Refusal) → result_unwrap_or r false ≡ is_yes (numbered r)
+unfolding is_yes
+yes_is (Ok b) = refl
+yes_is (Err refusal) = refl
+
+none_met : (t : Bool) → is_yes (cond t (Err 33) (Err 33)) ≡ false
 unfolding is_yes
 none_met true = refl
 none_met false = refl
@@ -283,6 +292,6 @@ none_met false = refl
 pub truth_past : (eq disk owner : List ℕ) (place received : ℕ) → 256 ≤ place → is_yes (truth_at eq disk owner place received) ≡ false
 unfolding truth_at
 truth_past eq disk owner place received h =
-    ap (λ (t : Bool). is_yes (cond (leb (length eq) 256) (cond t (answer_of eq (file_at disk owner place received)) (Refused 33)) (Refused 33)))
+    ap (λ (t : Bool). is_yes (cond (leb (length eq) 256) (cond t (answer_of eq (file_at disk owner place received)) (Err 33)) (Err 33)))
     (disk_past (length disk) (length owner) place h)
     ∙ none_met (leb (length eq) 256)

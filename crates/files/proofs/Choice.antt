@@ -10,12 +10,14 @@ use lib.ListN.{length, take, drop, set, get_or, replicate, length-map, length-ap
 use lib.Seq.{sets, sets-eq}
 use lib.Dec.{leb}
 use borrow.Author.Tests.{leb-true}
+use Rattle.std.proofs.Common.{Result, Ok, Err, IfOk}
+use Rattle.refusal.specs.declared.Refusal.{Refusal}
+use Rattle.refusal.specs.Refusal.{number, number_of, numbered}
 use Rattle.equation.specs.Answer.{validity_of}
 use Rattle.equation.specs.Parsed.{steps_of, parses, parse_of}
-use Rattle.equation.specs.declared.evaluation.Parsed.{Parsed}
 use Rattle.equation.proofs.Parsing.{taken, judged}
 use Rattle.table.specs.declared.File.{File}
-use Rattle.table.specs.declared.Found.TheVariants.{Nothing, At}
+use Rattle.std.proofs.Common.{Some, None}
 use Rattle.table.specs.Table.{no_file, files, times, uploaded}
 use Rattle.table.specs.Order.{next_complete, places_above, in_order}
 use Rattle.table.proofs.Ordering.{next_found, count_above, count_le, count_less, places_none, places_next, places_same}
@@ -26,10 +28,10 @@ use Rattle.files.proofs.Calls.{done, refused}
 -- ---- the order one place further
 
 module _ (fs : List File) (from : ℕ) where
-  pub order_none : next_complete fs from ≡ Nothing → in_order from fs ≡ []
+  pub order_none : next_complete fs from ≡ None → in_order from fs ≡ []
   order_none e = places_none (times fs) (length fs) from e
 
-  pub order_next : (p : ℕ) → next_complete fs from ≡ At p → in_order from fs ≡ p ∷ in_order (get_or (times fs) p 0) fs
+  pub order_next : (p : ℕ) → next_complete fs from ≡ Some p → in_order from fs ≡ p ∷ in_order (get_or (times fs) p 0) fs
   order_next p e = go (length fs) refl
     where
       less : count_above (get_or (times fs) p 0) (times fs) < count_above from (times fs)
@@ -51,16 +53,16 @@ abbrev pub left : (ℕ → Bool) → ℕ → ℕ → List File → List ℕ
 left test n from fs = take n (passing test (in_order from fs))
 
 module _ (test : ℕ → Bool) (fs : List File) (from : ℕ) where
-  pub left_none : (n : ℕ) → next_complete fs from ≡ Nothing → left test n from fs ≡ []
+  pub left_none : (n : ℕ) → next_complete fs from ≡ None → left test n from fs ≡ []
   unfolding passing
   left_none zero e = refl
   left_none (suc n) e = rw (order_none fs from e)
 
-  pub left_met : (n p : ℕ) → next_complete fs from ≡ At p → test p ≡ true → left test (n + 1) from fs ≡ p ∷ left test n (get_or (times fs) p 0) fs
+  pub left_met : (n p : ℕ) → next_complete fs from ≡ Some p → test p ≡ true → left test (n + 1) from fs ≡ p ∷ left test n (get_or (times fs) p 0) fs
   unfolding passing
   left_met n p e t = rw (add-one, order_next fs from p e, passing, t)
 
-  pub left_unmet : (n p : ℕ) → next_complete fs from ≡ At p → test p ≡ false → left test n from fs ≡ left test n (get_or (times fs) p 0) fs
+  pub left_unmet : (n p : ℕ) → next_complete fs from ≡ Some p → test p ≡ false → left test n from fs ≡ left test n (get_or (times fs) p 0) fs
   unfolding passing
   left_unmet n p e t = rw (order_next fs from p e, passing, t)
 
@@ -102,7 +104,7 @@ module _ (test : ℕ → Bool) (table first : List ℕ) (most : ℕ) where
           stored = sym (ap (λ (l : List ℕ). sets selected count (numbers_at table l)) e) ∙ inv.stored;
         }
 
-    pub choosing_none : next_complete (files table) from ≡ Nothing → Chosen test table first selected most count
+    pub choosing_none : next_complete (files table) from ≡ None → Chosen test table first selected most count
     choosing_none e = chosen_when (left_none test (files table) from (most - count) e)
 
     pub choosing_full : most ≤ count → Chosen test table first selected most count
@@ -110,7 +112,7 @@ module _ (test : ℕ → Bool) (table first : List ℕ) (most : ℕ) where
         let e : most - count ≡ 0 = omega arith in
         chosen_when (ap (λ (n : ℕ). left test n from (files table)) e)
 
-    module _ (p : ℕ) (found : next_complete (files table) from ≡ At p) (from' : ℕ) (later : from' ≡ uploaded (record_at table p)) where
+    module _ (p : ℕ) (found : next_complete (files table) from ≡ Some p) (from' : ℕ) (later : from' ≡ uploaded (record_at table p)) where
       pub choosing_less : count_above from' (times (files table)) < count_above from (times (files table))
       choosing_less =
           subst (λ (t : ℕ). count_above t (times (files table)) < count_above from (times (files table))) (sym (time_at_law table p from' later))
@@ -154,14 +156,6 @@ module _ (test : ℕ → Bool) (table first : List ℕ) (most : ℕ) where
 
 -- ---- the numbers written
 
-clear_next : (s : List ℕ) (i : ℕ) → i < length s → set (replicate i 0 ++ drop i s) i 0 ≡ replicate (suc i) 0 ++ drop (suc i) s
-clear_next [] i h = absurd (omega arith)
-clear_next (x ∷ s) zero h = refl
-clear_next (x ∷ s) (suc i) h = ap (λ (l : List ℕ). 0 ∷ l) (clear_next s i (omega arith))
-
-pub clear_step : (s : List ℕ) (i : ℕ) → i < length s → set (replicate i 0 ++ drop i s) i 0 ≡ replicate (i + 1) 0 ++ drop (i + 1) s
-clear_step s i h = rw add-one (clear_next s i h)
-
 pub zeros_drop : (n k : ℕ) (d : List ℕ) → k ≤ n → drop k (replicate n 0 ++ d) ≡ replicate (n - k) 0 ++ d
 zeros_drop n zero d h = let e : n - 0 ≡ n = omega arith in rw e
 zeros_drop zero (suc k) d h = absurd (omega arith)
@@ -203,17 +197,16 @@ select_room eq selected most e = go (leb 1 most && (leb most 50 && (leb most (le
 
 -- ---- the equation parsed
 
--- a part from the first number on
-pub part_take : (n : ℕ) (l : List ℕ) → take (n - 0) (drop 0 l) ≡ take n l
-part_take n l = let e : n - 0 ≡ n = omega arith in rw e
-
 -- an equation of up to 256 bytes, with as many numbers lent for its steps
-module _ (eq steps steps' : List ℕ) (p : Parsed) (e : parses p steps' ≡ parse_of eq steps) where
-  pub parsed_number : 256 ≤ length steps → length eq ≤ 256 → p.refused ≡ validity_of eq
-  parsed_number r h = judged eq steps steps' p e (λ l. omega arith)
+module _ (eq steps steps' : List ℕ) where
+  pub parsed_number : (r : Result ℕ Refusal) → parses (numbered r) steps' ≡ parse_of eq steps → 256 ≤ length steps → length eq ≤ 256 → number_of r ≡ validity_of eq
+  parsed_number (Ok count) e r h = sym (taken eq steps steps' count e).valid
+  parsed_number (Err refusal) e r h = (judged eq steps steps' (number refusal) e (λ l. omega arith)).number
 
-  pub parsed_steps : p.refused ≡ 0 → (p.count ≤ length steps') × (take p.count steps' ≡ steps_of eq)
-  parsed_steps z = let t = taken eq steps steps' p e z in (t.fits, sym (part_take p.count steps') ∙ t.listed)
+  pub parsed_steps : (r : Result ℕ Refusal) → parses (numbered r) steps' ≡ parse_of eq steps
+      → IfOk r (λ count. (count ≤ length steps') × (take count steps' ≡ steps_of eq))
+  parsed_steps (Ok count) e = let t = taken eq steps steps' count e in (t.fits, t.first)
+  parsed_steps (Err refusal) e = tt
 
 module _ (eq disk owner table selected : List ℕ) (most : ℕ) where
   pub chosen_most : length (chosen most eq disk owner table) ≤ most
@@ -221,18 +214,18 @@ module _ (eq disk owner table selected : List ℕ) (most : ℕ) where
 
   pub select_done : (r : ℕ) (selected' : List ℕ) → select_number eq (length selected) most ≡ 0 → r ≡ length (chosen most eq disk owner table)
       → selected' ≡ sets (replicate most 0 ++ drop most selected) 0 (numbers_at table (chosen most eq disk owner table))
-      → selects (record { refused = 0; count = r }) selected' ≡ select_of eq disk owner table selected most
+      → selects (Ok r) selected' ≡ select_of eq disk owner table selected most
   unfolding select_of
   select_done r selected' z e es =
       let k = select_number eq (length selected) most in
       let n : length (numbers_at table (chosen most eq disk owner table)) ≡ length (chosen most eq disk owner table) = length-map (chosen most eq disk owner table) (λ (place : ℕ). (record_at table place).number) in
       let w : selected' ≡ listed most (numbers_at table (chosen most eq disk owner table)) selected =
       es ∙ written most (numbers_at table (chosen most eq disk owner table)) (drop most selected) (omega (arith, chosen_most)) in
-      rw (e, w) (sym (done k _ (selects (record { refused = k; count = 0 }) selected) z))
+      rw (e, w) (sym (done k _ (selects (Err k) selected) z))
 
   pub select_refused : (r : ℕ) → r ≡ select_number eq (length selected) most → (r ≡ 0 → ⊥)
-      → selects (record { refused = r; count = 0 }) selected ≡ select_of eq disk owner table selected most
+      → selects (Err r) selected ≡ select_of eq disk owner table selected most
   unfolding select_of
   select_refused r e z =
       let k = select_number eq (length selected) most in
-      rw e (sym (refused k _ (selects (record { refused = k; count = 0 }) selected) (λ y. z (e ∙ y))))
+      rw e (sym (refused k _ (selects (Err k) selected) (λ y. z (e ∙ y))))

@@ -21,7 +21,7 @@ use Rattle.table.proofs.Ordering.{in_order_last}
 use Rattle.table.proofs.Keeping.{time_le, sound_completed}
 use Rattle.files.specs.View.{record_at, bytes_at, view_at}
 use Rattle.files.specs.Uploads.{after, place_number, Writes, writes}
-use Rattle.files.specs.Completion.{check_of, completed, complete_number, complete_of, destinations_at}
+use Rattle.files.specs.Completion.{check_of, completed, complete_number, complete_of, destinations_said, destinations_at}
 use Rattle.files.specs.Sound.{Sound, Sizes}
 use Rattle.files.proofs.Calls.{done, outcome_done, outcome_kept, after_first, after_second, after_none, place_is, place_held}
 use Rattle.files.proofs.Choice.{take_le}
@@ -41,10 +41,10 @@ module _ (map disk owner table : List ℕ) (last latest : ℕ) (s : Sound map ow
       ∙ ap (λ (t : Bool). cond t (verdict (bytes_at disk owner table p) f.size) 33) (disk_is disk owner z p b)
 
   -- and its destinations are those of its header
-  pub destinations_is : destinations_at disk owner table p ≡ (header_of 20 (bytes_at disk owner table p)).destinations
+  pub destinations_is : destinations_at disk owner table p ≡ destinations_said (header_of 20 (bytes_at disk owner table p))
   unfolding destinations_at header_at
   destinations_is =
-      ap (λ (t : Bool). (cond t (header_of 20 (bytes_at disk owner table p)) (refused_with 33)).destinations)
+      ap (λ (t : Bool). destinations_said (cond t (header_of 20 (bytes_at disk owner table p)) (refused_with 33)))
       (disk_is disk owner z p (place_most map owner table last latest s p file))
 
   pub check_whole : check_of disk owner table p ≡ 0 → (record_at table p).received ≡ (record_at table p).size

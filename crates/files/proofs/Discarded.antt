@@ -6,7 +6,7 @@ use Prim.Native.Nat.{ℕ, ◌+◌, ◌≤◌}
 use native.Mathlib.Omega.{arith}
 use lib.ListN.{length, set}
 use Rattle.blocks.specs.FreeMap.{free_count}
-use Rattle.blocks.specs.Owners.{blocks, counts_of}
+use Rattle.blocks.specs.Owners.{counts_of}
 use Rattle.blocks.specs.Contents.{held}
 use Rattle.blocks.specs.Answers.{release_number, release_map, release_owner}
 use Rattle.blocks.proofs.Owners.{counts_entry}

@@ -11,7 +11,7 @@ use lib.ListN.{length, take, get_or, get_or-map}
 use lib.Dec.{eqb, leb}
 use borrow.Author.Tests.{eqb-true, ne_eqb, le-leb}
 use Rattle.equation.specs.Answer.{answer_of}
-use Rattle.equation.specs.declared.evaluation.Truth.TheVariants.{Refused}
+use Rattle.std.proofs.Common.{Err}
 use Rattle.stored.specs.Answers.{truth_at}
 use Rattle.table.specs.declared.File.{File}
 use Rattle.table.specs.Table.{no_file, files, uploaded, numbers, times}
@@ -178,6 +178,6 @@ pub meets_is : (map eq disk owner table : List ℕ) (last latest : ℕ) → Soun
     → ((record_at table p).number ≡ 0 → ⊥) → meets_at eq disk owner table p ≡ is_yes (answer_of eq (bytes_at disk owner table p))
 unfolding truth_at
 meets_is map eq disk owner table last latest s z h p n =
-    ap (λ (t : Bool). is_yes (cond (leb (length eq) 256) (cond t (answer_of eq (bytes_at disk owner table p)) (Refused 33)) (Refused 33)))
+    ap (λ (t : Bool). is_yes (cond (leb (length eq) 256) (cond t (answer_of eq (bytes_at disk owner table p)) (Err 33)) (Err 33)))
     (disk_is disk owner z p (place_most map owner table last latest s p n))
-    ∙ ap (λ (t : Bool). is_yes (cond t (answer_of eq (bytes_at disk owner table p)) (Refused 33))) (le-leb (length eq) 256 h)
+    ∙ ap (λ (t : Bool). is_yes (cond t (answer_of eq (bytes_at disk owner table p)) (Err 33))) (le-leb (length eq) 256 h)

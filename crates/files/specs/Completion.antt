@@ -1,5 +1,6 @@
 -- A file checked and completed at DATA_END, and what its header says to a download (document 01, "Header at DATA_END", "Downlink").
-use Rattle.std.specs.Prelude.{ℕ, cond, List, eqb}
+use Rattle.std.specs.Prelude.{ℕ, Result, Ok, Err, cond, List, eqb}
+use Rattle.header.specs.declared.scan.Header.{Header}
 use Rattle.stored.specs.Answers.{check_at, header_at, set_number, set_disk}
 use Rattle.table.specs.declared.File.{File}
 use Rattle.table.specs.Table.{put_table}
@@ -27,6 +28,11 @@ complete_of disk owner table place time =
     (put_table table place (completed time (record_at table place))))
     (writes (complete_number disk owner place (record_at table place)) disk table)
 
+-- how many destinations a header has, 0 where it is refused
+abbrev pub destinations_said : Result Header ℕ → ℕ
+destinations_said (Ok header) = header.destinations
+destinations_said (Err n) = 0
+
 -- "14 hex is a destination": how many the file has, 0 where its header is refused
 unfoldable pub destinations_at : List ℕ → List ℕ → List ℕ → ℕ → ℕ
-destinations_at disk owner table place = (header_at disk owner place (record_at table place).received 20).destinations
+destinations_at disk owner table place = destinations_said (header_at disk owner place (record_at table place).received 20)

@@ -1,12 +1,8 @@
 -- A file begun, received and discarded (document 01, "Uplink", "Lost link"). Each definition gives the answer and what every lent slice
 -- holds afterwards; a refusal leaves all as it was.
-use Rattle.std.specs.Prelude.{ℕ, ◌+◌, cond, List, length, eqb, ltb}
+use Rattle.std.specs.Prelude.{ℕ, ◌+◌, cond, List, length, eqb, ltb, Option, Some, None}
 use Rattle.blocks.specs.Answers.{reserve_number, reserve_map, reserve_owner, release_number, release_map, release_owner, window_number, write_disk}
 use Rattle.table.specs.declared.File.{File}
-use Rattle.table.specs.declared.Found.{Found}
-use Rattle.table.specs.declared.Found.TheVariants.{Nothing, At}
-use Rattle.table.specs.declared.Given.{Given}
-use Rattle.table.specs.declared.Given.TheVariants.{UsedUp, Next}
 use Rattle.table.specs.Table.{no_file, files, put_table, free_of, free_number}
 use Rattle.table.specs.Given.{next_number, given_number, blocks_for}
 use Rattle.files.specs.declared.Begun.{Begun}
@@ -38,14 +34,14 @@ begin_at place number size map owner table =
     (begins (Refused (reserve_number map (length owner) place (blocks_for size))) map owner table)
 
 -- the lowest free place; 13 ".. or no free file place"
-unfoldable pub begin_in : Found → ℕ → ℕ → List ℕ → List ℕ → List ℕ → Begins
-begin_in Nothing number size map owner table = begins (Refused (free_number Nothing)) map owner table
-begin_in (At place) number size map owner table = begin_at place number size map owner table
+unfoldable pub begin_in : Option ℕ → ℕ → ℕ → List ℕ → List ℕ → List ℕ → Begins
+begin_in None number size map owner table = begins (Refused (free_number None)) map owner table
+begin_in (Some place) number size map owner table = begin_at place number size map owner table
 
 -- 3 "file numbers .. are used up"
-unfoldable pub begin_with : Given → ℕ → List ℕ → List ℕ → List ℕ → Begins
-begin_with UsedUp size map owner table = begins (Refused (given_number UsedUp)) map owner table
-begin_with (Next number) size map owner table = begin_in (free_of (files table)) number size map owner table
+unfoldable pub begin_with : Option ℕ → ℕ → List ℕ → List ℕ → List ℕ → Begins
+begin_with None size map owner table = begins (Refused (given_number None)) map owner table
+begin_with (Some number) size map owner table = begin_in (free_of (files table)) number size map owner table
 
 -- ".. and gets the number after the last one given"
 abbrev pub begin_of : List ℕ → List ℕ → List ℕ → ℕ → ℕ → Begins

@@ -8,8 +8,9 @@
 // what they do where it is sound: it stays sound, no file but the call's own changes, and the local refusals 33 and 35 do not appear.
 #![tactic(auto)]
 
-ghost use Rattle.std.specs.Prelude.{◌≡◌, ◌+◌, ◌≤◌, ◌<◌, cond, ◌++◌, length, set, take, drop, replicate};
+ghost use Rattle.std.specs.Prelude.{◌≡◌, ◌+◌, ◌≤◌, ◌<◌, IfOk, cond, ◌++◌, length, set, take, drop, replicate};
 ghost use Rattle.std.proofs.lemmas.List.Edits.{sets};
+ghost use Rattle.refusal.specs.Refusal.{number_of, numbered};
 ghost use Rattle.equation.specs.Parsed.{steps_of};
 ghost use Rattle.stored.specs.Answers.{truth_at};
 ghost use Rattle.table.specs.Table.{files, free_of};
@@ -18,8 +19,9 @@ ghost use Rattle.files.specs.Completion.{check_of, complete_of, destinations_at}
 ghost use Rattle.files.specs.Selection.{is_yes, numbers_at, chosen, select_number, selects, select_of};
 ghost use Rattle.files.specs.Sound.{sound_test};
 
-use equation::evaluation::{Parsed, Truth, parse};
-use table::{File, Found, Given};
+use equation::evaluation::parse;
+use refusal::Refusal;
+use table::File;
 
 // ---- a new file
 
@@ -44,9 +46,15 @@ fn begin_at(
     if 256 <= place {
         return Begun::Refused(33);
     }
-    let refused = blocks::reserve(map, owner, place as u16, table::blocks_for(size));
+    let refused = refusal::number_of(blocks::reserve(
+        map,
+        owner,
+        place as u16,
+        table::blocks_for(size),
+    ));
     if refused == 0 {
-        table::put(
+        // not refused: the place is one of the table
+        let _ = table::put(
             table,
             place,
             File {
@@ -67,8 +75,8 @@ fn begin_in(map: &mut [u64], owner: &mut [u16], table: &mut [u32], number: u32, 
 {
     let found = table::free_place(table);
     match found {
-        Found::Nothing => Begun::Refused(13),
-        Found::At(place) => begin_at(map, owner, table, place, number, size),
+        None => Begun::Refused(13),
+        Some(place) => begin_at(map, owner, table, place, number, size),
     }
 }
 
@@ -79,8 +87,8 @@ pub fn begin(map: &mut [u64], owner: &mut [u16], table: &mut [u32], last: u32, s
 {
     let given = table::next_number(last);
     match given {
-        Given::UsedUp => Begun::Refused(3),
-        Given::Next(number) => begin_in(map, owner, table, number, size),
+        None => Begun::Refused(3),
+        Some(number) => begin_in(map, owner, table, number, size),
     }
 }
 
@@ -127,10 +135,17 @@ pub fn append(disk: &mut [u8], owner: &[u16], table: &mut [u32], place: usize, b
     if over != 0 {
         return over;
     }
-    let wrote = blocks::write(disk, owner, place as u16, file.received as usize, bytes);
+    let wrote = refusal::number_of(blocks::write(
+        disk,
+        owner,
+        place as u16,
+        file.received as usize,
+        bytes,
+    ));
     if wrote == 0 {
         let more = bytes.len() as u32;
-        table::put(
+        // not refused: the place is one of the table
+        let _ = table::put(
             table,
             place,
             File {
@@ -155,9 +170,10 @@ pub fn discard(map: &mut [u64], owner: &mut [u16], table: &mut [u32], place: usi
     if refused != 0 {
         return refused;
     }
-    let released = blocks::release(map, owner, place as u16);
+    let released = refusal::number_of(blocks::release(map, owner, place as u16));
     if released == 0 {
-        table::put(
+        // not refused: the place is one of the table
+        let _ = table::put(
             table,
             place,
             File {
@@ -182,7 +198,7 @@ pub fn check(disk: &[u8], owner: &[u16], table: &[u32], place: usize) -> u8
     if refused != 0 {
         return refused;
     }
-    stored::check(disk, owner, place as u16, file.received as usize, file.size)
+    refusal::number_of(stored::check(disk, owner, place as u16, file.received as usize, file.size))
 }
 
 // Sets the four fields in the file's header and the upload time in its record: 0. Where the items are refused nothing changes.
@@ -194,16 +210,17 @@ pub fn complete(disk: &mut [u8], owner: &[u16], table: &mut [u32], place: usize,
     if refused != 0 {
         return refused;
     }
-    let done = stored::set_fields(
+    let done = refusal::number_of(stored::set_fields(
         disk,
         owner,
         place as u16,
         file.received as usize,
         file.number,
         time,
-    );
+    ));
     if done == 0 {
-        table::put(
+        // not refused: the place is one of the table
+        let _ = table::put(
             table,
             place,
             File {
@@ -218,6 +235,7 @@ pub fn complete(disk: &mut [u8], owner: &[u16], table: &mut [u32], place: usize,
 }
 
 // The number of the file's destinations, 0 where its header is refused.
+#[tactic(auto, using(crate::proofs::Calls::destinations_past), unfolding(crate::specs::Completion::destinations_at))]
 pub fn destinations(disk: &[u8], owner: &[u16], table: &[u32], place: usize) -> usize
     ensures { result ≡ destinations_at disk.now owner.now table.now place }
 {
@@ -225,18 +243,13 @@ pub fn destinations(disk: &[u8], owner: &[u16], table: &[u32], place: usize) -> 
         return 0;
     }
     let file = table::get(table, place);
-    let header = stored::read_header(disk, owner, place as u16, file.received as usize, 20);
-    header.destinations
+    match stored::read_header(disk, owner, place as u16, file.received as usize, 20) {
+        Ok(header) => header.destinations,
+        Err(_) => 0,
+    }
 }
 
 // ---- a selection
-
-// The number of a refusal, 0 for none, and how many files were selected.
-#[derive(Clone, Copy)]
-pub struct Selection {
-    pub refused: u8,
-    pub count: usize,
-}
 
 // Whether the equation is true on the file at a place; the steps are the equation's.
 fn meets(eq: &[u8], steps: &[u16], disk: &[u8], owner: &[u16], place: usize, received: u32) -> bool
@@ -247,11 +260,7 @@ fn meets(eq: &[u8], steps: &[u16], disk: &[u8], owner: &[u16], place: usize, rec
         return false;
     }
     let truth = stored::truth(eq, steps, disk, owner, place as u16, received as usize);
-    match truth {
-        Truth::No => false,
-        Truth::Yes => true,
-        Truth::Refused(_) => false,
-    }
+    truth.unwrap_or(false)
 }
 
 // Writes the number of a file that is selected, and answers how many numbers are there now.
@@ -272,11 +281,7 @@ fn clear(selected: &mut [u32], most: usize)
     requires { most ≤ length selected.old }
     ensures { selected.new ≡ replicate most 0 ++ drop most selected.old }
 {
-    let mut i = 0;
-    while i < most {
-        selected[i] = 0;
-        i += 1;
-    }
+    selected[..most].fill(0);
 }
 
 // Goes through the complete files, oldest first, until `most` are found; each header is read at most once, and the equation by its steps.
@@ -295,11 +300,12 @@ fn choose(
 {
     let mut count: usize = 0;
     let mut after: u32 = 0;
+    // a `while`: each turn goes on after the file that it looked at, and only a file that meets the equation counts
     while count < most {
         let next = table::next_complete(table, after);
         match next {
-            Found::Nothing => return count,
-            Found::At(place) => {
+            None => return count,
+            Some(place) => {
                 let file = table::get(table, place);
                 let met = meets(eq, steps, disk, owner, place, file.received);
                 count = note(selected, count, file.number, met);
@@ -312,34 +318,14 @@ fn choose(
 
 // Parses the equation of a SELECT. 33 for a MAXSEL outside 1 to 50, too few numbers lent or more equation bytes than the server accepts; 8 for
 // an equation refused.
-fn select_parse(eq: &[u8], n: usize, most: usize, steps: &mut [u16]) -> Parsed
+#[tactic(auto, unfolding(crate::specs::Selection::select_number))]
+fn select_parse(eq: &[u8], n: usize, most: usize, steps: &mut [u16]) -> Result<usize, Refusal>
     requires { 256 ≤ length steps.old }
-    ensures refused_value { result.refused ≡ select_number eq.now n most }
-    ensures count_in_bounds { result.refused ≡ 0 → (result.count ≤ length steps.new) × (take result.count steps.new ≡ steps_of eq.now) }
+    ensures refused_value { number_of result ≡ select_number eq.now n most }
+    ensures count_in_bounds { IfOk result (λ count. (count ≤ length steps.new) × (take count steps.new ≡ steps_of eq.now)) }
 {
-    if most < 1 {
-        return Parsed {
-            refused: 33,
-            count: 0,
-        };
-    }
-    if 50 < most {
-        return Parsed {
-            refused: 33,
-            count: 0,
-        };
-    }
-    if n < most {
-        return Parsed {
-            refused: 33,
-            count: 0,
-        };
-    }
-    if 256 < eq.len() {
-        return Parsed {
-            refused: 33,
-            count: 0,
-        };
+    if most < 1 || 50 < most || n < most || 256 < eq.len() {
+        return Err(Refusal::BadSize);
     }
     parse(eq, steps)
 }
@@ -353,21 +339,13 @@ pub fn select(
     table: &[u32],
     selected: &mut [u32],
     most: usize,
-) -> Selection
-    ensures { selects result selected.new ≡ select_of eq.now disk.now owner.now table.now selected.old most }
+) -> Result<usize, Refusal>
+    ensures { selects (numbered result) selected.new ≡ select_of eq.now disk.now owner.now table.now selected.old most }
 {
     let mut steps = [0u16; 256];
-    let parsed = select_parse(eq, selected.len(), most, &mut steps);
-    if parsed.refused == 0 {
-        let n = parsed.count;
-        clear(selected, most);
-        let count = choose(eq, &steps[0..n], disk, owner, table, selected, most);
-        return Selection { refused: 0, count };
-    }
-    Selection {
-        refused: parsed.refused,
-        count: 0,
-    }
+    let n = select_parse(eq, selected.len(), most, &mut steps)?;
+    clear(selected, most);
+    Ok(choose(eq, &steps[..n], disk, owner, table, selected, most))
 }
 
 // ---- the store as a whole

@@ -1,4 +1,5 @@
 -- THEOREM: the right sheet of a readable script, its lines within the desk's buffer, gets full marks (specs/Promises.antt). Assumes nothing.
+use Rattle.std.proofs.Common.{Option, None, Some}
 use native.Mathlib.Omega.{arith}
 use mathlib.Core.Path.{◌≡◌, refl, sym, ◌∙◌, ap}
 use mathlib.Core.Bool.{Bool, true, false, cond}
@@ -11,8 +12,6 @@ use Rattle.history.specs.Calls.{Start, made}
 use Rattle.packet.specs.Names.{bytes_of}
 use Rattle.server.specs.State.{Lent}
 use Rattle.lines.specs.declared.commands.Command.TheVariants as command
-use Rattle.lines.specs.declared.commands.Number.{Number}
-use Rattle.lines.specs.declared.commands.Number.TheVariants as number
 use Rattle.lines.specs.Commands.{onto, fields_of, same, number_in, command_of_two, command_of_three, command_of_fields, command_of}
 use Rattle.lines.specs.Numerals as lines
 use Rattle.lines.specs.Numerals.{is_hex}
@@ -84,10 +83,10 @@ drop_other = refl
 is_other : (name word : List ℕ) → same name word ≡ true → same word (bytes_of "rx") ≡ false → same name (bytes_of "rx") ≡ false
 is_other name word e f = ap (λ (x : List ℕ). same x (bytes_of "rx")) (same_equal name word e) ∙ f
 
-two_readable : (name : List ℕ) (n : Number) → readable (command_of_two name n) ≡ true → same name (bytes_of "rx") ≡ false
+two_readable : (name : List ℕ) (n : Option ℕ) → readable (command_of_two name n) ≡ true → same name (bytes_of "rx") ≡ false
 unfolding command_of_two readable
-two_readable name number.Bad e = absurd (clash e)
-two_readable name (number.Value v) e =
+two_readable name None e = absurd (clash e)
+two_readable name (Some v) e =
     go (same name (bytes_of "time")) refl (same name (bytes_of "open")) refl (same name (bytes_of "drop")) refl e
   where
     go : (a : Bool) → same name (bytes_of "time") ≡ a → (b : Bool) → same name (bytes_of "open") ≡ b → (d : Bool) → same name (bytes_of "drop") ≡ d
@@ -98,10 +97,10 @@ two_readable name (number.Value v) e =
     go false f false g true h e = is_other name (bytes_of "drop") h drop_other
     go false f false g false h e = absurd (clash e)
 
-three_readable : (name : List ℕ) (n : Number) (hex : List ℕ) → readable (command_of_three name n hex) ≡ true → same name (bytes_of "rx") ≡ true
+three_readable : (name : List ℕ) (n : Option ℕ) (hex : List ℕ) → readable (command_of_three name n hex) ≡ true → same name (bytes_of "rx") ≡ true
 unfolding command_of_three readable
-three_readable name number.Bad hex e = absurd (clash e)
-three_readable name (number.Value v) hex e = go (same name (bytes_of "rx")) (is_hex hex) e
+three_readable name None hex e = absurd (clash e)
+three_readable name (Some v) hex e = go (same name (bytes_of "rx")) (is_hex hex) e
   where
     go : (a b : Bool) → readable (cond a (cond b (command.Rx v (length (lines.bytes_in hex))) command.Unreadable) command.Unreadable) ≡ true → a ≡ true
     go true b e = refl

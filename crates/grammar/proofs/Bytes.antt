@@ -23,7 +23,7 @@ use Rattle.equation.specs.Symbols as symbol
 use Rattle.equation.specs.Tree.{pushed, joined, result, bind, run, Tree, parse, truth, truth_on}
 use Rattle.equation.specs.Tree as tree
 use Rattle.equation.specs.Answer.{answer_of, validity_of}
-use Rattle.equation.specs.declared.evaluation.Truth.TheVariants.{No, Yes}
+use Rattle.std.proofs.Common.{Ok}
 use Rattle.equation.specs.declared.tokens.Token.{Token}
 use Rattle.equation.specs.declared.tokens.Token.TheVariants.{Rel}
 use Rattle.equation.proofs.Trees.{valid, answer_truth}
@@ -330,5 +330,5 @@ module _ (text : List ℕ) (f : Formula) (r : Reads text f) (n : length (postfix
   text_valid = valid (postfix f) (omega arith) (tree_from 0 f) text_parsed
 
   -- and their truth on every file is the text's
-  pub text_truth : (file : List ℕ) → answer_of (postfix f) file ≡ cond (true_on (fields_of file) f) Yes No
+  pub text_truth : (file : List ℕ) → answer_of (postfix f) file ≡ Ok (true_on (fields_of file) f)
   text_truth file = answer_truth (postfix f) (omega arith) (λ k x. holds x (fields_of file)) (tree_from 0 f) text_parsed ∙ rw (truth_same (fields_of file) f 0)

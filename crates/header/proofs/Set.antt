@@ -1,5 +1,5 @@
 -- Laws on the fields that the server sets: where they are, that they read back, and that the file is still accepted. Assumes nothing.
-use Rattle.std.proofs.Common.{◌≡◌, ℕ, zero, suc, ◌+◌, ◌-◌, ◌%◌, ◌<◌, ◌≤◌, Bool, true, false, cond, eqb, ltb, leb, ◌⊎◌, List, [], ◌∷◌, ◌++◌, length, get_or, take, drop, set, replicate, sym, refl, ap, ◌∙◌, subst, ap₂, ⊎_elim, arith, length-append, get_or-set_other, ltb-false, ltb-true, eq-eqb, ne_eqb, eqb-true, leb-true}
+use Rattle.std.proofs.Common.{◌≡◌, ℕ, zero, suc, ◌+◌, ◌-◌, ◌%◌, ◌<◌, ◌≤◌, Bool, true, false, cond, eqb, ltb, leb, ◌⊎◌, List, [], ◌∷◌, ◌++◌, length, get_or, take, drop, set, replicate, Result, Ok, Err, sym, refl, ap, ◌∙◌, subst, ap₂, ⊎_elim, arith, length-append, get_or-set_other, ltb-false, ltb-true, eq-eqb, ne_eqb, eqb-true, leb-true}
 use lib.Seq.{sets, length-sets, take-append_seam}
 use borrow.Author.Tests.{eqb-false}
 use Rattle.numbers.specs.Numbers.{number, two, four, stored_at}
@@ -759,13 +759,23 @@ no_row upload (suc k) (row ∷ rows) h = no_row upload k rows (omega arith)
 
 -- ---- the header read, by its parts
 
-pub header_refusal : (w : ℕ) (file : List ℕ) → (header_of w file).refusal ≡ check_items file
+-- the number in an answer, 0 where nothing is refused
+abbrev number_in : {A : Type 0} → Result A ℕ → ℕ
+number_in (Ok a) = 0
+number_in (Err n) = n
+
+-- the header in an answer, or another
+abbrev header_or : Header → Result Header ℕ → Header
+header_or other (Ok h) = h
+header_or other (Err n) = other
+
+header_number : (w : ℕ) (file : List ℕ) → number_in (header_of w file) ≡ check_items file
 unfolding header_of
-header_refusal w file = go (eqb (check_items file) 0) refl
+header_number w file = go (eqb (check_items file) 0) refl
   where
     go : (b : Bool)
         → eqb (check_items file) 0 ≡ b
-        → (cond b (record { refusal = 0; size = header_length file; sum = header_sum file; destinations = times 20 (fields_of file); place = place_of w file }) (refused_with (check_items file))).refusal
+        → number_in (cond b (Ok (record { size = header_length file; sum = header_sum file; destinations = times 20 (fields_of file); place = place_of w file })) (refused_with (check_items file)))
         ≡ check_items file
     go true e = sym (eqb-true (check_items file) 0 e)
     go false e = refl
@@ -773,15 +783,27 @@ header_refusal w file = go (eqb (check_items file) 0) refl
 pub header_passed : (w : ℕ) (file : List ℕ)
     → check_items file ≡ 0
     → header_of w file
-    ≡ record { refusal = 0; size = header_length file; sum = header_sum file; destinations = times 20 (fields_of file); place = place_of w file }
+    ≡ Ok (record { size = header_length file; sum = header_sum file; destinations = times 20 (fields_of file); place = place_of w file })
 unfolding header_of
 header_passed w file e = rw e
 
--- a header read that is not refused, and names where upload_time is
-pub settable_of : (file : List ℕ) (h : Header) → h ≡ header_of 18 file → h.refusal ≡ 0 → Settable file h.place.at
-settable_of file h a z =
-    let e : check_items file ≡ 0 = sym (header_refusal 18 file) ∙ ap (λ (x : Header). x.refusal) (sym a) ∙ z in
-    record { items = e; place = ap (λ (x : Header). x.place.at) (a ∙ header_passed 18 file e) }
+-- a header that is refused is so by the number of its items' refusal
+pub header_refused : (w n : ℕ) (file : List ℕ) → Err n ≡ header_of w file → n ≡ check_items file
+header_refused w n file a = ap number_in a ∙ header_number w file
+
+-- a header that is read is not refused, and says what its definition says
+pub header_accepted : (w : ℕ) (file : List ℕ) (h : Header) → Ok h ≡ header_of w file → check_items file ≡ 0
+header_accepted w file h a = sym (header_number w file) ∙ ap number_in (sym a)
+
+pub header_read : (w : ℕ) (file : List ℕ) (h : Header)
+    → Ok h ≡ header_of w file
+    → h ≡ record { size = header_length file; sum = header_sum file; destinations = times 20 (fields_of file); place = place_of w file }
+header_read w file h a = ap (header_or h) (a ∙ header_passed w file (header_accepted w file h a))
+
+-- a header that is read names where upload_time is
+pub settable_of : (file : List ℕ) (h : Header) → Ok h ≡ header_of 18 file → Settable file h.place.at
+settable_of file h a =
+    record { items = header_accepted 18 file h a; place = ap (λ (x : Header). x.place.at) (header_read 18 file h a) }
 
 -- header_checksum lies inside the file
 pub sum_inside : (file : List ℕ) → Bytes file → check_items file ≡ 0 → 65 ≤ length file
@@ -791,20 +813,29 @@ sum_inside file v e =
     omega arith
 
 -- THE LAW of the sum: what a setter does that has stored the rows, reads the header and stores its sum
-pub sum_step : (n t w : ℕ) (file f₁ f₂ : List ℕ) (k : Header)
+pub sum_step : (n t : ℕ) (file f₁ f₂ : List ℕ) (k : ℕ)
     → Bytes file
     → check_items file ≡ 0
     → f₁ ≡ with_fields (server_set n t) file
-    → k ≡ header_of w f₁
-    → f₂ ≡ stored_at f₁ 63 (two k.sum)
+    → k ≡ header_sum f₁
+    → f₂ ≡ stored_at f₁ 63 (two k)
     → f₂ ≡ fields_set n t file
-sum_step n t w file f₁ f₂ k v e r b d =
+sum_step n t file f₁ f₂ k v e r m d =
     let u = set_stored n t file v e in
     let q = subst (λ (l : List ℕ). Stamped n t file l) (sym (r ∙ u.rows)) u in
-    let m : k.sum ≡ header_sum f₁ = ap (λ (x : Header). x.sum) (b ∙ header_passed w f₁ q.check) in
     let s = sum_inside file v e in
     let l = ap length r ∙ with_length (server_set n t) file in
-    d ∙ stored_at_law f₁ 63 (two k.sum) (omega arith) ∙ ap (λ (x : ℕ). sets f₁ 63 (two x)) m ∙ sym q.set
+    d ∙ stored_at_law f₁ 63 (two k) (omega arith) ∙ ap (λ (x : ℕ). sets f₁ 63 (two x)) m ∙ sym q.set
+
+-- the items are still not refused once the rows are stored
+pub still_accepted : (n t : ℕ) (file f₁ : List ℕ)
+    → Bytes file
+    → check_items file ≡ 0
+    → f₁ ≡ with_fields (server_set n t) file
+    → check_items f₁ ≡ 0
+still_accepted n t file f₁ v e r =
+    let u = set_stored n t file v e in
+    (subst (λ (l : List ℕ). Stamped n t file l) (sym (r ∙ u.rows)) u).check
 
 -- ---- which bytes change
 

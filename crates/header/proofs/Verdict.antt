@@ -1,5 +1,5 @@
 -- The byte machine's answers are those of specs/Header.antt. Assumes nothing.
-use Rattle.std.proofs.Common.{◌≡◌, ℕ, zero, suc, ◌+◌, ◌-◌, ◌/◌, ◌%◌, ◌<◌, ◌≤◌, Bool, true, false, cond, eqb, ltb, leb, List, [], ◌∷◌, ◌++◌, length, take, drop, sym, refl, ap, ◌∙◌, subst, ap₂, arith, length-append, eqb-true, leb-true}
+use Rattle.std.proofs.Common.{◌≡◌, ℕ, zero, suc, ◌+◌, ◌-◌, ◌/◌, ◌%◌, ◌<◌, ◌≤◌, Bool, true, false, cond, eqb, ltb, leb, List, [], ◌∷◌, ◌++◌, length, take, drop, Ok, sym, refl, ap, ◌∙◌, subst, ap₂, arith, length-append, eqb-true, leb-true}
 use lib.Seq.{take-append_seam, drop-append_seam}
 use Rattle.numbers.specs.Numbers.{number}
 use Rattle.header.specs.Items.{Field, walk, marked, fields_of}
@@ -453,8 +453,8 @@ module _ (w : ℕ) (file : List ℕ) (v : Bytes file) (h : length file < 1844674
           → (check_items file ≡ 0 → Same w file s)
           → (t : Bool)
           → eqb (check_items file) 0 ≡ t
-          → cond t (record { refusal = 0; size = s.passed.pos; sum = scan_sum s.passed s.seen; destinations = s.seen.destinations; place = s.seen.place }) (refused_with (check_items file))
-          ≡ cond t (record { refusal = 0; size = header_length file; sum = header_sum file; destinations = times 20 (fields_of file); place = place_of w file }) (refused_with (check_items file))
+          → cond t (Ok (record { size = s.passed.pos; sum = scan_sum s.passed s.seen; destinations = s.seen.destinations; place = s.seen.place })) (refused_with (check_items file))
+          ≡ cond t (Ok (record { size = header_length file; sum = header_sum file; destinations = times 20 (fields_of file); place = place_of w file })) (refused_with (check_items file))
       go s r true e =
           let q = r (eqb-true (check_items file) 0 e) in rw (q.size, q.sum, q.destinations, q.place)
       go s r false e = refl
@@ -462,3 +462,8 @@ module _ (w : ℕ) (file : List ℕ) (v : Bytes file) (h : length file < 1844674
   -- and so for the scan of the header's bytes alone
   pub header_only : scan_header (header_from (start_of w) file) ≡ header_of w file
   header_only = ap scan_header (header_scan (start_of w) file) ∙ headed_header 0 (scan_from (start_of w) file) ∙ header_scanned
+
+  -- the sum of the header's bytes alone, where the items are not refused
+  pub sum_only : check_items file ≡ 0
+      → scan_sum (header_from (start_of w) file).passed (header_from (start_of w) file).seen ≡ header_sum file
+  sum_only e = ap (λ (s : Scan). scan_sum s.passed s.seen) (header_scan (start_of w) file) ∙ (reading.same e).sum

@@ -1,5 +1,5 @@
 -- The file header and the checks at DATA_END (document 01, "Header at DATA_END"), over the bytes of a file. Assumes nothing.
-use Rattle.std.specs.Prelude.{ℕ, ◌+◌, ◌-◌, ◌%◌, Bool, true, false, cond, leb, List, [], ◌∷◌, length, take, drop, ◌==◌, nat_eq, nat_le, nat_lt}
+use Rattle.std.specs.Prelude.{ℕ, ◌+◌, ◌-◌, ◌%◌, Result, Ok, Err, Bool, true, false, cond, leb, List, [], ◌∷◌, length, take, drop, ◌==◌, nat_eq, nat_le, nat_lt}
 use Rattle.numbers.specs.Numbers.{number}
 use Rattle.header.specs.Items.{Field, head_number, walk, marked, fields_of}
 use Rattle.header.specs.declared.items.Head.TheVariants.{Broken}
@@ -122,13 +122,13 @@ abbrev pub place_of : ℕ → List ℕ → Place
 place_of i file = place_from i 2 (fields_of file)
 
 -- nothing where the items are refused
-abbrev pub refused_with : ℕ → Header
-refused_with n = record { refusal = n; size = 0; sum = 0; destinations = 0; place = nowhere }
+abbrev pub refused_with : ℕ → Result Header ℕ
+refused_with n = Err n
 
 -- the header's length and sum, how many destinations, and the place of the first item with the wanted id
-unfoldable pub header_of : ℕ → List ℕ → Header
+unfoldable pub header_of : ℕ → List ℕ → Result Header ℕ
 header_of want file =
     cond (check_items file == 0)
-    (record
-    { refusal = 0; size = header_length file; sum = header_sum file; destinations = destinations_of (fields_of file); place = place_of want file })
+    (Ok (record
+    { size = header_length file; sum = header_sum file; destinations = destinations_of (fields_of file); place = place_of want file }))
     (refused_with (check_items file))

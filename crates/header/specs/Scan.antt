@@ -1,5 +1,5 @@
 -- The byte machine that reads a header, a byte at a time, wherever the bytes come from. Assumes nothing.
-use Rattle.std.specs.Prelude.{ℕ, ◌+◌, ◌-◌, ◌*◌, ◌/◌, ◌%◌, Bool, true, false, cond, List, [], ◌∷◌, ◌==◌, nat_le, nat_lt}
+use Rattle.std.specs.Prelude.{ℕ, ◌+◌, ◌-◌, ◌*◌, ◌/◌, ◌%◌, Result, Ok, Bool, true, false, cond, List, [], ◌∷◌, ◌==◌, nat_le, nat_lt}
 use Rattle.header.specs.Header.{length_fits, nowhere, refused_with}
 use Rattle.header.specs.declared.scan.Phase.{Phase}
 use Rattle.header.specs.declared.scan.Phase.TheVariants.{First, Second, Low, High, Length, Inside, Body, Broken, Unmarked}
@@ -208,14 +208,13 @@ scan_verdict s got announced =
     (cond (item_refusal s == 0) (value_refusal s.passed s.seen s.body announced) (item_refusal s))
 
 -- what the header says, as `header_of`
-unfoldable pub scan_header : Scan → Header
+unfoldable pub scan_header : Scan → Result Header ℕ
 scan_header s =
     cond (item_refusal s == 0)
-    (record {
-      refusal = 0;
+    (Ok (record {
       size = s.passed.pos;
       sum = scan_sum s.passed s.seen;
       destinations = s.seen.destinations;
       place = s.seen.place;
-    })
+    }))
     (refused_with (item_refusal s))

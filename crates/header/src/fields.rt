@@ -20,19 +20,11 @@ pub const ROWS: usize = 4;
 fn number_row(at: usize, n: u32) -> FieldRow
     ensures { result ≡ row_of at (four n) }
 {
+    let [a, b, c, d] = n.to_le_bytes();
     FieldRow {
-        at: at,
+        at,
         size: 4,
-        bytes: [
-            (n % 256) as u8,
-            (n / 256 % 256) as u8,
-            (n / 65536 % 256) as u8,
-            (n / 16777216 % 256) as u8,
-            0,
-            0,
-            0,
-            0,
-        ],
+        bytes: [a, b, c, d, 0, 0, 0, 0],
     }
 }
 
@@ -41,7 +33,7 @@ fn name_row(at: usize, time: u32) -> FieldRow
     ensures { result ≡ row_of at (eight time) }
 {
     FieldRow {
-        at: at,
+        at,
         size: 8,
         bytes: [
             hex_digit((time / 268435456 % 16) as u8),
@@ -58,24 +50,19 @@ fn name_row(at: usize, time: u32) -> FieldRow
 
 // Row k of the table: file_number, file_name, last_modified_time, upload_time; past the last one a row of no bytes. In a header that DATA_END does not
 // refuse 01 to 0b have fixed places, and upload_time's data is at byte `upload`.
+#[tactic(auto, using(crate::proofs::Set::no_row), unfolding(crate::specs::Fields::row_at, crate::specs::Fields::place_in, crate::specs::Fields::before, crate::specs::Header::listed, crate::specs::Header::length_in))]
 pub fn row_at(k: usize, number: u32, time: u32, upload: usize) -> FieldRow
     ensures { result ≡ row_at upload k (server_set number time) }
 {
-    if k == 0 {
-        return number_row(5, number);
-    }
-    if k == 1 {
-        return name_row(12, time);
-    }
-    if k == 2 {
-        return number_row(43, time);
-    }
-    if k == 3 {
-        return number_row(upload, time);
-    }
-    FieldRow {
-        at: 0,
-        size: 0,
-        bytes: [0; 8],
+    match k {
+        0 => number_row(5, number),
+        1 => name_row(12, time),
+        2 => number_row(43, time),
+        3 => number_row(upload, time),
+        _ => FieldRow {
+            at: 0,
+            size: 0,
+            bytes: [0; 8],
+        },
     }
 }

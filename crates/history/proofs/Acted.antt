@@ -21,8 +21,7 @@ use Rattle.session.specs.State.{with_up, with_down, with_next, with_selection}
 use Rattle.session.specs.Expected.{takes_command}
 use Rattle.blocks.proofs.Owners.{blocks_le}
 use Rattle.table.specs.declared.File.{File}
-use Rattle.table.specs.declared.Given.{Given}
-use Rattle.table.specs.declared.Given.TheVariants.{UsedUp, Next}
+use Rattle.std.proofs.Common.{Option, Some, None}
 use Rattle.table.specs.Table.{no_file, files, numbers, uploaded}
 use Rattle.table.specs.Given.{next_number, upload_time}
 use Rattle.table.proofs.Finding.{find_own}
@@ -222,10 +221,10 @@ module _ (links : List Session) (most : ℕ) (m : Mem) (s : Session) (last : Las
         quiet _ (ap (λ (x : uploads.Begins). x.table) (begin_kept m.map m.owner m.table last.number size n e)) refl refl r
     begun (Started p) e = begun_new p (begin_leaves m.map m.owner m.table last.number last.time stored.sound size p e)
 
-  begin_done : (size : ℕ) (g : Given) → Done (on_frees m (upload.begin_with g s last size m.map m.owner m.table))
+  begin_done : (size : ℕ) (g : Option ℕ) → Done (on_frees m (upload.begin_with g s last size m.map m.owner m.table))
   unfolding upload.begin_with upload.begun_as on_frees
-  begin_done size UsedUp = quiet _ refl refl refl r
-  begin_done size (Next number) = begun size number (b size number).answer refl
+  begin_done size None = quiet _ refl refl refl r
+  begin_done size (Some number) = begun size number (b size number).answer refl
 
   resume_done : (place number received : ℕ) → Resumes (files m.table) links place received
       → Done (turned (upload.resume_turn s last place number received) m)
@@ -343,10 +342,10 @@ module _ (links : List Session) (most : ℕ) (m : Mem) (s : Session) (last : Las
         (λ e. ended _ (complete_other time) own_idle tt (λ h. refl) (reads_then up.Idle))
         (λ e. ended _ (complete_other time) own_idle tt (λ h. refl) (reads_then up.Idle))
 
-    timed_done : (g : Given) → Done (on_moves m (upload.finish_as (upload.timed g) s last place m.disk m.map m.owner m.table))
+    timed_done : (g : Option ℕ) → Done (on_moves m (upload.finish_as (upload.timed g) s last place m.disk m.map m.owner m.table))
     unfolding upload.finish_as upload.timed
-    timed_done UsedUp = rejected_done 3
-    timed_done (Next time) = accepted_done time
+    timed_done None = rejected_done 3
+    timed_done (Some time) = accepted_done time
 
     finish_done : (clock : ℕ) → Done (on_moves m (upload.finish_turn s last place clock m.disk m.map m.owner m.table))
     unfolding upload.finish_as upload.judged_at

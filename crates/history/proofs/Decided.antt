@@ -20,8 +20,7 @@ use Rattle.session.specs.declared.state.Listed.{Listed}
 use Rattle.session.specs.declared.state.Listed.TheVariants as listed
 use Rattle.session.specs.Expected.{takes_command, expected_down, expected}
 use Rattle.table.specs.declared.File.{File}
-use Rattle.table.specs.declared.Found.{Found}
-use Rattle.table.specs.declared.Found.TheVariants.{Nothing, At}
+use Rattle.std.proofs.Common.{Option, Some, None}
 use Rattle.table.specs.Table.{file_at, find_of}
 use Rattle.table.proofs.Finding.{find_found, find_number_law}
 use Rattle.links.specs.Sound.{link}
@@ -136,10 +135,10 @@ module _ (fs : List File) (links : List Session) (s : Session) (size : ℕ) wher
 
   -- ---- the uplink
 
-  continued_fit : (f : Found) (number total : ℕ) → find_of fs number ≡ f → P (on_continued f number total links fs)
+  continued_fit : (f : Option ℕ) (number total : ℕ) → find_of fs number ≡ f → P (on_continued f number total links fs)
   unfolding on_continued
-  continued_fit Nothing number total e = tt
-  continued_fit (At place) number total e =
+  continued_fit None number total e = tt
+  continued_fit (Some place) number total e =
       picked P (eqb (file_at fs place).time 0) _ _
       (λ t.
       picked P (eqb (file_at fs place).size total) _ _
@@ -192,10 +191,10 @@ module _ (fs : List File) (links : List Session) (s : Session) (size : ℕ) wher
 
   -- a file found, as the downlink names it
   module _ (selected : List ℕ) (most : ℕ) (r : Reads fs most selected s) where
-    found_fit : (f : Found) (number offset lock passed : ℕ) → find_of fs number ≡ f → passed ≤ s.count → P (on_found f offset lock passed fs)
+    found_fit : (f : Option ℕ) (number offset lock passed : ℕ) → find_of fs number ≡ f → passed ≤ s.count → P (on_found f offset lock passed fs)
     unfolding on_found
-    found_fit Nothing number offset lock passed e h = tt
-    found_fit (At place) number offset lock passed e h =
+    found_fit None number offset lock passed e h = tt
+    found_fit (Some place) number offset lock passed e h =
         picked P (eqb (file_at fs place).time 0) _ _ (λ t. tt)
         (λ t.
         picked P (ltb (file_at fs place).size offset) _ _ (λ z. tt)
@@ -230,10 +229,10 @@ module _ (fs : List File) (links : List Session) (s : Session) (size : ℕ) wher
     download_fit info =
         picked P (eqb size 9) _ _ (λ e. numbered_fit (word_at info 0) (word_at info 4) (get_or info 8 0)) (λ e. tt)
 
-    list_found_fit : (f : Found) (number : ℕ) (long : Bool) → find_of fs number ≡ f → P (list_found f long s.next fs)
+    list_found_fit : (f : Option ℕ) (number : ℕ) (long : Bool) → find_of fs number ≡ f → P (list_found f long s.next fs)
     unfolding list_found
-    list_found_fit Nothing number long e = tt
-    list_found_fit (At place) number long e =
+    list_found_fit None number long e = tt
+    list_found_fit (Some place) number long e =
         picked P (eqb (file_at fs place).time 0) _ _ (λ t. tt)
         (λ t.
         record {

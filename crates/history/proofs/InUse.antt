@@ -16,8 +16,7 @@ use Rattle.session.specs.declared.reply.Reply.TheVariants.{UploadError}
 use Rattle.session.specs.State.{closed_session}
 use Rattle.session.specs.Expected.{expected}
 use Rattle.table.specs.declared.File.{File}
-use Rattle.table.specs.declared.Found.{Found}
-use Rattle.table.specs.declared.Found.TheVariants.{Nothing, At}
+use Rattle.std.proofs.Common.{Option, Some, None}
 use Rattle.table.specs.Table.{files, file_at, find_of}
 use Rattle.carry.specs.Turn.{Mem}
 use Rattle.carry.specs.Carry.{carry_out}
@@ -34,10 +33,10 @@ use Rattle.server.specs.Turns.{size_in, used_of, in_use, parts_of, put_back, act
 -- ---- two lists of sessions that upload the same
 
 module _ (links links' : List Session) (same : (place : ℕ) → uploading links' place ≡ uploading links place) where
-  continued_same : (f : Found) (number size : ℕ) (fs : List File) → on_continued f number size links' fs ≡ on_continued f number size links fs
+  continued_same : (f : Option ℕ) (number size : ℕ) (fs : List File) → on_continued f number size links' fs ≡ on_continued f number size links fs
   unfolding on_continued
-  continued_same Nothing number size fs = refl
-  continued_same (At place) number size fs =
+  continued_same None number size fs = refl
+  continued_same (Some place) number size fs =
       ap
       (λ (b : Bool).
       cond (eqb (file_at fs place).time 0)

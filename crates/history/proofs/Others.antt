@@ -11,7 +11,7 @@ use Rattle.session.specs.declared.state.Uplink.TheVariants as up
 use Rattle.session.specs.declared.state.Downlink.TheVariants as down
 use Rattle.session.specs.declared.state.Listed.{Listed}
 use Rattle.table.specs.declared.File.{File}
-use Rattle.table.specs.declared.Found.TheVariants.{At}
+use Rattle.std.proofs.Common.{Some}
 use Rattle.table.specs.Table.{files, file_at, find_of, numbers}
 use Rattle.table.specs.Fit.{Distinct}
 use Rattle.table.proofs.Finding.{find_number_law, find_own}
@@ -64,11 +64,11 @@ module _ (fs fs' : List File) (kept : (q : ℕ) → CompleteAt fs q → file_at 
       }
 
   -- a number is found where it was
-  found_at : (n : ℕ) (h : Selectable fs n) → find_of fs' n ≡ At h.place
+  found_at : (n : ℕ) (h : Selectable fs n) → find_of fs' n ≡ Some h.place
   found_at n h =
       let p = h.place in
       let e : (file_at fs' p).number ≡ n = ap (λ (f : File). f.number) (kept p h.complete) ∙ find_number_law fs n p h.found in
-      subst (λ (k : ℕ). find_of fs' k ≡ At p) e (find_own fs' once p (complete_still p h.complete).number)
+      subst (λ (k : ℕ). find_of fs' k ≡ Some p) e (find_own fs' once p (complete_still p h.complete).number)
 
   pub selectable_still : (n : ℕ) → Selectable fs n → Selectable fs' n
   selectable_still n h = record { place = h.place; found = found_at n h; complete = complete_still h.place h.complete }

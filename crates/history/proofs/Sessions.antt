@@ -19,8 +19,7 @@ use Rattle.session.specs.declared.state.Listed.{Listed}
 use Rattle.session.specs.declared.state.Listed.TheVariants as listed
 use Rattle.session.specs.State.{closed_session, fresh_session, with_held, with_down}
 use Rattle.table.specs.declared.File.{File}
-use Rattle.table.specs.declared.Found.{Found}
-use Rattle.table.specs.declared.Found.TheVariants.{Nothing, At}
+use Rattle.std.proofs.Common.{Option, Some, None}
 use Rattle.table.specs.Table.{files, file_at, numbers}
 use Rattle.table.specs.Fit.{Distinct}
 use Rattle.table.proofs.Finding.{by_equal}
@@ -415,7 +414,7 @@ module _ (fs : List File) (s : Session) (disk owner selected out : List ℕ)
     (most : (q : ℕ) → CompleteAt fs q → (file_at fs q).size ≤ 1048576)
     (received : (q : ℕ) → CompleteAt fs q → (file_at fs q).received ≤ (file_at fs q).size)
     (complete : (l : Listed) → ((place : ℕ) → l ≡ listed.One place → CompleteAt fs place) → (d : ℕ)
-    → CompleteIn fs (get_or (found_in l s.next fs selected) d Nothing)) (P : Session → Type 0)
+    → CompleteIn fs (get_or (found_in l s.next fs selected) d None)) (P : Session → Type 0)
     (stays : P s) (moves : (v : Downlink) → Down fs selected s.next v → P (with_down s v)) where
   sending_moves : (place offset sent : ℕ) → SendingAt fs place (offset + sent) → P (sending_of s place offset sent disk owner fs out).asked.session
   unfolding sending_of data_of
@@ -439,10 +438,10 @@ module _ (fs : List File) (s : Session) (disk owner selected out : List ℕ)
           }
 
   -- an entry is no longer than its file
-  entry_most : (long : Bool) (f : Found) → CompleteIn fs f → length (entry_in long disk owner fs f) ≤ size.size_in fs f
+  entry_most : (long : Bool) (f : Option ℕ) → CompleteIn fs f → length (entry_in long disk owner fs f) ≤ size.size_in fs f
   unfolding entry_in size.size_in
-  entry_most long Nothing c = omega arith
-  entry_most long (At place) c =
+  entry_most long None c = omega arith
+  entry_most long (Some place) c =
       omega (arith, (entry_short long disk owner place (file_at fs place).received).within, received place c)
 
   filled_on : (l : Listed) (long : Bool) (done sent : ℕ) → ListingAt fs selected s.next l done sent
@@ -462,7 +461,7 @@ module _ (fs : List File) (s : Session) (disk owner selected out : List ℕ)
               arith,
               w.1,
               ap length e,
-              entry_most long (get_or (found_in l s.next fs selected) f.done Nothing) (complete l c.one f.done),
+              entry_most long (get_or (found_in l s.next fs selected) f.done None) (complete l c.one f.done),
             );
       }
 

@@ -1,7 +1,8 @@
--- Laws on finding a line, and on moving what is left to the front. Assumes nothing.
-use Rattle.std.proofs.Common.{◌≡◌, ℕ, zero, suc, ◌+◌, ◌-◌, ◌%◌, ◌<◌, ◌≤◌, Bool, true, false, cond, eqb, ltb, List, [], ◌∷◌, ◌++◌, length, get_or, take, drop, set, sym, refl, ap, ◌∙◌, add-one, arith, length-drop, drop_of_length-le, length-take-le, get_or-drop, drop-cons, take-suc, drop-drop, get_or-append-add, ltb-false, le-ltb, lt-ltb, eq-eqb, ne_eqb, eqb-true}
-use lib.Seq.{append_snoc, set_at}
+-- Laws on finding a line, and on what is left behind it. Assumes nothing.
+use Rattle.std.proofs.Common.{◌≡◌, ℕ, zero, suc, ◌+◌, ◌-◌, ◌%◌, ◌<◌, ◌≤◌, Bool, true, false, cond, eqb, ltb, List, [], ◌∷◌, ◌++◌, length, get_or, take, drop, sym, refl, ap, ◌∙◌, add-one, arith, length-append, length-drop, drop_of_length-le, drop-cons, take_all, drop-drop, ltb-false, le-ltb, lt-ltb, eq-eqb, ne_eqb, eqb-true}
+use lib.Seq.{drop-append_seam}
 use borrow.Author.Tests.{eqb-false}
+use Rattle.std.specs.List.{copy_within}
 use Rattle.input.specs.Parts.{bytes_from, rest_of}
 use Rattle.lines.specs.Commands.{read_of}
 use Rattle.input.specs.Input.{line_length, Passed, found_of, find_of, moved_of, shifted, shift_of}
@@ -13,23 +14,31 @@ positive (suc n) h = omega arith
 
 -- ---- the first newline
 
-cons_here : (b : ℕ) (bs : List ℕ) → b ≡ 10 → line_length (b ∷ bs) ≡ 0
+pub line_none : line_length [] ≡ 0
+unfolding line_length
+line_none = refl
+
+pub cons_here : (b : ℕ) (bs : List ℕ) → b ≡ 10 → line_length (b ∷ bs) ≡ 0
 unfolding line_length
 cons_here b bs e = rw (eq-eqb b 10 e)
 
-cons_on : (b : ℕ) (bs : List ℕ) → (b ≡ 10 → ⊥) → line_length (b ∷ bs) ≡ suc (line_length bs)
+pub cons_on : (b : ℕ) (bs : List ℕ) → (b ≡ 10 → ⊥) → line_length (b ∷ bs) ≡ line_length bs + 1
 unfolding line_length
-cons_on b bs h = rw (ne_eqb b 10 h)
+cons_on b bs h = rw (ne_eqb b 10 h) (sym (add-one (line_length bs)))
 
 pub line_here : (l : List ℕ) (n : ℕ) → n < length l → get_or l n 0 ≡ 10 → line_length (drop n l) ≡ 0
 line_here l n p e = rw (drop-cons l n 0 p) (cons_here (get_or l n 0) (drop (suc n) l) e)
 
 pub line_on : (l : List ℕ) (n : ℕ) → n < length l → (get_or l n 0 ≡ 10 → ⊥) → line_length (drop n l) ≡ suc (line_length (drop (suc n) l))
-line_on l n p h = rw (drop-cons l n 0 p) (cons_on (get_or l n 0) (drop (suc n) l) h)
+line_on l n p h = rw (drop-cons l n 0 p) (omega (arith, cons_on (get_or l n 0) (drop (suc n) l) h))
 
 pub line_end : (l : List ℕ) (n : ℕ) → length l ≤ n → line_length (drop n l) ≡ 0
 unfolding line_length
 line_end l n p = rw (drop_of_length-le l p)
+
+-- a part that reaches to the end
+pub end_all : (n : ℕ) (l : List ℕ) → take (length l - n) (drop n l) ≡ drop n l
+end_all n l = take_all (length l - n) (drop n l) (omega (arith, length-drop n l))
 
 pub none_passed : (l : List ℕ) → Passed l 0
 none_passed l = record { within = omega arith; count = omega arith }
@@ -68,64 +77,50 @@ near_all l least i near all = go (eqb least 0) refl
         sym (le-ltb (line_length l) (length l) (omega (arith, near.passed some, near.within, line_end l i all)))
 
 -- a piece without a newline is passed over
-piece_passed : (k : ℕ) (l : List ℕ) → k ≤ length l → length (take k l) ≤ line_length (take k l) → line_length l ≡ k + line_length (drop k l)
-piece_passed zero l h e = omega arith
-piece_passed (suc k) [] h e = absurd (omega arith)
-piece_passed (suc k) (b ∷ bs) h e = go (eqb b 10) refl (piece_passed k bs (omega arith))
+piece_passed : (piece rest : List ℕ) → length piece ≤ line_length piece → line_length (piece ++ rest) ≡ length piece + line_length rest
+piece_passed [] rest e = omega arith
+piece_passed (b ∷ bs) rest e = go (eqb b 10) refl (piece_passed bs rest)
   where
     go : (t : Bool)
         → eqb b 10 ≡ t
-        → (length (take k bs) ≤ line_length (take k bs) → line_length bs ≡ k + line_length (drop k bs))
-        → line_length (b ∷ bs) ≡ suc k + line_length (drop k bs)
-    go true p ih = absurd (omega (arith, e, cons_here b (take k bs) (eqb-true b 10 p)))
+        → (length bs ≤ line_length bs → line_length (bs ++ rest) ≡ length bs + line_length rest)
+        → line_length (b ∷ bs ++ rest) ≡ suc (length bs) + line_length rest
+    go true p ih = absurd (omega (arith, e, cons_here b bs (eqb-true b 10 p)))
     go false p ih =
         let ne : b ≡ 10 → ⊥ = eqb-false b 10 p in
-        omega (arith, cons_on b bs ne, ih (omega (arith, e, cons_on b (take k bs) ne)))
+        omega (arith, cons_on b (bs ++ rest) ne, ih (omega (arith, e, cons_on b bs ne)))
 
-pub passes_piece : (l : List ℕ) (n size : ℕ)
-    → Passed l n
-    → size ≤ length l - n
-    → false ≡ ltb (line_length (take (n + size - n) (drop n l))) (length (take (n + size - n) (drop n l)))
-    → Passed l (n + size)
-passes_piece l n size p h e =
-    let s : n + size - n ≡ size = omega arith in
-    let q : length (take size (drop n l)) ≤ line_length (take size (drop n l)) = ltb-false _ _ (sym (rw s at e)) in
-    let m : size ≤ length (drop n l) = rw (length-drop n l) h in
+-- after n bytes without a newline `rest` is left
+pub record Left (l rest : List ℕ) (n : ℕ) : Type 0 where
+  pub passed : Passed l n
+  pub is : rest ≡ drop n l
+
+pub passes_piece : (l rest piece more : List ℕ) (n size : ℕ)
+    → Left l rest n
+    → rest ≡ piece ++ more
+    → length piece ≡ size
+    → false ≡ ltb (line_length piece) (length piece)
+    → Left l more (n + size)
+passes_piece l rest piece more n size p h s e =
+    let d : drop n l ≡ piece ++ more = sym p.is ∙ h in
     record {
-      within = omega (arith, p.within);
-      count = rw (← drop-drop size n l) (omega (arith, p.count, piece_passed size (drop n l) m q));
+      passed = record {
+        within = omega (arith, p.passed.within, ap length d, length-append piece more, length-drop n l);
+        count = rw (← behind) (omega (arith, p.passed.count, ap line_length d, piece_passed piece more (ltb-false _ _ (sym e))));
+      };
+      is = behind;
     }
+  where
+    behind : more ≡ drop (n + size) l
+    behind = sym (sym (drop-drop size n l) ∙ ap (drop size) (sym p.is ∙ h) ∙ ap (λ (k : ℕ). drop k (piece ++ more)) (sym s) ∙ drop-append_seam piece more)
 
 -- ---- moving to the front
 
-front_length : (from i : ℕ) (l : List ℕ) → from + i < length l → length (take i (drop from l)) ≡ i
-front_length from i l p = length-take-le i (drop from l) (omega (arith, length-drop from l, p))
-
--- a byte that is still to be moved is as it was
-moved_at : (from i : ℕ) (l : List ℕ) → from + i < length l → get_or (moved_of from i l) (from + i) 0 ≡ get_or l (from + i) 0
+pub moved_within : (from n : ℕ) (l : List ℕ) → copy_within l from (from + n) 0 ≡ moved_of from n l
 unfolding moved_of
-moved_at from i l p =
-    ap (λ (k : ℕ). get_or (take i (drop from l) ++ drop i l) k 0) (omega (arith, front_length from i l p))
-    ∙ get_or-append-add (take i (drop from l)) (drop i l) from 0 ∙ get_or-drop i l from 0 ∙ ap (λ (k : ℕ). get_or l k 0) (omega arith)
-
--- setting the next byte moves one more
-set_moved : (from i v : ℕ) (l : List ℕ) → from + i < length l → v ≡ get_or l (from + i) 0 → set (moved_of from i l) i v ≡ moved_of from (suc i) l
-unfolding moved_of
-set_moved from i v l p e =
-    ap (λ (r : List ℕ). set (take i (drop from l) ++ r) i v) (drop-cons l i 0 (omega (arith, p)))
-    ∙ set_at (take i (drop from l)) (get_or l i 0) (drop (suc i) l) v i (front_length from i l p)
-    ∙ ap (λ (w : ℕ). take i (drop from l) ++ (w ∷ drop (suc i) l)) (e ∙ sym (get_or-drop from l i 0))
-    ∙ sym (append_snoc (take i (drop from l)) (get_or (drop from l) i 0) (drop (suc i) l))
-    ∙ ap (λ (r : List ℕ). r ++ drop (suc i) l) (sym (take-suc (drop from l) i 0 (omega (arith, length-drop from l, p))))
-
-pub move_step : (from i : ℕ) (l input : List ℕ) → input ≡ moved_of from i l → from + i < length l
-    → set input i (get_or input (from + i) 0) ≡ moved_of from (suc i) l
-move_step from i l input e p = rw e (set_moved from i (get_or (moved_of from i l) (from + i) 0) l p (moved_at from i l p))
-
--- at the beginning nothing is moved
-pub move_none : (from : ℕ) (l : List ℕ) → l ≡ moved_of from 0 l
-unfolding moved_of
-move_none from l = refl
+moved_within from n l =
+    let many : from + n - from ≡ n = omega arith in
+    let behind : 0 + n ≡ n = omega arith in rw (many, behind) refl
 
 -- ---- the same over a part that is cut to what is lent
 

@@ -11,7 +11,6 @@ ghost use Rattle.input.specs.Input.{line_length, Passed, found_of, find_of, shif
 
 use lines::Command;
 use parts::{least, rest};
-use std::num::wrapping_sub_u8;
 
 // The most bytes of a line that can be read, without its newline.
 pub const LINE: usize = 131072;
@@ -30,14 +29,10 @@ fn has_newline(bytes: &[u8]) -> bool
     ensures { result ≡ nat_lt (line_length bytes.now) (length bytes.now) }
 {
     let mut least = 255;
-    let mut i = 0;
-    while i < bytes.len() {
-        let d = wrapping_sub_u8(bytes[i], 10);
+    for b in bytes {
+        let d = b.wrapping_sub(10);
         if d < least {
             least = d;
-            i += 1;
-        } else {
-            i += 1;
         }
     }
     least == 0
@@ -49,8 +44,8 @@ fn after_pieces(input: &[u8], from: usize, size: usize) -> usize
     ensures { Passed input.now result }
 {
     let mut n = from;
-    while size <= input.len() - n {
-        if has_newline(&input[n..n + size]) {
+    for piece in input[from..].chunks_exact(size) {
+        if has_newline(piece) {
             return n;
         }
         n += size;
@@ -63,14 +58,8 @@ fn newline_from(input: &[u8], from: usize) -> usize
     requires { Passed input.now from }
     ensures { result ≡ line_length input.now }
 {
-    let mut n = from;
-    while n < input.len() {
-        if input[n] == 10 {
-            return n;
-        }
-        n += 1;
-    }
-    n
+    let rest = &input[from..];
+    from + rest.iter().position(|b| *b == 10).unwrap_or(rest.len())
 }
 
 // How many bytes there are before the first newline, or before the end.
@@ -83,6 +72,7 @@ fn line_length(input: &[u8]) -> usize
 }
 
 // What a first line of n bytes is, of `size` bytes in the input.
+#[tactic(auto, unfolding(crate::specs::Input::found_of))]
 fn first_line(n: usize, size: usize, ended: bool) -> Found
     ensures { result ≡ found_of n size ended }
 {
@@ -124,11 +114,7 @@ fn move_down(input: &mut [u8], from: usize, n: usize)
     requires { from + n ≤ length input.old }
     ensures { input.new ≡ moved_of from n input.old }
 {
-    let mut i = 0;
-    while i < n {
-        input[i] = input[from + i];
-        i += 1;
-    }
+    input.copy_within(from..from + n, 0);
 }
 
 // Moves the bytes from a place to the end to the front, and says how many they are.

@@ -6,24 +6,13 @@ ghost use Rattle.input.specs.Parts.{rest_of};
 pub fn least(a: usize, b: usize) -> usize
     ensures { (result ≤ a) × (result ≤ b) × (result ≡ (if nat_lt a b then a else b)) }
 {
-    if a < b {
-        return a;
-    }
-    b
+    a.min(b)
 }
 
 // How many bytes there are from a place to another, of `size` bytes lent.
+#[tactic(auto, unfolding(crate::specs::Parts::rest_of))]
 pub fn rest(at: usize, end: usize, size: usize) -> usize
     ensures { result ≡ rest_of at end size }
 {
-    if end < size {
-        if at < end {
-            return end - at;
-        }
-        return 0;
-    }
-    if at < size {
-        return size - at;
-    }
-    0
+    end.min(size).saturating_sub(at)
 }

@@ -1,35 +1,74 @@
 -- Laws on a line's fields, one after the other, and on the command that they spell. Assumes nothing.
-use Rattle.std.proofs.Common.{◌≡◌, ℕ, suc, ◌+◌, ◌-◌, ◌<◌, ◌≤◌, Bool, true, false, cond, eqb, ltb, leb, List, [], ◌∷◌, ◌++◌, length, get_or, take, drop, sym, refl, ap, ◌∙◌, add-one, arith, length-drop, drop_of_length-le, take_all, drop-cons, drop-drop, ltb-false, ltb-true, eq-eqb, ne_eqb, eqb-true}
+use Rattle.std.proofs.Common.{◌≡◌, ℕ, suc, ◌+◌, ◌-◌, ◌<◌, ◌≤◌, Bool, true, false, cond, eqb, ltb, leb, List, [], ◌∷◌, ◌++◌, length, get_or, take, drop, sym, refl, ap, ◌∙◌, add-one, arith, length-drop, drop_of_length-le, take_all, drop-cons, drop-drop, ltb-false, ltb-true, eq-eqb, ne_eqb, eqb-true, Option, Some, None, position, not, bytes_eq, ◌==◌, ◌&&◌}
 use borrow.Author.Tests.{eqb-false}
+use Rattle.std.specs.List.{position_or_len}
 use Rattle.packet.specs.Names.{bytes_of}
-use Rattle.lines.specs.declared.numeral.Digits.TheVariants as decimal
-use Rattle.lines.specs.declared.numeral.Pairs.{Pairs}
-use Rattle.lines.specs.declared.numeral.Pairs.TheVariants as hex
-use Rattle.lines.specs.declared.commands.Number.{Number}
-use Rattle.lines.specs.declared.commands.Number.TheVariants as number
 use Rattle.lines.specs.declared.commands.Command.TheVariants.{Unreadable, Time, Open, Drop, Rx}
 use Rattle.lines.specs.Numerals.{digit, digits, value_from, decimal_by, decimal_at, hex_value, is_hex, bytes_in, HexRead, hex_read, hex_in}
 use Rattle.lines.specs.Commands.{onto, fields_of, same, ends_at, number_in, command_of_two, command_of_three, command_of_fields}
 use Rattle.lines.specs.Commands.{command_of, rx_bytes, Reads, reads, read_by, read_of}
 use Rattle.lines.specs.Reading.{field, field_end, rx_by, rx_read}
 
--- ---- the end of a field, byte by byte
+-- ---- the end of a field, by the first TAB
 
-module _ (line : List ℕ) (i : ℕ) where
-  pub end_next : i < length line → (get_or line i 0 ≡ 9 → ⊥) → field_end line (i + 1) ≡ field_end line i
-  unfolding field_end field
-  end_next h ne = rw (add-one i, drop-cons line i 0 h, ne_eqb (get_or line i 0) 9 ne) (omega arith)
+field_length : (l : List ℕ) → length (field l) ≡ position_or_len (λ (b : ℕ). b == 9) l
+unfolding field
+field_length [] = refl
+field_length (b ∷ bs) = go (eqb b 9) (field_length bs)
+  where
+    go : (t : Bool) → length (field bs) ≡ position_or_len (λ (b : ℕ). b == 9) bs
+        → length (cond t [] (b ∷ field bs)) ≡ cond (not t) (1 + position_or_len (λ (b : ℕ). b == 9) bs) 0
+    go true e = refl
+    go false e = omega arith
 
-  pub end_tab : i < length line → get_or line i 0 ≡ 9 → field_end line i ≡ i
-  unfolding field_end field
-  end_tab h e = rw (drop-cons line i 0 h, eq-eqb (get_or line i 0) 9 e) (omega arith)
+field_within : (l : List ℕ) → length (field l) ≤ length l
+unfolding field
+field_within [] = omega arith
+field_within (b ∷ bs) = go (eqb b 9) (field_within bs)
+  where
+    go : (t : Bool) → length (field bs) ≤ length bs → length (cond t [] (b ∷ field bs)) ≤ suc (length bs)
+    go true e = omega arith
+    go false e = omega arith
 
-  pub end_line : length line ≤ i → field_end line i ≡ i
-  unfolding field_end field
-  end_line h = rw (drop_of_length-le line h) (omega arith)
+module _ (line : List ℕ) (at : ℕ) (h : at ≤ length line) where
+  abbrev rest_of : List ℕ
+  rest_of = take (length line - at) (drop at line)
 
--- ---- two texts, byte by byte
+  whole_rest : rest_of ≡ drop at line
+  whole_rest = take_all (length line - at) (drop at line) (omega (arith, length-drop at line))
 
+  pub end_found : (r : Option ℕ) (n : ℕ) → r ≡ position (λ (b : ℕ). b == 9) rest_of → r ≡ Some n → at + n ≡ field_end line at
+  unfolding field_end
+  end_found r n p e = go (ltb (length (field (drop at line))) (length (drop at line))) (sym e ∙ (p ∙ rw (whole_rest, ← field_length (drop at line))))
+    where
+      go : (t : Bool) → Some n ≡ cond t (Some (length (field (drop at line)))) None → at + n ≡ at + length (field (drop at line))
+      go true q = let k : n ≡ length (field (drop at line)) = cc in omega arith
+      go false q = let z : ◌≡◌ {A = ℕ} 0 1 = cc in absurd (omega arith)
+
+  pub end_none : (r : Option ℕ) → r ≡ position (λ (b : ℕ). b == 9) rest_of → r ≡ None → length line ≡ field_end line at
+  unfolding field_end
+  end_none r p e = go (ltb (length (field (drop at line))) (length (drop at line))) refl (sym e ∙ (p ∙ rw (whole_rest, ← field_length (drop at line))))
+    where
+      go : (t : Bool) → ltb (length (field (drop at line))) (length (drop at line)) ≡ t
+          → ◌≡◌ {A = Option ℕ} None (cond t (Some (length (field (drop at line)))) None) → length line ≡ at + length (field (drop at line))
+      go true z q = let y : ◌≡◌ {A = ℕ} 0 1 = cc in absurd (omega arith)
+      go false z q = omega (arith, length-drop at line, ltb-false (length (field (drop at line))) (length (drop at line)) z, field_within (drop at line))
+
+-- ---- two texts
+
+-- the library's comparison
+pub same_is : (x y : List ℕ) → bytes_eq x y ≡ same x y
+unfolding same
+same_is [] [] = refl
+same_is [] (y ∷ ys) = refl
+same_is (x ∷ xs) [] = refl
+same_is (x ∷ xs) (y ∷ ys) = rw (← same_is xs ys) (go (eqb x y) (bytes_eq xs ys))
+  where
+    go : (t u : Bool) → (t && u) ≡ cond t u false
+    go true u = refl
+    go false u = refl
+
+-- byte by byte
 module _ (x y : List ℕ) (i : ℕ) where
   pub same_next : i < length x → i < length y → get_or x i 0 ≡ get_or y i 0
       → same (drop (i + 1) x) (drop (i + 1) y) ≡ same (drop i x) (drop i y)
@@ -112,15 +151,15 @@ field_front (b ∷ bs) = go (field_front bs) (eqb b 9)
     go others false = rw others
 
 -- some field always follows a TAB
-record Some (l : List ℕ) : Type 0 where
+record Field (l : List ℕ) : Type 0 where
   one : List ℕ
   others : List (List ℕ)
   are : fields_of l ≡ one ∷ others
 
-some_field : (l : List ℕ) → Some l
+some_field : (l : List ℕ) → Field l
 some_field l = go (ltb (length (field l)) (length l)) refl
   where
-    go : (t : Bool) → ltb (length (field l)) (length l) ≡ t → Some l
+    go : (t : Bool) → ltb (length (field l)) (length l) ≡ t → Field l
     go true e = record { one = field l; others = _; are = more_fields l (ltb-true (length (field l)) (length l) e) }
     go false e = record { one = l; others = []; are = last_field l (ltb-false (length (field l)) (length l) e) }
 
@@ -152,8 +191,8 @@ number_field line at =
     (ltb 0 (length (digits (drop at line)))) (leb (value_from 0 (digits (drop at line))) 4294967295))
   where
     go : (n v m : ℕ) (t u : Bool)
-        → ends_at (cond t (cond u (decimal.Value v (at + n)) decimal.Bad) decimal.Bad) (at + m)
-        ≡ ends_at (cond t (cond u (decimal.Value v (0 + n)) decimal.Bad) decimal.Bad) m
+        → ends_at (cond t (cond u (Some (v, at + n)) None) None) (at + m)
+        ≡ ends_at (cond t (cond u (Some (v, 0 + n)) None) None) m
     go n v m true true = rw (shift at n m)
     go n v m true false = refl
     go n v m false u = refl
@@ -184,10 +223,10 @@ module _ (line bytes : List ℕ) where
   one_field h = rw (last_field line (omega arith))
 
 -- two fields leave the bytes alone
-two_quiet : (name : List ℕ) (n : Number) (new bytes : List ℕ) → reads (command_of_two name n) bytes ≡ read_by (command_of_two name n) new bytes
+two_quiet : (name : List ℕ) (n : Option ℕ) (new bytes : List ℕ) → reads (command_of_two name n) bytes ≡ read_by (command_of_two name n) new bytes
 unfolding command_of_two read_by
-two_quiet name number.Bad new bytes = refl
-two_quiet name (number.Value v) new bytes =
+two_quiet name None new bytes = refl
+two_quiet name (Some v) new bytes =
     go (same name (bytes_of "time")) (same name (bytes_of "open")) (same name (bytes_of "drop"))
   where
     go : (t u w : Bool)
@@ -200,15 +239,15 @@ two_quiet name (number.Value v) new bytes =
 
 -- three fields change them by the third
 three_read : (name : List ℕ) (v : ℕ) (rest bytes : List ℕ)
-    → rx_read name v rest bytes ≡ read_by (command_of_three name (number.Value v) rest) (bytes_in rest) bytes
+    → rx_read name v rest bytes ≡ read_by (command_of_three name (Some v) rest) (bytes_in rest) bytes
 unfolding rx_read rx_by hex_in command_of_three read_by
 three_read name v rest bytes = go (same name (bytes_of "rx")) (is_hex rest) (leb (length (bytes_in rest)) (length bytes)) refl
   where
     found : Bool → Bool → HexRead
     found u w =
         cond u
-        (cond w (hex_read (hex.Bytes (length (bytes_in rest))) (bytes_in rest ++ drop (length (bytes_in rest)) bytes)) (hex_read hex.Bad bytes))
-        (hex_read hex.Bad bytes)
+        (cond w (hex_read (Some (length (bytes_in rest))) (bytes_in rest ++ drop (length (bytes_in rest)) bytes)) (hex_read None bytes))
+        (hex_read None bytes)
 
     go : (t u w : Bool) → leb (length (bytes_in rest)) (length bytes) ≡ w
         → cond t (rx_by v (found u w).answer (found u w).left) (reads Unreadable bytes)
@@ -219,31 +258,31 @@ three_read name v rest bytes = go (same name (bytes_of "rx")) (is_hex rest) (leb
     go false u w e = refl
 
 -- a line of three fields or more, by its second: only pairs of hex digits up to the line's end are read
-three_by : List ℕ → Number → List ℕ → List ℕ → Reads
-three_by name number.Bad h bytes = reads Unreadable bytes
-three_by name (number.Value v) h bytes = rx_read name v h bytes
+three_by : List ℕ → Option ℕ → List ℕ → List ℕ → Reads
+three_by name None h bytes = reads Unreadable bytes
+three_by name (Some v) h bytes = rx_read name v h bytes
 
-just_three : (name f h line bytes : List ℕ) (n : Number)
+just_three : (name f h line bytes : List ℕ) (n : Option ℕ)
     → fields_of line ≡ name ∷ f ∷ h ∷ []
     → number_in f ≡ n
     → three_by name n h bytes ≡ read_of line bytes
 unfolding three_by read_of command_of rx_bytes command_of_fields
-just_three name f h line bytes number.Bad e k = rw (e, k) (unfold command_of_three read_by in refl)
-just_three name f h line bytes (number.Value v) e k = rw (e, k) (three_read name v h bytes)
+just_three name f h line bytes None e k = rw (e, k) (unfold command_of_three read_by in refl)
+just_three name f h line bytes (Some v) e k = rw (e, k) (three_read name v h bytes)
 
 not_hex : (name h bytes : List ℕ) (v : ℕ) → is_hex h ≡ false → rx_read name v h bytes ≡ reads Unreadable bytes
 unfolding rx_read hex_in rx_by
 not_hex name h bytes v e = rw e (either (same name (bytes_of "rx")) (reads Unreadable bytes))
 
-four_or_more : (name f h one line bytes : List ℕ) (others : List (List ℕ)) (n : Number)
+four_or_more : (name f h one line bytes : List ℕ) (others : List (List ℕ)) (n : Option ℕ)
     → fields_of line ≡ name ∷ f ∷ field h ∷ one ∷ others
     → is_hex h ≡ false
     → three_by name n h bytes ≡ read_of line bytes
 unfolding three_by read_of command_of command_of_fields read_by
-four_or_more name f h one line bytes others number.Bad e k = rw e
-four_or_more name f h one line bytes others (number.Value v) e k = rw (e, not_hex name h bytes v k)
+four_or_more name f h one line bytes others None e k = rw e
+four_or_more name f h one line bytes others (Some v) e k = rw (e, not_hex name h bytes v k)
 
-three_or_more : (name f h line bytes : List ℕ) (n : Number)
+three_or_more : (name f h line bytes : List ℕ) (n : Option ℕ)
     → fields_of line ≡ name ∷ f ∷ fields_of h
     → number_in f ≡ n
     → three_by name n h bytes ≡ read_of line bytes
@@ -284,7 +323,7 @@ module _ (line : List ℕ) (first : ℕ) (at_tab : first ≡ field_end line 0) (
         rw (ends, number_field line (first + 1), same_field, after_name, last_field rest short)
         (two_quiet (take first line) (number_in rest) (rx_bytes line) bytes)
 
-    three_fields : (bytes : List ℕ) (n : Number) → second < length line → ends_at (decimal_at line (first + 1)) second ≡ n
+    three_fields : (bytes : List ℕ) (n : Option ℕ) → second < length line → ends_at (decimal_at line (first + 1)) second ≡ n
         → three_by (take first line) n (drop (second + 1) line) bytes ≡ read_of line bytes
     three_fields bytes n h k =
         let place : first + 1 + (length (field rest) + 1) ≡ second + 1 = omega (arith, length_rest) in
@@ -293,31 +332,31 @@ module _ (line : List ℕ) (first : ℕ) (at_tab : first ≡ field_end line 0) (
         (rw (after_name, more_fields rest tab, drop-drop (length (field rest) + 1) (first + 1) line, place))
         (sym (number_field line (first + 1)) ∙ (ap (ends_at (decimal_at line (first + 1))) (sym ends) ∙ k))
 
-    pub three_bad : (bytes : List ℕ) → second < length line → ends_at (decimal_at line (first + 1)) second ≡ number.Bad
+    pub three_bad : (bytes : List ℕ) → second < length line → ends_at (decimal_at line (first + 1)) second ≡ None
         → reads Unreadable bytes ≡ read_of line bytes
     unfolding three_by
-    three_bad bytes h k = three_fields bytes number.Bad h k
+    three_bad bytes h k = three_fields bytes None h k
 
-    pub three_value : (bytes : List ℕ) (v : ℕ) → second < length line → ends_at (decimal_at line (first + 1)) second ≡ number.Value v
+    pub three_value : (bytes : List ℕ) (v : ℕ) → second < length line → ends_at (decimal_at line (first + 1)) second ≡ Some v
         → rx_read (take first line) v (drop (second + 1) line) bytes ≡ read_of line bytes
     unfolding three_by
-    three_value bytes v h k = three_fields bytes (number.Value v) h k
+    three_value bytes v h k = three_fields bytes (Some v) h k
 
 -- ---- hex that was read
 
 module _ (name : List ℕ) (session : ℕ) (rest bytes : List ℕ) where
-  pub rx_bad : (answer : Pairs) (left : List ℕ)
+  pub rx_bad : (answer : Option ℕ) (left : List ℕ)
       → same name (bytes_of "rx") ≡ true
       → hex_read answer left ≡ hex_in rest bytes
-      → answer ≡ hex.Bad
+      → answer ≡ None
       → reads Unreadable left ≡ rx_read name session rest bytes
   unfolding rx_read rx_by
   rx_bad answer left s h e = rw (s, ← h, e)
 
-  pub rx_bytes_law : (answer : Pairs) (left : List ℕ) (n : ℕ)
+  pub rx_bytes_law : (answer : Option ℕ) (left : List ℕ) (n : ℕ)
       → same name (bytes_of "rx") ≡ true
       → hex_read answer left ≡ hex_in rest bytes
-      → answer ≡ hex.Bytes n
+      → answer ≡ Some n
       → reads (Rx session n) left ≡ rx_read name session rest bytes
   unfolding rx_read rx_by
   rx_bytes_law answer left n s h e = rw (s, ← h, e)

@@ -1,5 +1,5 @@
 -- Laws on how pairs of hex digits are read (specs/Pairs.antt): it comes to specs/Numerals.antt. Assumes nothing.
-use Rattle.std.proofs.Common.{◌≡◌, ℕ, zero, suc, ◌+◌, ◌-◌, ◌*◌, ◌/◌, ◌%◌, ◌<◌, ◌≤◌, Bool, true, false, cond, ltb, List, [], ◌∷◌, ◌++◌, map, length, get_or, take, drop, set, replicate, sym, refl, ap, ◌∙◌, append-nil, add-zero, add-one, arith, length-append, length-drop, drop_of_length-le, length-take-le, drop-cons, drop-drop, take_at, ltb-false, ltb-true, le-ltb, lt-ltb}
+use Rattle.std.proofs.Common.{◌≡◌, ℕ, zero, suc, ◌+◌, ◌-◌, ◌*◌, ◌/◌, ◌%◌, ◌<◌, ◌≤◌, Bool, true, false, cond, ltb, List, [], ◌∷◌, ◌++◌, map, length, get_or, take, drop, set, replicate, sym, refl, ap, ◌∙◌, append-nil, add-zero, add-one, arith, length-append, length-drop, drop_of_length-le, length-take-le, drop-cons, drop-drop, take_at, ltb-false, ltb-true, le-ltb, lt-ltb, max}
 use lib.Seq.{sets, sets-eq}
 use Rattle.lines.specs.Numerals.{hex_value, is_hex, bytes_in}
 use Rattle.lines.specs.Pairs.{all_hex, pairs_in, digit_value, pair_byte}
@@ -27,6 +27,15 @@ module _ (line : List ℕ) (i most v : ℕ) (h : i < length line) (e : v ≡ hex
       go true p true q a = refl
       go true p false q a = absurd (omega (arith, ltb-true most 16 p, ltb-false v 16 q))
       go false p u q a = refl
+
+  -- the larger of the two decides
+  pub digits_most : (m : ℕ) → m ≡ max most v → cond (ltb most 16) (all_hex (drop i line)) false ≡ cond (ltb m 16) (all_hex (drop (i + 1) line)) false
+  digits_most m e = rw e (go (ltb most v) refl)
+    where
+      go : (t : Bool) → ltb most v ≡ t
+          → cond (ltb most 16) (all_hex (drop i line)) false ≡ cond (ltb (max most v) 16) (all_hex (drop (i + 1) line)) false
+      go true p = let k : max most v ≡ v = omega (arith, ltb-true most v p) in rw k (digits_larger (ltb-true most v p))
+      go false p = let k : max most v ≡ most = omega (arith, ltb-false most v p) in rw k (digits_smaller (ltb-false most v p))
 
 pub digits_done : (line : List ℕ) (i : ℕ) (t : Bool) → length line ≤ i → cond t (all_hex (drop i line)) false ≡ t
 unfolding all_hex

@@ -1,7 +1,6 @@
 -- THEOREMS: what is written in decimal and in hex reads back as itself, and so does a whole `rx` line. Assumes nothing.
-use Rattle.std.proofs.Common.{◌≡◌, ℕ, zero, suc, ◌+◌, ◌-◌, ◌*◌, ◌/◌, ◌%◌, ◌<◌, ◌≤◌, Bool, true, false, cond, eqb, ltb, List, [], ◌∷◌, ◌++◌, length, get_or, refl, arith, ltb-false, ltb-true, le-ltb, lt-ltb, eq-eqb, ne_eqb, le-leb}
+use Rattle.std.proofs.Common.{◌≡◌, ℕ, zero, suc, ◌+◌, ◌-◌, ◌*◌, ◌/◌, ◌%◌, ◌<◌, ◌≤◌, Bool, true, false, cond, eqb, ltb, List, [], ◌∷◌, ◌++◌, length, get_or, refl, arith, ltb-false, ltb-true, le-ltb, lt-ltb, eq-eqb, ne_eqb, le-leb, Some}
 use Rattle.packet.specs.Names.{bytes_of}
-use Rattle.lines.specs.declared.commands.Number.TheVariants as number
 use Rattle.lines.specs.declared.commands.Command.TheVariants.{Rx}
 use Rattle.numbers.specs.Hex.{hex_digit}
 use Rattle.numbers.proofs.HexLaws.{digit_half}
@@ -103,7 +102,7 @@ decimal_is : (n : ℕ) → Back n (decimal_of n)
 unfolding decimal_of
 decimal_is n = within_back n n (omega arith)
 
-pub decimal_back : (n : ℕ) → n ≤ 4294967295 → number_in (decimal_of n) ≡ number.Value n
+pub decimal_back : (n : ℕ) → n ≤ 4294967295 → number_in (decimal_of n) ≡ Some n
 unfolding number_in ends_at decimal_at decimal_by
 decimal_back n h =
     let b = decimal_is n in

@@ -1,5 +1,5 @@
 -- Laws on numbers and bytes as text. Assumes nothing.
-use Rattle.std.proofs.Common.{◌≡◌, ℕ, zero, suc, ◌+◌, ◌-◌, ◌*◌, ◌/◌, ◌%◌, ◌^◌, ◌<◌, ◌≤◌, Bool, true, false, cond, ltb, List, [], ◌∷◌, ◌++◌, length, get_or, drop, refl, arith, length-append, drop-cons, ltb-false, ltb-true, le-ltb, lt-ltb}
+use Rattle.std.proofs.Common.{◌≡◌, ℕ, zero, suc, ◌+◌, ◌*◌, ◌/◌, ◌%◌, ◌^◌, ◌<◌, ◌≤◌, Bool, true, false, cond, ltb, List, [], ◌∷◌, ◌++◌, length, get_or, drop, refl, arith, length-append, drop-cons, ltb-false, ltb-true, le-ltb, lt-ltb}
 use native.Mathlib.Nat.{pow-succ'}
 use Rattle.numbers.specs.Hex.{hex_digit}
 use Rattle.lines.specs.Text.{digits_within, decimal_of, hex_of}

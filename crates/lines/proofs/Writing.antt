@@ -1,5 +1,5 @@
 -- Laws on pieces written at a place, one behind the other. Assumes nothing.
-use Rattle.std.proofs.Common.{◌≡◌, ℕ, suc, ◌+◌, ◌-◌, ◌/◌, ◌%◌, ◌<◌, ◌≤◌, List, [], ◌∷◌, ◌++◌, length, get_or, drop, set, add-one, arith, drop_of_length-le, le-leb}
+use Rattle.std.proofs.Common.{◌≡◌, ℕ, suc, ◌+◌, ◌/◌, ◌%◌, ◌<◌, ◌≤◌, List, [], ◌∷◌, ◌++◌, length, get_or, drop, set, add-one, arith, drop_of_length-le, le-leb}
 use borrow.Author.Tests.{lt-leb}
 use lib.Seq.{sets, sets-eq, set_comm}
 use Rattle.numbers.specs.Hex.{hex_digit}

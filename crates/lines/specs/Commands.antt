@@ -1,11 +1,7 @@
 -- The lines of a script (document 01, "The script program": "`passday` reads tab-parted lines .. : `time` and a decimal clock, `open` and a
 -- session, `drop` and a session, `rx`, session and hex bytes. Hex is lower-case"). Assumes nothing.
-use Rattle.std.specs.Prelude.{ℕ, Bool, true, false, cond, List, [], ◌∷◌, ◌++◌, length, drop, ◌==◌, nat_le, slice_index_or}
+use Rattle.std.specs.Prelude.{ℕ, Bool, true, false, cond, List, [], ◌∷◌, ◌++◌, length, drop, ◌==◌, nat_le, slice_index_or, Option, Some, None}
 use Rattle.packet.specs.Names.{bytes_of}
-use Rattle.lines.specs.declared.numeral.Digits.{Digits}
-use Rattle.lines.specs.declared.numeral.Digits.TheVariants as decimal
-use Rattle.lines.specs.declared.commands.Number.{Number}
-use Rattle.lines.specs.declared.commands.Number.TheVariants as number
 use Rattle.lines.specs.declared.commands.Command.{Command}
 use Rattle.lines.specs.declared.commands.Command.TheVariants.{Unreadable, Time, Open, Drop, Rx}
 use Rattle.lines.specs.Numerals.{decimal_at, is_hex, bytes_in}
@@ -30,25 +26,25 @@ same (x ∷ xs) [] = false
 same (x ∷ xs) (y ∷ ys) = cond (x == y) (same xs ys) false
 
 -- a number that ends where the field ends
-unfoldable pub ends_at : Digits → ℕ → Number
-ends_at decimal.Bad end = number.Bad
-ends_at (decimal.Value v next) end = cond (next == end) (number.Value v) number.Bad
+unfoldable pub ends_at : Option (ℕ × ℕ) → ℕ → Option ℕ
+ends_at None end = None
+ends_at (Some (v, next)) end = cond (next == end) (Some v) None
 
-unfoldable pub number_in : List ℕ → Number
+unfoldable pub number_in : List ℕ → Option ℕ
 number_in field = ends_at (decimal_at field 0) (length field)
 
 -- "`time` and a decimal clock, `open` and a session, `drop` and a session"
-unfoldable pub command_of_two : List ℕ → Number → Command
-command_of_two name number.Bad = Unreadable
-command_of_two name (number.Value v) =
+unfoldable pub command_of_two : List ℕ → Option ℕ → Command
+command_of_two name None = Unreadable
+command_of_two name (Some v) =
     cond (same name (bytes_of "time")) (Time v)
     (cond (same name (bytes_of "open")) (Open v)
     (cond (same name (bytes_of "drop")) (Drop v) Unreadable))
 
 -- "`rx`, session and hex bytes"
-unfoldable pub command_of_three : List ℕ → Number → List ℕ → Command
-command_of_three name number.Bad hex = Unreadable
-command_of_three name (number.Value v) hex =
+unfoldable pub command_of_three : List ℕ → Option ℕ → List ℕ → Command
+command_of_three name None hex = Unreadable
+command_of_three name (Some v) hex =
     cond (same name (bytes_of "rx")) (cond (is_hex hex) (Rx v (length (bytes_in hex))) Unreadable) Unreadable
 
 unfoldable pub command_of_fields : List (List ℕ) → Command

@@ -1,8 +1,6 @@
 -- The steps of reading a line: where a field ends, and what the third field of an `rx` line gives. Assumes nothing.
-use Rattle.std.specs.Prelude.{ℕ, ◌+◌, cond, List, [], ◌∷◌, length, drop, ◌==◌}
+use Rattle.std.specs.Prelude.{ℕ, ◌+◌, cond, List, [], ◌∷◌, length, drop, ◌==◌, Option, Some, None}
 use Rattle.packet.specs.Names.{bytes_of}
-use Rattle.lines.specs.declared.numeral.Pairs.{Pairs}
-use Rattle.lines.specs.declared.numeral.Pairs.TheVariants as hex
 use Rattle.lines.specs.declared.commands.Command.TheVariants.{Unreadable, Rx}
 use Rattle.lines.specs.Numerals.{hex_in}
 use Rattle.lines.specs.Commands.{same, Reads, reads}
@@ -17,9 +15,9 @@ unfoldable pub field_end : List ℕ → ℕ → ℕ
 field_end line at = at + length (field (drop at line))
 
 -- hex that was read, with the session
-unfoldable pub rx_by : ℕ → Pairs → List ℕ → Reads
-rx_by session hex.Bad left = reads Unreadable left
-rx_by session (hex.Bytes n) left = reads (Rx session n) left
+unfoldable pub rx_by : ℕ → Option ℕ → List ℕ → Reads
+rx_by session None left = reads Unreadable left
+rx_by session (Some n) left = reads (Rx session n) left
 
 unfoldable pub rx_read : List ℕ → ℕ → List ℕ → List ℕ → Reads
 rx_read name session rest bytes =

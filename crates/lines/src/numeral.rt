@@ -1,63 +1,47 @@
 // Decimal and hex numbers read at a place of a line.
-ghost use Rattle.std.specs.Prelude.{◌≡◌, ◌+◌, ◌*◌, ◌/◌, ◌<◌, ◌≤◌, true, map, length, drop, if◌then◌else◌, nat_eq};
+ghost use Rattle.std.specs.Prelude.{◌≡◌, ◌+◌, ◌*◌, ◌/◌, ◌<◌, ◌≤◌, true, map, length, drop, Some, None, if◌then◌else◌, nat_eq};
 ghost use Rattle.std.proofs.lemmas.List.Edits.{sets};
 ghost use Rattle.lines.specs.Numerals.{digit, decimal_at, hex_value, is_hex, bytes_in, hex_read, hex_in};
 ghost use Rattle.lines.specs.Pairs.{all_hex, pairs_in, pair_byte};
 
 use std::num::wrapping_sub_u8;
 
-// A decimal number that was read: its value and the place behind its last digit. Bad where no digit stands there or 32 bits are passed.
-#[derive(Clone, Copy)]
-pub enum Digits {
-    Bad,
-    Value(u32, usize),
-}
-
-// How many bytes were read from hex. Bad where other than pairs of digits stand there, or the bytes do not fit.
-#[derive(Clone, Copy)]
-pub enum Pairs {
-    Bad,
-    Bytes(usize),
-}
-
 // A byte is a decimal digit.
 fn is_digit(b: u8) -> bool
     ensures { result ≡ digit b }
 {
-    if b < 48 { false } else { b < 58 }
+    48 <= b && b < 58
 }
 
-// A value with the place behind its digits, which began at `at`.
-fn ended(value: u64, at: usize, end: usize) -> Digits
+// A value with the place behind its digits, which began at `at`: none where no digit stands there.
+fn ended(value: u64, at: usize, end: usize) -> Option<(u32, usize)>
     requires { value ≤ 4294967295 }
-    ensures { result ≡ (if nat_eq at end then Digits.Bad else Digits.Value value end) }
+    ensures { result ≡ (if nat_eq at end then None else Some (value, end)) }
 {
     if at == end {
-        Digits::Bad
+        None
     } else {
-        Digits::Value(value as u32, end)
+        Some((value as u32, end))
     }
 }
 
-// The decimal number at a place: as many digits as stand there.
-pub fn decimal(line: &[u8], at: usize) -> Digits
+// The decimal number at a place, as many digits as stand there, and the place behind its last digit. None where no digit stands there or 32 bits are
+// passed.
+pub fn decimal(line: &[u8], at: usize) -> Option<(u32, usize)>
     ensures { result ≡ decimal_at line.now at }
 {
     let mut value: u64 = 0;
-    let mut i = at;
-    while i < line.len() {
+    for i in at..line.len() {
         let b = line[i];
-        if is_digit(b) {
-            value = 10 * value + (b - 48) as u64;
-            if 4294967295 < value {
-                return Digits::Bad;
-            }
-            i += 1;
-        } else {
+        if !is_digit(b) {
             return ended(value, at, i);
         }
+        value = 10 * value + (b - 48) as u64;
+        if 4294967295 < value {
+            return None;
+        }
     }
-    ended(value, at, i)
+    ended(value, at, at.max(line.len()))
 }
 
 // The value of a lower-case hex digit, 16 for any other byte. The differences wrap, so that nothing hangs on the order of the tests: a script has
@@ -69,25 +53,20 @@ fn hex_value(b: u8) -> u8
     let l = wrapping_sub_u8(b, 97);
     if d < 10 {
         d
+    } else if l < 6 {
+        10 + l
     } else {
-        if l < 6 { 10 + l } else { 16 }
+        16
     }
 }
 
-// From a place to the end of the line stand hex digits. All are looked at, with no early end: the largest value of many bytes is found at once.
-fn has_digits(line: &[u8], at: usize) -> bool
-    ensures { result ≡ all_hex (drop at line.now) }
+// Only hex digits. All are looked at, with no early end: the largest value of many bytes is found at once.
+fn has_digits(digits: &[u8]) -> bool
+    ensures { result ≡ all_hex digits.now }
 {
-    let mut most = 0;
-    let mut i = at;
-    while i < line.len() {
-        let v = hex_value(line[i]);
-        if most < v {
-            most = v;
-            i += 1;
-        } else {
-            i += 1;
-        }
+    let mut most: u8 = 0;
+    for b in digits {
+        most = most.max(hex_value(*b));
     }
     most < 16
 }
@@ -99,10 +78,8 @@ fn has_pairs(line: &[u8], at: usize) -> bool
     if line.len() <= at {
         return true;
     }
-    if (line.len() - at) % 2 == 1 {
-        return false;
-    }
-    has_digits(line, at)
+    let digits = &line[at..];
+    digits.len() % 2 == 0 && has_digits(digits)
 }
 
 // Two digits as one number.
@@ -126,12 +103,8 @@ fn pair_up(digits: &[u8], pairs: &mut [u16])
     requires { length digits.now ≡ 2 * length pairs.old }
     ensures { pairs.new ≡ pairs_in digits.now }
 {
-    let mut i = 0;
-    let mut k = 0;
-    while k < pairs.len() {
-        pairs[k] = pair_of(digits[i], digits[i + 1]);
-        i += 2;
-        k += 1;
+    for (k, pair) in pairs.iter_mut().enumerate() {
+        *pair = pair_of(digits[2 * k], digits[2 * k + 1]);
     }
 }
 
@@ -140,10 +113,8 @@ fn put_bytes(pairs: &[u16], bytes: &mut [u8], at: usize)
     requires { at + length pairs.now ≤ length bytes.old }
     ensures { bytes.new ≡ sets bytes.old at (map pair_byte pairs.now) }
 {
-    let mut k = 0;
-    while k < pairs.len() {
-        bytes[at + k] = pair_byte(pairs[k]);
-        k += 1;
+    for (k, pair) in pairs.iter().enumerate() {
+        bytes[at + k] = pair_byte(*pair);
     }
 }
 
@@ -163,10 +134,7 @@ fn piece(left: usize) -> usize
     requires { 1 < left }
     ensures { (0 < result) × (result ≤ 128) × (2 * result ≤ left) }
 {
-    if left < 256 {
-        return left / 2;
-    }
-    128
+    (left / 2).min(128)
 }
 
 // Writes the bytes of the pairs of hex digits from a place on to the front of `bytes`.
@@ -177,6 +145,7 @@ fn put_pairs(line: &[u8], at: usize, bytes: &mut [u8])
 {
     let mut i = at;
     let mut k = 0;
+    // a `while`: each turn goes on behind the piece that it wrote
     while i < line.len() {
         let n = piece(line.len() - i);
         put_piece(&line[i..i + 2 * n], bytes, k);
@@ -185,21 +154,21 @@ fn put_pairs(line: &[u8], at: usize, bytes: &mut [u8])
     }
 }
 
-// Reads the pairs of hex digits from a place to the end of the line: their bytes stand at the front of `bytes`, or nothing has changed.
-pub fn hex(line: &[u8], at: usize, bytes: &mut [u8]) -> Pairs
+// Reads the pairs of hex digits from a place to the end of the line: how many bytes they are, which stand at the front of `bytes`. None where other than
+// pairs of digits stand there, or the bytes do not fit; then nothing has changed.
+pub fn hex(line: &[u8], at: usize, bytes: &mut [u8]) -> Option<usize>
     ensures { hex_read result bytes.new ≡ hex_in (drop at line.now) bytes.old }
 {
     if line.len() <= at {
-        return Pairs::Bytes(0);
+        return Some(0);
     }
     let count = (line.len() - at) / 2;
     if bytes.len() < count {
-        return Pairs::Bad;
+        return None;
     }
-    if has_pairs(line, at) {
-        put_pairs(line, at, bytes);
-        Pairs::Bytes(count)
-    } else {
-        Pairs::Bad
+    if !has_pairs(line, at) {
+        return None;
     }
+    put_pairs(line, at, bytes);
+    Some(count)
 }

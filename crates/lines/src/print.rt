@@ -17,7 +17,8 @@ pub fn closed_line(session: u32, text: &mut [u8]) -> usize
         return 0;
     }
     put_decimal(text, 0, digits, n);
-    store(text, digits, b"\tclosed\n");
+    // not refused: `size` counts these bytes
+    let _ = store(text, digits, b"\tclosed\n");
     size
 }
 
@@ -35,7 +36,8 @@ pub fn refused_line(session: u32, number: u8, text: &mut [u8]) -> usize
         return 0;
     }
     put_decimal(text, 0, first, n);
-    store(text, first, b"\trefused\t");
+    // not refused: `size` counts these bytes
+    let _ = store(text, first, b"\trefused\t");
     put_decimal(text, at, second, k);
     text[size - 1] = 10;
     size
@@ -50,7 +52,8 @@ pub fn error_line(number: usize, text: &mut [u8]) -> usize
     if text.len() < size {
         return 0;
     }
-    store(text, 0, b"error\t");
+    // not refused: `size` counts these bytes
+    let _ = store(text, 0, b"error\t");
     put_decimal(text, 6, digits, number);
     text[size - 1] = 10;
     size
@@ -67,7 +70,8 @@ pub fn blocks_line(free: usize, held: usize, text: &mut [u8]) -> usize
     if text.len() < size {
         return 0;
     }
-    store(text, 0, b"blocks\t");
+    // not refused: `size` counts these bytes
+    let _ = store(text, 0, b"blocks\t");
     put_decimal(text, 7, first, free);
     text[at - 1] = 9;
     put_decimal(text, at, second, held);
@@ -109,7 +113,8 @@ fn sent_line(session: u32, kind: u8, info: &[u8], text: &mut [u8]) -> usize
     put_decimal(text, 0, digits, n);
     text[digits] = 9;
     let bytes = name.bytes;
-    store(text, digits + 1, &bytes[..letters]);
+    // not refused: `size` counts these bytes
+    let _ = store(text, digits + 1, &bytes[..letters]);
     text[at - 1] = 9;
     put_hex(text, at, info);
     text[size - 1] = 10;

@@ -11,8 +11,9 @@ pub fn width(n: usize) -> usize
 {
     let mut digits = 1;
     let mut rest = n;
+    // a `while`: each turn takes a tenth of what is left
     while 9 < rest {
-        rest = rest / 10;
+        rest /= 10;
         digits += 1;
     }
     digits
@@ -26,9 +27,10 @@ pub(crate) fn put_decimal(text: &mut [u8], at: usize, digits: usize, n: usize)
 {
     let mut i = at + digits - 1;
     let mut rest = n;
+    // a `while`: each turn writes the last digit of what is left and takes its tenth
     while 9 < rest {
         text[i] = 48 + (rest % 10) as u8;
-        rest = rest / 10;
+        rest /= 10;
         i -= 1;
     }
     text[i] = 48 + rest as u8;
@@ -39,13 +41,8 @@ pub(crate) fn put_hex(text: &mut [u8], at: usize, bytes: &[u8])
     requires { at + 2 * length bytes.now ≤ length text.old }
     ensures { text.new ≡ sets text.old at (hex_of bytes.now) }
 {
-    let mut to = at;
-    let mut i = 0;
-    while i < bytes.len() {
-        let b = bytes[i];
-        text[to] = hex_digit(b / 16);
-        text[to + 1] = hex_digit(b % 16);
-        to += 2;
-        i += 1;
+    for (i, b) in bytes.iter().enumerate() {
+        text[at + 2 * i] = hex_digit(b / 16);
+        text[at + 2 * i + 1] = hex_digit(b % 16);
     }
 }

@@ -22,8 +22,7 @@ use Rattle.session.specs.declared.state.Listed.{Listed}
 use Rattle.session.specs.declared.state.Listed.TheVariants as listed
 use Rattle.session.specs.State.{closed_session}
 use Rattle.table.specs.declared.File.{File}
-use Rattle.table.specs.declared.Found.{Found}
-use Rattle.table.specs.declared.Found.TheVariants.{Nothing, At}
+use Rattle.std.proofs.Common.{Option, Some, None}
 use Rattle.table.specs.Table.{file_at, find_of}
 use Rattle.directory.specs.Directory.{found_in}
 use Rattle.links.specs.Sound.{complete_at, uplink_sound, listed_sound, size_in, directory_sound, downlink_sound, named_at, named_sound, names_sound, selection_sound, packet_sound, link_sound, link_in, link_at, link, links_sound}
@@ -55,12 +54,12 @@ pub record SendingAt (fs : List File) (place sent : ℕ) : Type 0 where
 pub record ListingAt (fs : List File) (selected : List ℕ) (next : ℕ) (l : Listed) (done sent : ℕ) : Type 0 where
   pub one : (place : ℕ) → l ≡ listed.One place → CompleteAt fs place
   pub come : done ≤ length (found_in l next fs selected)
-  pub within : sent ≤ size_in fs (get_or (found_in l next fs selected) done Nothing)
+  pub within : sent ≤ size_in fs (get_or (found_in l next fs selected) done None)
 
 -- the number is that of a complete file
 pub record Selectable (fs : List File) (number : ℕ) : Type 0 where
   pub place : ℕ
-  pub found : find_of fs number ≡ At place
+  pub found : find_of fs number ≡ Some place
   pub complete : CompleteAt fs place
 
 -- an unfinished packet has fewer bytes than its head announces, and it announces 256 at most
@@ -245,9 +244,9 @@ pub selectable_fact : (fs : List File) (number : ℕ) → named_sound fs number 
 unfolding named_at
 selectable_fact fs number e = go (find_of fs number) refl e
   where
-    go : (w : Found) → find_of fs number ≡ w → named_at fs w ≡ true → Selectable fs number
-    go Nothing q e = absurd (clash e)
-    go (At place) q e = record { place = place; found = q; complete = complete_fact fs place e }
+    go : (w : Option ℕ) → find_of fs number ≡ w → named_at fs w ≡ true → Selectable fs number
+    go None q e = absurd (clash e)
+    go (Some place) q e = record { place = place; found = q; complete = complete_fact fs place e }
 
 pub selectable_test : (fs : List File) (number : ℕ) → Selectable fs number → named_sound fs number ≡ true
 unfolding named_at

@@ -1,6 +1,6 @@
 -- The facts of refusal 35 that concern the sessions (document 01, "Refusals by number"): "a length, offset or name points at what the store
 -- lacks", and no others: what calls keep besides stands in Kept.antt. Assumes nothing.
-use Rattle.std.specs.Prelude.{Bool, true, false, cond, not, List, [], ◌∷◌, ℕ, ◌+◌, ◌*◌, eqb, leb, ltb, length, get_or, take, drop}
+use Rattle.std.specs.Prelude.{Bool, true, false, cond, not, List, [], ◌∷◌, ℕ, ◌+◌, ◌*◌, eqb, leb, ltb, length, get_or, take, drop, Option, Some, None}
 use Rattle.packet.specs.Frame.{announced_in}
 use Rattle.session.specs.declared.state.Session.{Session}
 use Rattle.session.specs.declared.state.Uplink.{Uplink}
@@ -11,8 +11,6 @@ use Rattle.session.specs.declared.state.Listed.{Listed}
 use Rattle.session.specs.declared.state.Listed.TheVariants as listed
 use Rattle.session.specs.State.{closed_session}
 use Rattle.table.specs.declared.File.{File}
-use Rattle.table.specs.declared.Found.{Found}
-use Rattle.table.specs.declared.Found.TheVariants.{Nothing, At}
 use Rattle.table.specs.Table.{file_at, find_of, uploaded}
 use Rattle.directory.specs.Directory.{found_in}
 
@@ -35,15 +33,15 @@ listed_sound fs (listed.One place) = complete_at fs place
 listed_sound fs (listed.Selected first) = true
 
 -- the announced length of the file that is found, 0 of none
-unfoldable pub size_in : List File → Found → ℕ
-size_in fs Nothing = 0
-size_in fs (At place) = (file_at fs place).size
+unfoldable pub size_in : List File → Option ℕ → ℕ
+size_in fs None = 0
+size_in fs (Some place) = (file_at fs place).size
 
 -- it has come to one of its files, or past the last one, and its offset is within that file
 unfoldable pub directory_sound : List File → List ℕ → ℕ → Listed → ℕ → ℕ → Bool
 directory_sound fs selected next l done sent =
     cond (listed_sound fs l)
-    (cond (leb done (length (found_in l next fs selected))) (leb sent (size_in fs (get_or (found_in l next fs selected) done Nothing))) false)
+    (cond (leb done (length (found_in l next fs selected))) (leb sent (size_in fs (get_or (found_in l next fs selected) done None))) false)
     false
 
 -- a download names a complete file, and an offset within it
@@ -56,9 +54,9 @@ downlink_sound fs selected next (down.Aborting place) = complete_at fs place
 downlink_sound fs selected next (down.Listing l long done sent) = directory_sound fs selected next l done sent
 
 -- a selected number is that of a complete file
-unfoldable pub named_at : List File → Found → Bool
-named_at fs Nothing = false
-named_at fs (At place) = complete_at fs place
+unfoldable pub named_at : List File → Option ℕ → Bool
+named_at fs None = false
+named_at fs (Some place) = complete_at fs place
 
 abbrev pub named_sound : List File → ℕ → Bool
 named_sound fs number = named_at fs (find_of fs number)

@@ -12,7 +12,6 @@ ghost use Rattle.table.specs.Fit.{Distinct};
 ghost use Rattle.links.specs.Sound.{complete_at, uplink_sound, listed_sound, size_in, directory_sound, downlink_sound, named_sound, names_sound, selection_sound, packet_sound, link_sound, link_in, links_sound};
 
 use session::state::{Downlink, Listed, Session, Uplink};
-use table::Found;
 
 // The file at a place is complete.
 fn complete_at(table: &[u32], place: usize) -> bool
@@ -57,12 +56,12 @@ fn listed_sound(listed: Listed, table: &[u32]) -> bool
 }
 
 // The announced length of the file that is found, 0 of none.
-fn size_in(found: Found, table: &[u32]) -> u32
+fn size_in(found: Option<usize>, table: &[u32]) -> u32
     ensures { result ≡ size_in (files table.now) found }
 {
     match found {
-        Found::Nothing => 0,
-        Found::At(place) => table::get(table, place).size,
+        None => 0,
+        Some(place) => table::get(table, place).size,
     }
 }
 
@@ -121,8 +120,8 @@ fn named_sound(table: &[u32], number: u32) -> bool
 {
     let found = table::find(table, number);
     match found {
-        Found::Nothing => false,
-        Found::At(place) => complete_at(table, place),
+        None => false,
+        Some(place) => complete_at(table, place),
     }
 }
 
@@ -131,11 +130,8 @@ fn names_each(table: &[u32], selected: &[u32], count: usize) -> bool
     requires { count ≤ length selected.now }
     ensures { result ≡ names_sound (files table.now) (take count selected.now) }
 {
-    let mut k = 0;
-    while k < count {
-        if named_sound(table, selected[k]) {
-            k += 1;
-        } else {
+    for number in &selected[..count] {
+        if !named_sound(table, *number) {
             return false;
         }
     }
@@ -143,20 +139,18 @@ fn names_each(table: &[u32], selected: &[u32], count: usize) -> bool
 }
 
 // The place of the file with a number, looked for from a place on and only then from the first one. No two files have the same number.
-fn place_of(table: &[u32], number: u32, from: usize) -> Found
+fn place_of(table: &[u32], number: u32, from: usize) -> Option<usize>
     requires { Distinct (numbers (files table.now)) }
     ensures { result ≡ find_of (files table.now) number }
 {
     if number == 0 {
-        return Found::Nothing;
+        return None;
     }
     let n = table::places(table);
-    let mut at = from;
-    while at < n {
+    for at in from..n {
         if table::get(table, at).number == number {
-            return Found::At(at);
+            return Some(at);
         }
-        at += 1;
     }
     table::find(table, number)
 }
@@ -168,18 +162,15 @@ fn names_in_order(table: &[u32], selected: &[u32], count: usize) -> bool
     ensures { result ≡ names_sound (files table.now) (take count selected.now) }
 {
     let mut from = 0;
-    let mut k = 0;
-    while k < count {
-        let found = place_of(table, selected[k], from);
-        let Found::At(place) = found else {
+    for number in &selected[..count] {
+        let found = place_of(table, *number, from);
+        let Some(place) = found else {
             return false;
         };
-        if complete_at(table, place) {
-            from = place;
-            k += 1;
-        } else {
+        if !complete_at(table, place) {
             return false;
         }
+        from = place;
     }
     true
 }

@@ -9,7 +9,7 @@ use lib.Seq.{take-nil, drop-nil}
 use borrow.Author.Tests.{le-ltb}
 use Rattle.session.specs.declared.state.Listed.{Listed}
 use Rattle.table.specs.declared.File.{File}
-use Rattle.table.specs.declared.Found.TheVariants.{Nothing}
+use Rattle.std.proofs.Common.{None}
 use Rattle.stored.specs.Answers.{sizes_fit}
 use Rattle.entries.specs.Entry.{entry_at, reads, read_of}
 use Rattle.directory.specs.Directory.{found_in}
@@ -44,6 +44,6 @@ module _ (long : Bool) (disk owner : List ℕ) where
 
     pub entry_of : (k : ℕ)
         → get_or (entries_of listed long next disk owner fs selected) k []
-        ≡ entry_in long disk owner fs (get_or (found_in listed next fs selected) k Nothing)
+        ≡ entry_in long disk owner fs (get_or (found_in listed next fs selected) k None)
     unfolding entry_in
-    entry_of k = get_or-map (entry_in long disk owner fs) (found_in listed next fs selected) k Nothing
+    entry_of k = get_or-map (entry_in long disk owner fs) (found_in listed next fs selected) k None

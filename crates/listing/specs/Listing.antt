@@ -1,10 +1,8 @@
 -- A directory on its way (A1 of document 02; document 001, 6.2.1): "the server will transmit one or more PACSAT File Headers in a series of DATA
 -- packets". The entries of its files run on, one behind the other, and a DATA takes the next bytes of them. Assumes nothing.
-use Rattle.std.specs.Prelude.{Bool, cond, List, [], ◌∷◌, map, ℕ, ◌+◌, ◌-◌, eqb, ltb, length, take, drop, replicate}
+use Rattle.std.specs.Prelude.{Bool, cond, List, [], ◌∷◌, map, ℕ, ◌+◌, ◌-◌, eqb, ltb, length, take, drop, replicate, Option, Some, None}
 use Rattle.session.specs.declared.state.Listed.{Listed}
 use Rattle.table.specs.declared.File.{File}
-use Rattle.table.specs.declared.Found.{Found}
-use Rattle.table.specs.declared.Found.TheVariants.{Nothing, At}
 use Rattle.table.specs.Table.{file_at}
 use Rattle.header.specs.Entries.{running_on}
 use Rattle.entries.specs.Entry.{entry_at, put_front}
@@ -13,9 +11,9 @@ use Rattle.listing.specs.declared.Filled.{Filled}
 
 -- ---- the entries
 
-unfoldable pub entry_in : Bool → List ℕ → List ℕ → List File → Found → List ℕ
-entry_in long disk owner fs Nothing = []
-entry_in long disk owner fs (At place) = entry_at long disk owner place (file_at fs place).received
+unfoldable pub entry_in : Bool → List ℕ → List ℕ → List File → Option ℕ → List ℕ
+entry_in long disk owner fs None = []
+entry_in long disk owner fs (Some place) = entry_at long disk owner place (file_at fs place).received
 
 -- those of the files that a directory names, in their order
 abbrev pub entries_of : Listed → Bool → ℕ → List ℕ → List ℕ → List File → List ℕ → List (List ℕ)

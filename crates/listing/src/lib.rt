@@ -9,7 +9,6 @@ ghost use Rattle.listing.specs.Listing.{entry_in, entries_of, fill_of};
 ghost use Rattle.listing.specs.Progress.{put_from, advanced, rested, filled_with};
 
 use session::state::Listed;
-use table::Found;
 
 // How many of a directory's files lie behind, how many bytes of the next one's entry, and how many bytes are collected.
 #[derive(Clone, Copy)]
@@ -30,7 +29,7 @@ pub struct Filled {
 
 // The entry of the file that is found, from byte `skip` of it on, at the front of what is lent; the length of the whole entry.
 fn read_found(
-    found: Found,
+    found: Option<usize>,
     long: bool,
     skip: usize,
     disk: &[u8],
@@ -41,24 +40,22 @@ fn read_found(
     ensures { reads result out.new
         ≡ put_from (entry_in long disk.now owner.now (files table.now) found) skip out.old }
 {
-    match found {
-        Found::Nothing => 0,
-        Found::At(place) => {
-            if 256 <= place {
-                return 0;
-            }
-            let f = table::get(table, place);
-            entries::read_entry(
-                long,
-                disk,
-                owner,
-                place as u16,
-                f.received as usize,
-                skip,
-                out,
-            )
-        }
+    let Some(place) = found else {
+        return 0;
+    };
+    if 256 <= place {
+        return 0;
     }
+    let f = table::get(table, place);
+    entries::read_entry(
+        long,
+        disk,
+        owner,
+        place as u16,
+        f.received as usize,
+        skip,
+        out,
+    )
 }
 
 // The progress past an entry of `size` bytes, where `room` bytes more can be put, at least one.
@@ -106,7 +103,7 @@ fn collected(p: Progress, bytes: [u8; 256]) -> Filled
         done: p.done,
         sent: p.sent,
         size: p.size,
-        bytes: bytes,
+        bytes,
     }
 }
 
@@ -129,10 +126,11 @@ pub fn fill(
     let n = directory::count(listed, next, table, selected);
     let mut bytes = [0u8; 256];
     let mut p = Progress {
-        done: done,
-        sent: sent,
+        done,
+        sent,
         size: 0,
     };
+    // a `while`: each turn goes on behind the bytes that it collected, which end in the same entry or in the next
     while p.done < n {
         let at = p.size;
         if at < 256 {

@@ -15,10 +15,10 @@ fn new_server(blocks: usize, files: usize, sessions: usize, most: usize) -> Serv
 {
     let c = session::state::closed();
     Server {
-        blocks: blocks,
-        files: files,
-        sessions: sessions,
-        most: most,
+        blocks,
+        files,
+        sessions,
+        most,
         last: Last { number: 0, time: 0 },
         links: [c; 4],
     }
@@ -44,7 +44,8 @@ fn empty(
     let x = 4 * files;
     let y = sessions * most;
     let z = sessions * 258;
-    blocks::make(&mut map[..w], &mut owner[..blocks]);
+    // not refused: the sizes were tested
+    let _ = blocks::make(&mut map[..w], &mut owner[..blocks]);
     carry::download::forget(&mut table[..x]);
     carry::download::forget(&mut selected[..y]);
     packet::frame::forget(&mut held[..z]);
@@ -68,25 +69,15 @@ pub fn make(
         ≡ make_of blocks files sessions most (length disk.now) map.old owner.old table.old selected.old held.old }
 {
     let server = new_server(blocks, files, sessions, most);
-    let n = Lengths {
-        disk: disk.len(),
-        map: map.len(),
-        owner: owner.len(),
-        table: table.len(),
-        selected: selected.len(),
-        held: held.len(),
-    };
+    let n = Lengths::of(disk, map, owner, table, selected, held);
     if server::check::fits_all(server, n) {
         empty(
             blocks, files, sessions, most, map, owner, table, selected, held,
         );
-        return Made {
-            refused: 0,
-            server: server,
-        };
+        return Made { refused: 0, server };
     }
     Made {
         refused: 33,
-        server: server,
+        server,
     }
 }

@@ -39,6 +39,10 @@ pub record Near (l : List ℕ) (least i : ℕ) : Type 0 where
   pub found : least ≡ 0 → fields_end 0 l < length l
   pub passed : 0 < least → fields_end 0 l ≡ i + fields_end 0 (drop i l)
 
+-- a byte less 9, and 9 more again
+pub distance : (x : ℕ) → x < 256 → ((x + 247) % 256 + 9) % 256 ≡ x
+distance x h = omega arith
+
 pub near_none : (l : List ℕ) → Near l 255 0
 near_none l = record { within = omega arith; found = λ e. absurd (omega arith); passed = λ h. omega arith }
 

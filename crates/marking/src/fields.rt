@@ -4,7 +4,6 @@ ghost use Rattle.lines.specs.Commands.{same};
 ghost use Rattle.marking.specs.Fields.{fields_end, InField, is_rx, script_end};
 
 use crate::Kind;
-use std::num::wrapping_sub_u8;
 
 // Two texts are the same. All bytes are looked at, with no early end, so that many are compared at once.
 pub(crate) fn is_same(x: &[u8], y: &[u8]) -> bool
@@ -14,13 +13,9 @@ pub(crate) fn is_same(x: &[u8], y: &[u8]) -> bool
         return false;
     }
     let mut equal = true;
-    let mut i = 0;
-    while i < x.len() {
-        if x[i] == y[i] {
-            i += 1;
-        } else {
+    for (i, b) in x.iter().enumerate() {
+        if *b != y[i] {
             equal = false;
-            i += 1;
         }
     }
     equal
@@ -31,14 +26,10 @@ fn has_tab(bytes: &[u8]) -> bool
     ensures { result ≡ nat_lt (fields_end 0 bytes.now) (length bytes.now) }
 {
     let mut least = 255;
-    let mut i = 0;
-    while i < bytes.len() {
-        let d = wrapping_sub_u8(bytes[i], 9);
+    for b in bytes {
+        let d = b.wrapping_sub(9);
         if d < least {
             least = d;
-            i += 1;
-        } else {
-            i += 1;
         }
     }
     least == 0
@@ -50,6 +41,7 @@ fn after_pieces(line: &[u8], from: usize, size: usize) -> usize
     ensures { InField line.now result }
 {
     let mut n = from;
+    // a `while`: it goes on piece by piece, and the place where it ends is the answer
     while size <= line.len() - n {
         if has_tab(&line[n..n + size]) {
             return n;
@@ -64,14 +56,12 @@ fn tab_from(line: &[u8], from: usize) -> usize
     requires { InField line.now from }
     ensures { result ≡ fields_end 0 line.now }
 {
-    let mut n = from;
-    while n < line.len() {
+    for n in from..line.len() {
         if line[n] == 9 {
             return n;
         }
-        n += 1;
     }
-    n
+    line.len()
 }
 
 // The same, of a field that is short.
@@ -94,14 +84,12 @@ fn far_tab(line: &[u8]) -> usize
 pub fn fields_end(line: &[u8], further: usize) -> usize
     ensures { result ≡ fields_end further line.now }
 {
-    let mut left = further;
     let mut at = 0;
-    while 0 < left {
+    for passed in 0..further {
         let end = at + near_tab(&line[at..]);
         if line.len() <= end {
             return end;
         }
-        left -= 1;
         at = end + 1;
     }
     at + far_tab(&line[at..])

@@ -60,10 +60,9 @@ fn conclude(
     let end = least(answer.to, input.len());
     let start = least(answer.from, end);
     let judged = verdict::judge(verdict, &out[..size], &input[start..end], text, at);
-    let next = judged.verdict;
     Marked {
-        day: day,
-        verdict: next,
+        day,
+        verdict: judged.verdict,
         written: judged.written,
     }
 }

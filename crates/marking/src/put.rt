@@ -16,9 +16,10 @@ fn put_pieces(first: &[u8], second: &[u8], third: &[u8], text: &mut [u8], at: us
     ensures { text.new ≡ sets text.old at (first.now ++ (second.now ++ third.now)) }
 {
     let middle = at + first.len();
-    store(text, at, first);
-    store(text, middle, second);
-    store(text, middle + second.len(), third);
+    // not refused: the text has room for all three
+    let _ = store(text, at, first);
+    let _ = store(text, middle, second);
+    let _ = store(text, middle + second.len(), third);
 }
 
 // Three pieces behind the first `at` bytes of the text: how many bytes they have, or 0 and nothing written where they do not fit.

@@ -1,9 +1,9 @@
 -- Laws on the rows of the table of names, and on the search of a name. Assumes nothing.
 use mathlib.Core.Path.{◌≡◌, refl, sym, ap, ◌∙◌}
 use mathlib.Core.Bool.{Bool, true, false, cond}
-use mathlib.Core.List.{List, [], ◌∷◌, ◌++◌, map}
+use mathlib.Core.List.{List, [], ◌∷◌, map}
+use mathlib.Core.Logic.{◌⊎◌, inl, inr}
 use Prim.Native.Nat.{ℕ, zero, suc, ◌+◌, ◌-◌, ◌≤◌, ◌<◌, max}
-use Prim.Native.String.{String}
 use native.Mathlib.Omega.{arith}
 use native.Mathlib.Numerals.{add-one}
 use lib.Dec.{eqb, ltb}
@@ -93,30 +93,21 @@ row_width wanted = width_in_law items wanted
 
 -- ---- letters shared with a name
 
-module _ (name text : List ℕ) (k : ℕ) where
-  abbrev Sharing : Type 0
-  Sharing = shared (map lower name) text ≡ k + shared (map lower (drop k name)) (drop k text)
+pub sharing_more : (name text more rest : List ℕ) (c b : ℕ) → name ≡ c ∷ more → text ≡ b ∷ rest → lower b ≡ lower c
+    → shared (map lower name) text ≡ suc (shared (map lower more) rest)
+unfolding shared
+sharing_more name text more rest c b n t e = rw (n, t, eq-eqb (lower b) (lower c) e)
 
-  pub sharing_more : k < length name → k < length text → lower (get_or text k 0) ≡ lower (get_or name k 0) → Sharing
-      → shared (map lower name) text ≡ k + 1 + shared (map lower (drop (k + 1) name)) (drop (k + 1) text)
-  unfolding shared
-  sharing_more h i e s = s ∙ rw (add-one k, drop-cons name k 0 h, drop-cons text k 0 i, eq-eqb (lower (get_or text k 0)) (lower (get_or name k 0)) e) (omega arith)
+pub sharing_stops : (name text more rest : List ℕ) (c b : ℕ) → name ≡ c ∷ more → text ≡ b ∷ rest → (lower b ≡ lower c → ⊥)
+    → shared (map lower name) text ≡ 0
+unfolding shared
+sharing_stops name text more rest c b n t e = rw (n, t, ne_eqb (lower b) (lower c) e)
 
-  pub sharing_stops : k < length name → k < length text → (lower (get_or text k 0) ≡ lower (get_or name k 0) → ⊥) → Sharing → k ≡ shared (map lower name) text
-  unfolding shared
-  sharing_stops h i e s =
-      let z : shared (map lower (drop k name)) (drop k text) ≡ 0 = rw (drop-cons name k 0 h, drop-cons text k 0 i, ne_eqb (lower (get_or text k 0)) (lower (get_or name k 0)) e) in
-      omega arith
-
-  pub sharing_ends : k < length name → length text ≤ k → Sharing → k ≡ shared (map lower name) text
-  unfolding shared
-  sharing_ends h i s =
-      let z : shared (map lower (drop k name)) (drop k text) ≡ 0 = rw (drop-cons name k 0 h, drop_of_length-le text {i = k} i) in
-      omega arith
-
-  pub sharing_whole : length name ≤ k → Sharing → k ≡ shared (map lower name) text
-  unfolding shared
-  sharing_whole h s = let z : shared (map lower (drop k name)) (drop k text) ≡ 0 = rw (drop_of_length-le name {i = k} h) in omega arith
+pub sharing_ends : (name text : List ℕ) → (name ≡ []) ⊎ (text ≡ []) → shared (map lower name) text ≡ 0
+unfolding shared
+sharing_ends name text (inl e) = rw e refl
+sharing_ends [] text (inr e) = refl
+sharing_ends (c ∷ cs) text (inr e) = rw e refl
 
 -- ---- first letters
 

@@ -12,7 +12,7 @@ use borrow.Author.Tests.{ltb-true, ltb-false, eqb-true, eqb-false, eq-eqb}
 use Rattle.text.specs.Match.{lower}
 use Rattle.lines.specs.Commands.{same}
 use Rattle.lines.proofs.FieldLaws.{same_equal}
-use Rattle.names.specs.Names.{Named, items, small, begins_with, id_in, id_named, starts_in}
+use Rattle.names.specs.Names.{Named, small, begins_with, id_in, id_named, starts_in}
 use Rattle.names.specs.Rows.{shared, found_in}
 use Rattle.names.specs.declared.table.Found.TheVariants.{Known, Unknown}
 use Rattle.names.proofs.Tests as tests

@@ -8,56 +8,51 @@ ghost use Rattle.names.specs.Kinds.{is_blank, is_printed, hex_of};
 pub fn byte_of(text: &[u8], i: usize) -> u8
     ensures { result ≡ get_or text.now i 0 }
 {
-    if i < text.len() { text[i] } else { 0 }
+    text.get(i).copied().unwrap_or(0)
 }
 
 // A byte, an ASCII letter lowered.
+#[tactic(auto, unfolding(text::specs::Match::lower))]
 pub fn lowered(b: u8) -> u8
     ensures { result ≡ lower b }
 {
-    if 65 <= b {
-        if b <= 90 {
-            return b + 32;
-        }
+    match b {
+        b'A'..=b'Z' => b + 32,
+        _ => b,
     }
-    b
 }
 
 // A byte is a decimal digit.
+#[tactic(auto, unfolding(lines::specs::Numerals::digit))]
 pub fn is_digit(b: u8) -> bool
     ensures { result ≡ digit b }
 {
-    if b < 48 { false } else { b < 58 }
+    matches!(b, b'0'..=b'9')
 }
 
+#[tactic(auto, unfolding(crate::specs::Kinds::is_blank))]
 pub fn is_blank(b: u8) -> bool
     ensures { result ≡ is_blank b }
 {
-    if b == 32 { true } else { b == 9 }
+    matches!(b, b' ' | b'\t')
 }
 
+#[tactic(auto, unfolding(crate::specs::Kinds::is_printed))]
 pub fn is_printed(b: u8) -> bool
     ensures { result ≡ is_printed b }
 {
-    if 32 <= b { b <= 126 } else { false }
+    matches!(b, b' '..=b'~')
 }
 
 // The value of a hex digit of either case, 16 for any other byte.
+#[tactic(auto, unfolding(lines::specs::Numerals::hex_value))]
 pub fn hex_value(b: u8) -> u8
     ensures { result ≡ hex_of b }
 {
     let c = lowered(b);
-    if c < 48 {
-        return 16;
+    match c {
+        b'0'..=b'9' => c - 48,
+        b'a'..=b'f' => c - 87,
+        _ => 16,
     }
-    if c < 58 {
-        return c - 48;
-    }
-    if c < 97 {
-        return 16;
-    }
-    if c < 103 {
-        return c - 87;
-    }
-    16
 }

@@ -85,9 +85,8 @@ pub fn row_at(k: usize) -> Row
             width: 1,
         };
     }
-    let letters = NAMES[k];
     Row {
-        letters: letters,
+        letters: NAMES[k],
         size: SIZES[k],
         id: IDS[k],
         width: WIDTHS[k],
@@ -98,13 +97,11 @@ pub fn row_at(k: usize) -> Row
 pub fn row_of(id: u16) -> Row
     ensures { result ≡ row_of id }
 {
-    let mut k = 0;
-    while k < 28 {
+    for k in 0..28 {
         let row = row_at(k);
         if row.id == id {
             return row;
         }
-        k += 1;
     }
     row_at(28)
 }
@@ -113,18 +110,14 @@ pub fn row_of(id: u16) -> Row
 fn shared_letters(letters: &[u8], text: &[u8]) -> usize
     ensures { result ≡ shared (map lower letters.now) text.now }
 {
-    let mut k = 0;
-    while k < letters.len() {
-        if text.len() <= k {
-            return k;
+    let mut same = 0;
+    for (letter, b) in letters.iter().zip(text) {
+        if lowered(*b) != lowered(*letter) {
+            return same;
         }
-        if lowered(text[k]) == lowered(letters[k]) {
-            k += 1;
-        } else {
-            return k;
-        }
+        same += 1;
     }
-    k
+    same
 }
 
 // A text shares a letter at least with the name at a place.
@@ -138,20 +131,12 @@ fn shares_a_letter(k: usize, text: &[u8]) -> bool
     lowered(text[0]) == FIRSTS[k]
 }
 
-// The greater of two numbers.
-fn greater(a: usize, b: usize) -> usize
-    ensures { result ≡ max a b }
-{
-    if a < b { b } else { a }
-}
-
 // The name that a text begins with.
 pub fn find_name(text: &[u8]) -> Found
     ensures { result ≡ found text.now }
 {
-    let mut k = 0;
     let mut most = 0;
-    while k < 28 {
+    for k in 0..28 {
         if shares_a_letter(k, text) {
             let row = row_at(k);
             let letters = row.letters;
@@ -160,9 +145,8 @@ pub fn find_name(text: &[u8]) -> Found
             if same == size {
                 return Found::Known(row.id, size);
             }
-            most = greater(most, same);
+            most = most.max(same);
         }
-        k += 1;
     }
     Found::Unknown(most)
 }

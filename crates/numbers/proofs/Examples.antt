@@ -1,7 +1,6 @@
 -- Eight digits of a few numbers, by computation. Assumes nothing.
 use mathlib.Core.Path.{◌≡◌, refl}
-use mathlib.Core.List.{List, [], ◌∷◌, map}
-use Prim.Native.Nat.{ℕ}
+use mathlib.Core.List.{[], ◌∷◌, map}
 use Rattle.numbers.specs.Hex.{hex_digit, eight}
 
 -- "00000000", "000007d0", "89abcdef", "ffffffff"

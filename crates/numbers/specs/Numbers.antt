@@ -1,8 +1,6 @@
 -- Numbers in bytes (document 01, "Packets": "Numbers are least significant byte first"). Assumes nothing.
-use Rattle.std.specs.Prelude.{cond, List, [], ◌∷◌, ℕ, ◌+◌, ◌*◌, ◌/◌, ◌%◌, leb, length, take, drop}
+use Rattle.std.specs.Prelude.{cond, List, [], ◌∷◌, ℕ, ◌+◌, ◌*◌, ◌/◌, ◌%◌, leb, length, take, drop, Option, Some, None}
 use Rattle.std.proofs.lemmas.List.Edits.{sets}
-use Rattle.numbers.specs.declared.Number.{Number}
-use Rattle.numbers.specs.declared.Number.TheVariants.{Short, Value}
 
 -- the number that bytes stand for
 unfoldable pub number : List ℕ → ℕ
@@ -17,13 +15,13 @@ abbrev pub four : ℕ → List ℕ
 four n = n % 256 ∷ n / 256 % 256 ∷ n / 65536 % 256 ∷ n / 16777216 % 256 ∷ []
 
 -- the number in the `width` bytes of bs from byte `at` on
-unfoldable pub number_at : ℕ → List ℕ → ℕ → Number
-number_at width bs at = cond (leb (at + width) (length bs)) (Value (number (take width (drop at bs)))) Short
+unfoldable pub number_at : ℕ → List ℕ → ℕ → Option ℕ
+number_at width bs at = cond (leb (at + width) (length bs)) (Some (number (take width (drop at bs)))) None
 
 -- document 01's number for a number that was read: 33, "a lent buffer too short", where its bytes are not all there
-abbrev pub short_number : Number → ℕ
-short_number Short = 33
-short_number (Value n) = 0
+abbrev pub short_number : Option ℕ → ℕ
+short_number None = 33
+short_number (Some n) = 0
 
 -- the same number for bytes to be written: they fit where as many could be read; 0 for done
 unfoldable pub fits_at : ℕ → List ℕ → ℕ → ℕ

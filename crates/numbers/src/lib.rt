@@ -4,107 +4,87 @@
 #![tactic(auto)]
 
 ghost use Rattle.std.specs.Prelude.{◌≡◌, [], ◌∷◌, ◌+◌, ◌*◌, length};
+ghost use Rattle.refusal.specs.Refusal.{number_of};
 ghost use Rattle.numbers.specs.Numbers.{number, two, four, number_at, fits_at, stored_at};
 ghost use Rattle.numbers.specs.Hex.{hex_digit};
 
-// A number that was read; Short where its bytes are not all there (refusal 33).
-#[derive(Clone, Copy)]
-pub enum Number {
-    Short,
-    Value(u32),
-}
+use refusal::Refusal;
 
 // The number of two bytes.
+#[tactic(auto, unfolding(crate::specs::Numbers::number))]
 pub fn number16(a: u8, b: u8) -> u16
     ensures { result ≡ number (a ∷ b ∷ []) }
 {
-    a as u16 + 256 * (b as u16)
+    u16::from_le_bytes([a, b])
 }
 
 // The number of four bytes.
+#[tactic(auto, unfolding(crate::specs::Numbers::number))]
 pub fn number32(a: u8, b: u8, c: u8, d: u8) -> u32
     ensures { result ≡ number (a ∷ b ∷ c ∷ d ∷ []) }
 {
-    a as u32 + 256 * (b as u32) + 65536 * (c as u32) + 16777216 * (d as u32)
+    u32::from_le_bytes([a, b, c, d])
 }
 
-// The 16-bit number at a place.
-pub fn read16(bytes: &[u8], at: usize) -> Number
+// The 16-bit number at a place, none where its bytes are not all there.
+#[tactic(auto, using(crate::proofs::NumberLaws::short_at, crate::proofs::NumberLaws::read_at16))]
+pub fn read16(bytes: &[u8], at: usize) -> Option<u32>
     ensures { result ≡ number_at 2 bytes.now at }
 {
-    if bytes.len() < 2 {
-        return Number::Short;
+    if bytes.len() < 2 || bytes.len() - 2 < at {
+        return None;
     }
-    if bytes.len() - 2 < at {
-        return Number::Short;
-    }
-    Number::Value(number16(bytes[at], bytes[at + 1]) as u32)
+    Some(number16(bytes[at], bytes[at + 1]) as u32)
 }
 
-// The 32-bit number at a place.
-pub fn read32(bytes: &[u8], at: usize) -> Number
+// The 32-bit number at a place, none where its bytes are not all there.
+#[tactic(auto, using(crate::proofs::NumberLaws::short_at, crate::proofs::NumberLaws::read_at32))]
+pub fn read32(bytes: &[u8], at: usize) -> Option<u32>
     ensures { result ≡ number_at 4 bytes.now at }
 {
-    if bytes.len() < 4 {
-        return Number::Short;
+    if bytes.len() < 4 || bytes.len() - 4 < at {
+        return None;
     }
-    if bytes.len() - 4 < at {
-        return Number::Short;
-    }
-    Number::Value(number32(bytes[at], bytes[at + 1], bytes[at + 2], bytes[at + 3]))
+    Some(number32(bytes[at], bytes[at + 1], bytes[at + 2], bytes[at + 3]))
 }
 
-// Writes a 16-bit number at a place: 0, or 33 and nothing written where it does not fit.
-pub fn write16(out: &mut [u8], at: usize, n: u16) -> u8
-    ensures value { result ≡ fits_at 2 out.old at }
+// Writes a 16-bit number at a place; refused by 33, and nothing written, where it does not fit.
+#[tactic(auto, using(crate::proofs::NumberLaws::refused_at, crate::proofs::NumberLaws::accepted_at, crate::proofs::NumberLaws::unstored_at, crate::proofs::NumberLaws::stored_part))]
+pub fn write16(out: &mut [u8], at: usize, n: u16) -> Result<(), Refusal>
+    ensures value { number_of result ≡ fits_at 2 out.old at }
     ensures out_after { out.new ≡ stored_at out.old at (two n) }
 {
-    if out.len() < 2 {
-        return 33;
+    if out.len() < 2 || out.len() - 2 < at {
+        return Err(Refusal::BadSize);
     }
-    if out.len() - 2 < at {
-        return 33;
-    }
-    out[at] = (n % 256) as u8;
-    out[at + 1] = (n / 256 % 256) as u8;
-    0
+    out[at..at + 2].copy_from_slice(&n.to_le_bytes());
+    Ok(())
 }
 
-// Writes a 32-bit number at a place: 0, or 33 and nothing written where it does not fit.
-pub fn write32(out: &mut [u8], at: usize, n: u32) -> u8
-    ensures value { result ≡ fits_at 4 out.old at }
+// Writes a 32-bit number at a place; refused by 33, and nothing written, where it does not fit.
+#[tactic(auto, using(crate::proofs::NumberLaws::refused_at, crate::proofs::NumberLaws::accepted_at, crate::proofs::NumberLaws::unstored_at, crate::proofs::NumberLaws::stored_part))]
+pub fn write32(out: &mut [u8], at: usize, n: u32) -> Result<(), Refusal>
+    ensures value { number_of result ≡ fits_at 4 out.old at }
     ensures out_after { out.new ≡ stored_at out.old at (four n) }
 {
-    if out.len() < 4 {
-        return 33;
+    if out.len() < 4 || out.len() - 4 < at {
+        return Err(Refusal::BadSize);
     }
-    if out.len() - 4 < at {
-        return 33;
-    }
-    out[at] = (n % 256) as u8;
-    out[at + 1] = (n / 256 % 256) as u8;
-    out[at + 2] = (n / 65536 % 256) as u8;
-    out[at + 3] = (n / 16777216 % 256) as u8;
-    0
+    out[at..at + 4].copy_from_slice(&n.to_le_bytes());
+    Ok(())
 }
 
-// Stores all of `from` in `to` from byte `at` on: 0, or 33 and nothing stored where it does not fit.
-pub fn store(to: &mut [u8], at: usize, from: &[u8]) -> u8
-    ensures value { result ≡ fits_at (length from.now) to.old at }
+// Stores all of `from` in `to` from byte `at` on; refused by 33, and nothing stored, where it does not fit.
+#[tactic(auto, using(crate::proofs::NumberLaws::refused_at, crate::proofs::NumberLaws::accepted_at, crate::proofs::NumberLaws::unstored_at, crate::proofs::NumberLaws::stored_part))]
+pub fn store(to: &mut [u8], at: usize, from: &[u8]) -> Result<(), Refusal>
+    ensures value { number_of result ≡ fits_at (length from.now) to.old at }
     ensures to_after { to.new ≡ stored_at to.old at from.now }
 {
-    if to.len() < from.len() {
-        return 33;
+    if to.len() < from.len() || to.len() - from.len() < at {
+        return Err(Refusal::BadSize);
     }
-    if to.len() - from.len() < at {
-        return 33;
-    }
-    let mut i = 0;
-    while i < from.len() {
-        to[at + i] = from[i];
-        i += 1;
-    }
-    0
+    to[at..at + from.len()].copy_from_slice(from);
+    Ok(())
 }
 
 // The digit of half a byte; of a larger number, that of its low half byte.

@@ -1,9 +1,10 @@
 -- The framing of a link and the plain reader agree, and cutting a link's bytes elsewhere changes no answer. Assumes nothing.
+use Rattle.std.proofs.Common.{Ok, Err, Result}
 use mathlib.Core.Path.{◌≡◌, refl, sym, ap, ◌∙◌}
 use mathlib.Core.Bool.{Bool, true, false, cond}
 use mathlib.Core.List.{List, [], ◌∷◌, ◌++◌, flatten}
 use mathlib.Core.Option.{some}
-use Prim.Native.Nat.{ℕ, zero, suc, ◌+◌, ◌-◌, ◌≤◌, ◌<◌}
+use Prim.Native.Nat.{ℕ, zero, suc, ◌+◌, ◌≤◌, ◌<◌}
 use native.Mathlib.Numerals.{add-one}
 use native.Mathlib.Nat.{zero-add}
 use native.Mathlib.Omega.{arith}
@@ -11,7 +12,6 @@ use borrow.Author.Tests.{ltb-false, lt-ltb, le-ltb}
 use lib.Dec.{ltb}
 use lib.ListN.{length, get_or, set, take, drop, replicate, length-append}
 use lib.Seq.{get_or-set_other, sets, sets-eq, take-append_seam, length-take-le, take-suc, split_at}
-use Rattle.packet.specs.declared.plain.Plain.TheVariants as plain
 use Rattle.packet.specs.Packet.{announced, kind_in, read_answer}
 use Rattle.packet.specs.Machine.{more, ends, Call, further, call, runs}
 use Rattle.packet.specs.Frame.{Held, Event, packet, none_held, announced_in, judged, byte}
@@ -155,7 +155,7 @@ agree a b bs s l = by_size (announced a b) refl
 
 -- .. as the reader says it
 pub reader_and_framing : (bs : List ℕ) (kind n : ℕ)
-    → read_answer bs ≡ plain.Packet kind n
+    → read_answer bs ≡ Ok (kind, n)
     → n ≤ 256
     → call byte none_held bs ≡ record { taken = 2 + n; state = none_held; event = some (packet kind (take n (drop 2 bs))) }
 reader_and_framing [] kind n e h = absurd (clash 33 kind n (unfold read_answer in e))
@@ -164,11 +164,12 @@ reader_and_framing (a ∷ b ∷ bs) kind n e h = go (ltb 17 (kind_in b)) (ltb (l
   where
     go : (t u : Bool)
         → ltb (length bs) (announced a b) ≡ u
-        → cond t (plain.Refused 33) (cond u (plain.Refused 33) (plain.Packet (kind_in b) (announced a b))) ≡ plain.Packet kind n
+        → cond {A = Result (ℕ × ℕ) ℕ} t (Err 33) (cond u (Err 33) (Ok (kind_in b, announced a b))) ≡ Ok (kind, n)
         → call byte none_held (a ∷ b ∷ bs) ≡ record { taken = 2 + n; state = none_held; event = some (packet kind (take n bs)) }
     go true u q e = absurd (clash 33 kind n e)
     go false true q e = absurd (clash 33 kind n e)
     go false false q e =
-        let ek : kind_in b ≡ kind = cc in
-        let en : announced a b ≡ n = cc in
+        let same : ◌≡◌ {A = ℕ × ℕ} (kind_in b, announced a b) (kind, n) = cc in
+        let ek : kind_in b ≡ kind = ap (λ (x : ℕ × ℕ). x.0) same in
+        let en : announced a b ≡ n = ap (λ (x : ℕ × ℕ). x.1) same in
         rw (en, ek) at (agree a b bs (rw en h) (ltb-false (length bs) (announced a b) q))

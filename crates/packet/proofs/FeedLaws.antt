@@ -2,7 +2,7 @@
 use mathlib.Core.Path.{◌≡◌, refl, sym, ap, ◌∙◌}
 use mathlib.Core.Bool.{Bool, true, false, cond}
 use mathlib.Core.List.{List, [], ◌∷◌}
-use Prim.Native.Nat.{ℕ, zero, suc, ◌+◌, ◌-◌, ◌≤◌, ◌<◌}
+use Prim.Native.Nat.{ℕ, zero, suc, ◌+◌, ◌-◌, ◌≤◌, ◌<◌, min}
 use native.Mathlib.Numerals.{add-one}
 use native.Mathlib.Nat.{add_assoc, zero-add, add-zero}
 use native.Mathlib.Omega.{arith}
@@ -98,6 +98,13 @@ least_some a b h k = go (ltb a b)
     go : (t : Bool) → 0 < cond t a b
     go true = h
     go false = k
+
+pub least_is : (a b : ℕ) → min a b ≡ least_of a b
+least_is a b = go (ltb a b) refl
+  where
+    go : (t : Bool) → ltb a b ≡ t → min a b ≡ cond t a b
+    go true e = omega (arith, ltb-true a b e)
+    go false e = omega (arith, ltb-false a b e)
 
 pub run_of : (n : ℕ) (p : List ℕ) (left w r : ℕ)
     → n < 258
@@ -202,13 +209,19 @@ module _ (p₀ p input q : List ℕ)
       fed_run ∙ ap (fed_more (i + (k - 1))) (after_more _ (n + k) q _ e) ∙ fed_more_add (i + (k - 1)) 1 _
       ∙ ap (λ (j : ℕ). fed_more j (feed_of q (n + k) (drop (i + k) input))) (let t : i + (k - 1) + 1 ≡ i + k = omega arith in t)
 
-  pub feeds_end : mark_of (n + k) q ≡ End → fed_in (record { taken = i + k; held = n + k; mark = End }) q ≡ feed_of p₀ h input
+  feeds_end : mark_of (n + k) q ≡ End → fed_in (record { taken = i + k; held = n + k; mark = End }) q ≡ feed_of p₀ h input
   unfolding after_byte
   feeds_end e = let t : i + (k - 1) + 1 ≡ i + k = omega arith in sym (fed_run ∙ rw (e, t))
 
-  pub feeds_long : mark_of (n + k) q ≡ Long → fed_in (record { taken = i + k; held = n + k; mark = Long }) q ≡ feed_of p₀ h input
+  feeds_long : mark_of (n + k) q ≡ Long → fed_in (record { taken = i + k; held = n + k; mark = Long }) q ≡ feed_of p₀ h input
   unfolding after_byte
   feeds_long e = let t : i + (k - 1) + 1 ≡ i + k = omega arith in sym (fed_run ∙ rw (e, t))
+
+  -- where the bytes stored do not call for more, feeding stops
+  pub feeds_stop : (m : Mark) → mark_of (n + k) q ≡ m → (m ≡ More → ⊥) → fed_in (record { taken = i + k; held = n + k; mark = m }) q ≡ feed_of p₀ h input
+  feeds_stop More e s = absurd (s refl)
+  feeds_stop Long e s = feeds_long e
+  feeds_stop End e s = feeds_end e
 
 pub feeds_all : (p₀ p input : List ℕ) (h n i : ℕ)
     → feed_of p₀ h input ≡ fed_more i (feed_of p n (drop i input))

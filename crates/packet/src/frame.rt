@@ -15,7 +15,7 @@ pub enum Frame {
     TooLong,
     // A whole packet: its type and its information's length.
     Whole(u8, usize),
-    // A part that is no link's.
+    // A part that is no link's. A case like the others, and no error: `decide` answers each of the four.
     Refused(u8),
 }
 
@@ -86,22 +86,12 @@ fn wanted(part: &[u8], n: usize) -> usize
     1
 }
 
-// The smaller of two numbers.
-fn least(a: usize, b: usize) -> usize
-    ensures { result ≡ least_of a b }
-{
-    if a < b {
-        return a;
-    }
-    b
-}
-
 // How many of the bytes left are stored at once.
 fn run_length(part: &[u8], n: usize, left: usize) -> usize
     requires { (1 < length part.now) × (n < 258) × (0 < left) }
     ensures { (result ≡ least_of (wanted_of n part.now) left) × (0 < result) × (result ≤ left) × (n + result ≤ 258) }
 {
-    least(wanted(part, n), left)
+    wanted(part, n).min(left)
 }
 
 // Stores bytes up to the end of a packet, or all of them, as many at once as cannot end a packet before the last of them.
@@ -111,28 +101,22 @@ fn feed(part: &mut [u8], held: usize, input: &[u8]) -> Fed
 {
     let mut n = held;
     let mut i = 0;
+    // a `while`: each turn goes on behind the bytes that it stored, and how many those are depends on what the part holds by then
     while i < input.len() {
         let k = run_length(&*part, n, input.len() - i);
-        store(part, n, &input[i..i + k]);
+        // not refused: the run ends within the part
+        let _ = store(part, n, &input[i..i + k]);
         n += k;
         i += k;
-        let m = mark_of(&*part, n);
-        match m {
-            Mark::End => {
-                return Fed {
-                    taken: i,
-                    held: n,
-                    mark: Mark::End,
-                };
-            }
-            Mark::Long => {
-                return Fed {
-                    taken: i,
-                    held: n,
-                    mark: Mark::Long,
-                };
-            }
+        match mark_of(&*part, n) {
             Mark::More => {}
+            mark => {
+                return Fed {
+                    taken: i,
+                    held: n,
+                    mark,
+                };
+            }
         }
     }
     Fed {
@@ -146,11 +130,7 @@ fn feed(part: &mut [u8], held: usize, input: &[u8]) -> Fed
 pub fn forget(part: &mut [u8])
     ensures { part.new ≡ replicate (length part.old) 0 }
 {
-    let mut k = 0;
-    while k < part.len() {
-        part[k] = 0;
-        k += 1;
-    }
+    part.fill(0);
 }
 
 // The information of the packet in a part, padded with zeros.
@@ -159,7 +139,8 @@ fn information(part: &[u8], size: usize) -> [u8; 256]
     ensures { result ≡ padded (take size (drop 2 part.now)) }
 {
     let mut info = [0u8; 256];
-    store(&mut info, 0, &part[2..2 + size]);
+    // not refused: at most 256 bytes
+    let _ = store(&mut info, 0, &part[2..2 + size]);
     info
 }
 
@@ -168,10 +149,10 @@ fn without_packet(taken: usize, held: usize, frame: Frame) -> Framed
     ensures { result ≡ without_packet taken held frame }
 {
     Framed {
-        taken: taken,
-        held: held,
-        frame: frame,
-        info: [0u8; 256],
+        taken,
+        held,
+        frame,
+        info: [0; 256],
     }
 }
 
@@ -179,19 +160,15 @@ fn without_packet(taken: usize, held: usize, frame: Frame) -> Framed
 pub fn receive(part: &mut [u8], held: usize, input: &[u8]) -> Framed
     ensures { heard result part.new ≡ receive_of part.old held input.now }
 {
-    if part.len() != 258 {
+    if part.len() != 258 || 258 <= held {
         return without_packet(0, held, Frame::Refused(33));
     }
-    if 258 <= held {
-        return without_packet(0, held, Frame::Refused(33));
-    }
-    let f = feed(part, held, input);
-    let mark = f.mark;
-    match mark {
-        Mark::More => without_packet(f.taken, f.held, Frame::Open),
+    let fed = feed(part, held, input);
+    match fed.mark {
+        Mark::More => without_packet(fed.taken, fed.held, Frame::Open),
         Mark::Long => {
             forget(part);
-            without_packet(f.taken, 0, Frame::TooLong)
+            without_packet(fed.taken, 0, Frame::TooLong)
         }
         Mark::End => {
             let kind = part[1] % 32;
@@ -199,10 +176,10 @@ pub fn receive(part: &mut [u8], held: usize, input: &[u8]) -> Framed
             let info = information(&*part, size);
             forget(part);
             Framed {
-                taken: f.taken,
+                taken: fed.taken,
                 held: 0,
                 frame: Frame::Whole(kind, size),
-                info: info,
+                info,
             }
         }
     }

@@ -38,16 +38,15 @@ const SIZES: [usize; 18] = [
 pub fn name_of(kind: u8) -> Name
     ensures { result ≡ named kind }
 {
-    let k = kind as usize;
+    let k = usize::from(kind);
     if 17 < k {
         return Name {
-            bytes: [0u8; 17],
+            bytes: [0; 17],
             size: 0,
         };
     }
-    let bytes = NAMES[k];
     Name {
-        bytes: bytes,
+        bytes: NAMES[k],
         size: SIZES[k],
     }
 }

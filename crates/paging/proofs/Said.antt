@@ -8,7 +8,7 @@ use Rattle.packet.specs.declared.frame.Frame.TheVariants.{TooLong}
 use Rattle.text.specs.Match.{matches}
 use Rattle.header.specs.Header.{verdict}
 use Rattle.equation.specs.Answer.{validity_of}
-use Rattle.table.specs.declared.Given.TheVariants.{Next}
+use Rattle.std.proofs.Common.{Some}
 use Rattle.table.specs.Given.{blocks_for, upload_time}
 use Rattle.session.specs.declared.reply.Reply.TheVariants.{Login, UploadError, Selected}
 use Rattle.session.specs.State.{fresh_session}
@@ -31,7 +31,7 @@ module _ (e : Examples) where
 
   -- blocks and times
   pub amounts :
-      (map blocks_for (0 ∷ 256 ∷ 257 ∷ []) ≡ 0 ∷ 1 ∷ 2 ∷ []) × (upload_time 900 1000 ≡ Next 1001) × (upload_time 2000 1000 ≡ Next 2000)
+      (map blocks_for (0 ∷ 256 ∷ 257 ∷ []) ≡ 0 ∷ 1 ∷ 2 ∷ []) × (upload_time 900 1000 ≡ Some 1001) × (upload_time 2000 1000 ≡ Some 2000)
   amounts = (e.p6, e.p7, e.p7_later)
 
   -- the file of 80 bytes, and its first 79

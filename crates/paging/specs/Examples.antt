@@ -1,5 +1,5 @@
 -- The proved examples of document 01, P1 to P12, in one statement: what the server's own definitions give is what the paper says. Assumes nothing.
-use Rattle.std.specs.Prelude.{◌≡◌, true, false, List, [], ◌∷◌, map, ℕ, take, replicate}
+use Rattle.std.specs.Prelude.{◌≡◌, true, false, List, [], ◌∷◌, map, ℕ, take, replicate, Some}
 use Rattle.packet.specs.Packet.{packet_of}
 use Rattle.packet.specs.Frame as frame
 use Rattle.packet.specs.declared.frame.Frame.{Frame}
@@ -7,7 +7,6 @@ use Rattle.packet.specs.declared.frame.Frame.TheVariants.{TooLong}
 use Rattle.text.specs.Match.{matches}
 use Rattle.header.specs.Header.{verdict}
 use Rattle.equation.specs.Answer.{validity_of}
-use Rattle.table.specs.declared.Given.TheVariants.{Next}
 use Rattle.table.specs.Given.{blocks_for, upload_time}
 use Rattle.session.specs.declared.reply.Reply.{Reply}
 use Rattle.session.specs.declared.reply.Reply.TheVariants.{Login, UploadError, Selected}
@@ -61,8 +60,8 @@ pub record Examples : Type 0 where
   -- P6 "lengths 0, 256, 257 take 0, 1, 2 blocks."
   pub p6 : map blocks_for (0 ∷ 256 ∷ 257 ∷ []) ≡ 0 ∷ 1 ∷ 2 ∷ []
   -- P7 "last time 1000, clock 900: 1001; clock 2000: 2000."
-  pub p7 : upload_time 900 1000 ≡ Next 1001
-  pub p7_later : upload_time 2000 1000 ≡ Next 2000
+  pub p7 : upload_time 900 1000 ≡ Some 1001
+  pub p7_later : upload_time 2000 1000 ≡ Some 2000
   -- P8 the file of 80 bytes "is accepted; its first 79 bytes, announced as 79: 14."
   pub p8 : verdict smallest 80 ≡ 0
   pub p8_short : verdict (take 79 smallest) 79 ≡ 14

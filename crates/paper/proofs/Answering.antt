@@ -1,4 +1,5 @@
 -- The public call: what it answers is the text's. Assumes nothing.
+use Rattle.std.proofs.Common.{Ok, Err}
 use mathlib.Core.Path.{◌≡◌, refl, sym, subst, ◌∙◌}
 use mathlib.Core.List.{List, []}
 use Prim.Native.Nat.{ℕ, ◌+◌, ◌≤◌, ◌<◌}
@@ -6,31 +7,29 @@ use native.Mathlib.Omega.{arith}
 use lib.ListN.{length, get_or}
 use Rattle.grammar.specs.Formula.{postfix, or_after}
 use Rattle.grammar.specs.Machine.{have, refused, ended, ending, outcome_of}
-use Rattle.grammar.specs.declared.Reason.{Reason}
 use Rattle.grammar.specs.declared.Reason.TheVariants as reason
 use Rattle.grammar.proofs.Steps as steps
 use Rattle.grammar.proofs.Viable.{first_wrong}
-use Rattle.readings.specs.Contract.{SumIs, SumRead}
+use Rattle.tokens.specs.declared.Wrong.{Wrong}
+use Rattle.readings.specs.Contract.{Reading, SumIs, SumRead}
 use Rattle.paper.specs.Answer.{Answers, answers, delivered_from, answered, bytes_of}
 use Rattle.paper.specs.declared.Answer.TheVariants as answer
-use Rattle.readings.specs.declared.Reading.{Reading}
-use Rattle.readings.specs.declared.Reading.TheVariants.{At, Wrong}
 use Rattle.tokens.proofs.Places as places
 use Rattle.paper.proofs.OutputLaws as output
 
 module _ (text out buffer : List ℕ) where
-  module _ (p : ℕ) (why : Reason) (r : Reading) (now : List ℕ) (e : r ≡ Wrong p why) (s : SumRead text 0 16 buffer 0 r now) where
-    wrong_outcome : outcome_of text ≡ refused p why
+  module _ (w : Wrong) (r : Reading) (now : List ℕ) (e : r ≡ Err w) (s : SumRead text 0 16 buffer 0 r now) where
+    wrong_outcome : outcome_of text ≡ refused w.at w.reason
     wrong_outcome = subst (λ (r : Reading). SumRead text 0 16 buffer 0 r now) e s [] refl
 
-    pub place_within : p ≤ length text
-    place_within = (first_wrong text p why wrong_outcome).within
+    pub place_within : w.at ≤ length text
+    place_within = (first_wrong text w.at w.reason wrong_outcome).within
 
-    pub text_wrong : answers (answer.Wrong (p + 1) why) out ≡ bytes_of text out
+    pub text_wrong : answers (answer.Wrong (w.at + 1) w.reason) out ≡ bytes_of text out
     unfolding answered
     text_wrong = rw wrong_outcome
 
-  module _ (e m : ℕ) (r : Reading) (now : List ℕ) (z : r ≡ At e m) (s : SumRead text 0 16 buffer 0 r now) where
+  module _ (e m : ℕ) (r : Reading) (now : List ℕ) (z : r ≡ Ok (e, m)) (s : SumRead text 0 16 buffer 0 r now) where
     sum_is : SumIs text 0 16 buffer 0 e m now
     sum_is = subst (λ (r : Reading). SumRead text 0 16 buffer 0 r now) z s
 

@@ -2,14 +2,12 @@
 use mathlib.Core.Path.{◌≡◌, refl}
 use mathlib.Core.Bool.{Bool, true, false, cond}
 use mathlib.Core.List.{List, [], ◌∷◌, ◌++◌}
-use Prim.Native.Nat.{ℕ, ◌+◌, ◌-◌, ◌≤◌, ◌<◌}
-use native.Mathlib.Nat.{zero-add}
+use Prim.Native.Nat.{ℕ, ◌+◌, ◌≤◌}
 use native.Mathlib.Omega.{arith}
-use native.Mathlib.Numerals.{add-one}
 use lib.Dec.{leb, eqb}
-use lib.ListN.{length, get_or, set, take, drop}
-use lib.Seq.{sets, sets-eq, paste-suc, take_at}
-use borrow.Author.Tests.{leb-true, le-leb, lt-leb, eqb-true}
+use lib.ListN.{length, set, take, drop}
+use lib.Seq.{sets, sets-eq, take_at}
+use borrow.Author.Tests.{leb-true, eqb-true}
 use Rattle.equation.specs.Relation.{width}
 use Rattle.readings.proofs.PutLaws as puts
 use Rattle.paper.specs.Answer.{answers, delivered, delivered_from}
@@ -39,22 +37,6 @@ four_wide w h i j = by (eqb w 1) refl h
     by false e z = by2 (eqb w 2) refl z
 
 -- ---- the delivery
-
-pub copy_step : (d s : List ℕ) (j : ℕ) → j < length d → j < length s → set (take j s ++ drop j d) j (get_or s j 0) ≡ take (j + 1) s ++ drop (j + 1) d
-copy_step d s j hd hs = rw (add-one j) (simp zero-add at (paste-suc d 0 s j 0 (omega arith) hs))
-
-module _ (bytes out : List ℕ) where
-  pub written : (m : ℕ) (now : List ℕ) → m ≤ 256 → m ≤ length out → now ≡ take m bytes ++ drop m out → answers (answer.Bytes m) now ≡ delivered_from bytes m out
-  unfolding delivered_from
-  written m now h i e = rw (le-leb m 256 h, le-leb m (length out) i, e)
-
-  pub short : (m : ℕ) → m ≤ 256 → length out < m → answers (answer.Refused 33) out ≡ delivered_from bytes m out
-  unfolding delivered_from
-  short m h i = rw (le-leb m 256 h, lt-leb m (length out) i)
-
-  pub long : (m : ℕ) → 256 < m → answers answer.Long out ≡ delivered_from bytes m out
-  unfolding delivered_from
-  long m h = rw (lt-leb m 256 h)
 
 -- what the buffer holds is delivered as the bytes that were put
 pub from_buffer : (buffer bytes out : List ℕ) (m : ℕ) → length buffer ≡ 256 → m ≡ length bytes → delivered_from (sets buffer 0 bytes) m out ≡ delivered bytes out

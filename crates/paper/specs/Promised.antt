@@ -1,10 +1,9 @@
 -- What is promised of turning a text into bytes, beside the equation of the public call (src/lib.rt). Assumes nothing.
-use Rattle.std.specs.Prelude.{◌≡◌, cond, List, ◌++◌, ℕ, ◌+◌, ◌≤◌, ◌<◌, length, drop}
+use Rattle.std.specs.Prelude.{◌≡◌, Ok, List, ◌++◌, ℕ, ◌+◌, ◌≤◌, ◌<◌, length, drop}
 use Rattle.std.proofs.Math.Option.{some}
 use Rattle.header.specs.Items.{fields_of}
 use Rattle.equation.specs.Tree.{parse}
 use Rattle.equation.specs.Answer.{answer_of, validity_of}
-use Rattle.equation.specs.declared.evaluation.Truth.TheVariants.{No, Yes}
 use Rattle.grammar.specs.Formula.{Formula, postfix, true_on, tree_from}
 use Rattle.grammar.specs.Grammar.{Reads, WrongPlace}
 use Rattle.grammar.specs.declared.Reason.{Reason}
@@ -19,7 +18,7 @@ pub record Accepts (text : List ℕ) (f : Formula) : Type 0 where
   pub short : (out : List ℕ) → length out < length (postfix f) → bytes_of text out ≡ answers (answer.Refused 33) out
   pub parsed : parse (postfix f) ≡ some (tree_from 0 f)
   pub valid : validity_of (postfix f) ≡ 0
-  pub truth : (file : List ℕ) → answer_of (postfix f) file ≡ cond (true_on (fields_of file) f) Yes No
+  pub truth : (file : List ℕ) → answer_of (postfix f) file ≡ Ok (true_on (fields_of file) f)
 
 pub record Promised : Type 0 where
   -- accepted are texts of the grammar alone; the bytes are those of what the text means

@@ -10,9 +10,10 @@ use crate::sums::blanks;
 use grammar::{Comparison, Reason};
 use names::bytes::{byte_of, is_digit};
 use readings::Reading;
-use tokens::amounts::{Number, number_at};
-use tokens::items::{Item, item_at};
-use tokens::signs::{Sign, is_equality, operator_number, sign_at};
+use tokens::Wrong;
+use tokens::amounts::number_at;
+use tokens::items::item_at;
+use tokens::signs::{is_equality, operator_number, sign_at};
 use tokens::strings::{Character, character_at};
 
 // A number from its first digit on.
@@ -20,26 +21,19 @@ fn number(text: &[u8], at: usize, id: u16, c: Comparison, out: &mut [u8], n: usi
     requires { (at ≤ length text.now) × (n + 12 ≤ 2 * at) × (digit (get_or text.now at 0) ≡ true) }
     ensures { ConstantRead text.now at id c out.old n result out.new }
 {
-    let x = number_at(text, at, id);
-    match x {
-        Number::Wrong(p, why) => Reading::Wrong(p, why),
-        Number::Is(v, size, q) => {
-            let m = put_head(out, n, 128 + 16 * operator_number(c), id, size);
-            let k = put_number(out, m, size, v);
-            Reading::At(q, k)
-        }
-    }
+    let (v, size, q) = number_at(text, at, id)?;
+    let m = put_head(out, n, 128 + 16 * operator_number(c), id, size);
+    let k = put_number(out, m, size, v);
+    Ok((q, k))
 }
 
 // The number of stars, with a further byte.
+#[tactic(auto, unfolding(equation::specs::Symbols::stars_in))]
 fn counted(stars: usize, b: u8) -> usize
     requires { stars < 18446744073709551615 }
     ensures { result ≡ stars + stars_in (b ∷ []) }
 {
-    if b == 42 {
-        return stars + 1;
-    }
-    stars
+    if b == b'*' { stars + 1 } else { stars }
 }
 
 // A string's characters up to its end.
@@ -50,11 +44,11 @@ fn characters(text: &[u8], at: usize, out: &mut [u8], n: usize) -> Reading
     let mut p = at;
     let mut m = n;
     let mut stars = 0;
+    // a `loop`: each turn goes on behind the character that it read, and one may be two bytes long
     loop {
-        let x = character_at(text, p, m - n, stars);
-        match x {
-            Character::End => return Reading::At(p + 1, m),
-            Character::Wrong(q, why) => return Reading::Wrong(q, why),
+        match character_at(text, p, m - n, stars) {
+            Character::End => return Ok((p + 1, m)),
+            Character::Wrong(at, reason) => return Err(Wrong { at, reason }),
             Character::Is(b, e) => {
                 m = put(out, m, b);
                 p = e;
@@ -70,14 +64,9 @@ fn string_at(text: &[u8], at: usize, id: u16, c: Comparison, out: &mut [u8], n: 
     ensures { StringConstantRead text.now at id c out.old n result out.new }
 {
     let m = put_head(out, n, 131 + 16 * operator_number(c), id, 0);
-    let s = characters(text, at, out, m);
-    match s {
-        Reading::Wrong(p, why) => Reading::Wrong(p, why),
-        Reading::At(e, k) => {
-            put_at(out, n + 3, (k - m) as u8);
-            Reading::At(e, k)
-        }
-    }
+    let (e, k) = characters(text, at, out, m)?;
+    put_at(out, n + 3, (k - m) as u8);
+    Ok((e, k))
 }
 
 // The constant at a place at which no blank stands.
@@ -93,9 +82,15 @@ fn constant_at(text: &[u8], at: usize, id: u16, c: Comparison, out: &mut [u8], n
         if is_equality(c) {
             return string_at(text, at + 1, id, c, out, n);
         }
-        return Reading::Wrong(at, Reason::Order);
+        return Err(Wrong {
+            at,
+            reason: Reason::Order,
+        });
     }
-    Reading::Wrong(at, Reason::Constant)
+    Err(Wrong {
+        at,
+        reason: Reason::Constant,
+    })
 }
 
 // The relation at a place at which neither a blank nor a bracket stands.
@@ -103,15 +98,19 @@ pub(crate) fn relation(text: &[u8], at: usize, out: &mut [u8], n: usize) -> Read
     requires { (at ≤ length text.now) × (n ≤ 2 * at) × (is_blank (get_or text.now at 0) ≡ false) × (get_or text.now at 0 ≡ 40 → ⊥) }
     ensures { RelationRead text.now at out.old n result out.new }
 {
-    let i = item_at(text, at);
-    match i {
-        Item::Wrong(p) => Reading::Wrong(p, Reason::Item),
-        Item::Is(id, e) => {
+    match item_at(text, at) {
+        Err(at) => Err(Wrong {
+            at,
+            reason: Reason::Item,
+        }),
+        Ok((id, e)) => {
             let q = blanks(text, e);
-            let s = sign_at(text, q);
-            match s {
-                Sign::Wrong(p) => Reading::Wrong(p, Reason::Operator),
-                Sign::Is(c, k) => {
+            match sign_at(text, q) {
+                Err(at) => Err(Wrong {
+                    at,
+                    reason: Reason::Operator,
+                }),
+                Ok((c, k)) => {
                     let d = blanks(text, k);
                     constant_at(text, d, id, c, out, n)
                 }

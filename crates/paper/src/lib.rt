@@ -10,7 +10,6 @@ ghost use Rattle.std.specs.Prelude.{◌≡◌};
 ghost use Rattle.paper.specs.Answer.{answers, bytes_of};
 
 use grammar::Reason;
-use readings::Reading;
 
 // How a text is answered: the number of its bytes; the first wrong place, counted from 1, and the reason; its bytes are above 256; or refused by 33.
 #[derive(Clone, Copy)]
@@ -26,10 +25,9 @@ pub fn to_bytes(text: &[u8], out: &mut [u8]) -> Answer
     ensures { answers result out.new ≡ bytes_of text.now out.old }
 {
     let mut buffer = [0u8; 256];
-    let s = sums::sum(text, 0, 16, &mut buffer, 0);
-    match s {
-        Reading::Wrong(p, why) => Answer::Wrong(p + 1, why),
-        Reading::At(e, m) => {
+    match sums::sum(text, 0, 16, &mut buffer, 0) {
+        Err(wrong) => Answer::Wrong(wrong.at + 1, wrong.reason),
+        Ok((e, m)) => {
             if e < text.len() {
                 return Answer::Wrong(e + 1, Reason::Connective);
             }

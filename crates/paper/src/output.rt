@@ -15,7 +15,6 @@ pub(crate) fn put(out: &mut [u8], n: usize, b: u8) -> usize
 {
     if n < out.len() {
         out[n] = b;
-        return n + 1;
     }
     n + 1
 }
@@ -26,7 +25,6 @@ pub(crate) fn put_at(out: &mut [u8], n: usize, b: u8)
 {
     if n < out.len() {
         out[n] = b;
-        return;
     }
 }
 
@@ -60,29 +58,18 @@ pub(crate) fn put_number(out: &mut [u8], n: usize, size: u8, v: u32) -> usize
     put(out, c, (v / 16777216 % 256) as u8)
 }
 
-// Copies the first m bytes.
-fn copy(bytes: &[u8], m: usize, out: &mut [u8])
-    requires { (m ≤ length bytes.now) × (m ≤ length out.old) }
-    ensures { out.new ≡ take m bytes.now ++ drop m out.old }
-{
-    let mut i = 0;
-    while i < m {
-        out[i] = bytes[i];
-        i += 1;
-    }
-}
-
 // The first m bytes of a buffer, delivered.
+#[tactic(auto, unfolding(crate::specs::Answer::delivered_from))]
 pub(crate) fn deliver(bytes: &[u8], m: usize, out: &mut [u8]) -> Answer
     requires { length bytes.now ≡ 256 }
     ensures { answers result out.new ≡ delivered_from bytes.now m out.old }
 {
-    if m <= 256 {
-        if m <= out.len() {
-            copy(bytes, m, out);
-            return Answer::Bytes(m);
-        }
+    if 256 < m {
+        return Answer::Long;
+    }
+    if out.len() < m {
         return Answer::Refused(33);
     }
-    Answer::Long
+    out[..m].copy_from_slice(&bytes[..m]);
+    Answer::Bytes(m)
 }

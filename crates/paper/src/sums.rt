@@ -8,6 +8,7 @@ use crate::output::put;
 use grammar::Reason;
 use names::bytes::byte_of;
 use readings::{Joiner, Reading, Start};
+use tokens::Wrong;
 use tokens::items::past_blanks;
 
 // Blanks passed over, as the machine passes over them.
@@ -53,12 +54,18 @@ fn close(text: &[u8], at: usize, m: usize) -> Reading
     ensures { result ≡ closed_at text.now at m }
 {
     if byte_of(text, at) == 41 {
-        return Reading::At(at + 1, m);
+        return Ok((at + 1, m));
     }
     if at < text.len() {
-        return Reading::Wrong(at, Reason::Connective);
+        return Err(Wrong {
+            at,
+            reason: Reason::Connective,
+        });
     }
-    Reading::Wrong(at, Reason::Bracket)
+    Err(Wrong {
+        at,
+        reason: Reason::Bracket,
+    })
 }
 
 #[cycle(factor_product_sum)]
@@ -66,16 +73,15 @@ fn factor(text: &[u8], at: usize, left: u8, out: &mut [u8], n: usize) -> Reading
     requires { (at ≤ length text.now) × (n ≤ 2 * at) }
     ensures { FactorRead text.now at left out.old n result out.new }
 {
-    let s = begins(text, at, left);
-    match s {
-        Start::Deep(p) => Reading::Wrong(p, Reason::Deeper),
+    match begins(text, at, left) {
+        Start::Deep(at) => Err(Wrong {
+            at,
+            reason: Reason::Deeper,
+        }),
         Start::Relation(q) => relation(text, q, out, n),
         Start::Open(e) => {
-            let i = sum(text, e, left - 1, out, n);
-            match i {
-                Reading::Wrong(p, why) => Reading::Wrong(p, why),
-                Reading::At(q, m) => close(text, q, m),
-            }
+            let (q, m) = sum(text, e, left - 1, out, n)?;
+            close(text, q, m)
         }
     }
 }
@@ -85,29 +91,24 @@ fn product(text: &[u8], at: usize, left: u8, out: &mut [u8], n: usize) -> Readin
     requires { (at ≤ length text.now) × (n ≤ 2 * at) }
     ensures { ProductRead text.now at left out.old n result out.new }
 {
-    let f = factor(text, at, left, out, n);
-    match f {
-        Reading::Wrong(p, why) => Reading::Wrong(p, why),
-        Reading::At(e, k) => {
-            let mut p = e;
-            let mut m = k;
-            loop {
-                let q = blanks(text, p);
-                let j = join_at(text, q, 38);
-                match j {
-                    Joiner::Other => return Reading::At(q, m),
-                    Joiner::Half => return Reading::Wrong(q + 1, Reason::Connective),
-                    Joiner::Whole => {
-                        let g = factor(text, q + 2, left, out, m);
-                        match g {
-                            Reading::Wrong(x, why) => return Reading::Wrong(x, why),
-                            Reading::At(y, h) => {
-                                m = put(out, h, 1);
-                                p = y;
-                            }
-                        }
-                    }
-                }
+    let (e, k) = factor(text, at, left, out, n)?;
+    let mut p = e;
+    let mut m = k;
+    // a `loop`: each turn goes on behind the factor that it read
+    loop {
+        let q = blanks(text, p);
+        match join_at(text, q, 38) {
+            Joiner::Other => return Ok((q, m)),
+            Joiner::Half => {
+                return Err(Wrong {
+                    at: q + 1,
+                    reason: Reason::Connective,
+                });
+            }
+            Joiner::Whole => {
+                let (y, h) = factor(text, q + 2, left, out, m)?;
+                m = put(out, h, 1);
+                p = y;
             }
         }
     }
@@ -118,28 +119,23 @@ pub(crate) fn sum(text: &[u8], at: usize, left: u8, out: &mut [u8], n: usize) ->
     requires { (at ≤ length text.now) × (n ≤ 2 * at) }
     ensures { SumRead text.now at left out.old n result out.new }
 {
-    let f = product(text, at, left, out, n);
-    match f {
-        Reading::Wrong(p, why) => Reading::Wrong(p, why),
-        Reading::At(e, k) => {
-            let mut p = e;
-            let mut m = k;
-            loop {
-                let j = join_at(text, p, 124);
-                match j {
-                    Joiner::Other => return Reading::At(p, m),
-                    Joiner::Half => return Reading::Wrong(p + 1, Reason::Connective),
-                    Joiner::Whole => {
-                        let g = product(text, p + 2, left, out, m);
-                        match g {
-                            Reading::Wrong(x, why) => return Reading::Wrong(x, why),
-                            Reading::At(y, h) => {
-                                m = put(out, h, 2);
-                                p = y;
-                            }
-                        }
-                    }
-                }
+    let (e, k) = product(text, at, left, out, n)?;
+    let mut p = e;
+    let mut m = k;
+    // a `loop`: each turn goes on behind the product that it read
+    loop {
+        match join_at(text, p, 124) {
+            Joiner::Other => return Ok((p, m)),
+            Joiner::Half => {
+                return Err(Wrong {
+                    at: p + 1,
+                    reason: Reason::Connective,
+                });
+            }
+            Joiner::Whole => {
+                let (y, h) = product(text, p + 2, left, out, m)?;
+                m = put(out, h, 2);
+                p = y;
             }
         }
     }

@@ -1,5 +1,5 @@
 -- Laws on the parts of a turn: a step, the last lines, a line that is begun, and input that is read. Assumes nothing.
-use Rattle.std.proofs.Common.{◌≡◌, ℕ, ◌+◌, ◌-◌, ◌≤◌, true, false, eqb, List, ◌++◌, length, take, drop, sym, refl, ap, ◌∙◌, arith}
+use Rattle.std.proofs.Common.{◌≡◌, ℕ, ◌+◌, ◌-◌, ◌^◌, ◌<◌, ◌≤◌, true, false, eqb, List, ◌++◌, length, take, drop, sym, refl, ap, ◌∙◌, arith}
 use mathlib.Core.Option.{Option, none, some}
 use Rattle.blocks.specs.FreeMap.{free_count}
 use Rattle.blocks.specs.Owners.{held_count}
@@ -15,7 +15,7 @@ use Rattle.input.specs.Input.{shifted, shift_of}
 use Rattle.script.specs.Day.{stepping, step_behind}
 use Rattle.script.specs.Line.{Ran, ran}
 use Rattle.script.specs.Sheet.{Counted}
-use Rattle.input.proofs.Places.{end_part, put_end, input_brought}
+use Rattle.input.proofs.Places.{end_part, put_end, wrapped_same, input_brought}
 use Rattle.pass.specs.declared.Pass.{Pass}
 use Rattle.pass.specs.declared.Stage.{Stage}
 use Rattle.pass.specs.declared.Stage.TheVariants as stage
@@ -132,14 +132,16 @@ module _ (p r : Pass) (to : ℕ) (l : Lent) (input bytes text : List ℕ) (does 
 
 -- ---- input that is read
 
-pub input_filled : (p : Pass) (input moved brought whole : List ℕ) (size kept n : ℕ)
+pub input_refilled : (p r : Pass) (input moved brought whole : List ℕ) (size kept n : ℕ) → length input < 2 ^ 63
+    → r ≡ pass_of p.day 0 (wrapped (kept + n)) (eqb n 0) p.lines p.filled p.stage
     → shifted size moved ≡ shift_of p.from p.end input
     → length moved ≡ length input
     → (kept ≤ length moved) × (kept ≡ least_of size (length moved))
     → length brought ≡ length (take (length moved - kept) (drop kept moved))
     → whole ≡ take kept moved ++ (brought ++ drop (length moved - kept) (drop kept moved))
     → n ≤ length (take (length whole - kept) (drop kept whole))
-    → Filled p input (pass_of p.day 0 (kept + n) (eqb n 0) p.lines p.filled p.stage) whole
-input_filled p input moved brought whole size kept n e f g h i j =
+    → Filled p input r whole
+input_refilled p r input moved brought whole size kept n small is e f g h i j =
     let b = input_brought p.from p.end input moved brought whole size kept n e f g h i j in
-    record { n = n; brought = brought; size = b.size; most = b.most; is = λ l bytes text. rw (b.is, b.front) }
+    let w : wrapped (kept + n) ≡ kept + n = wrapped_same (kept + n) (omega (arith, small, f, g.0, b.size, b.most)) in
+    record { n = n; brought = brought; size = b.size; most = b.most; is = λ l bytes text. rw (is, w, b.is, b.front) }

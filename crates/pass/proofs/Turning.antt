@@ -1,14 +1,17 @@
 -- A turn is the one that is due. Assumes nothing.
-use Rattle.std.proofs.Common.{◌≡◌, ℕ, Bool, true, false, List, [], length, take, ap}
+use Rattle.std.proofs.Common.{◌≡◌, ℕ, ◌+◌, ◌-◌, ◌<◌, Bool, true, false, List, [], length, take, ap, refl, arith}
 use mathlib.Core.Option.{none}
 use Rattle.lines.specs.declared.commands.Command.TheVariants as command
+use Rattle.input.specs.Turns as turning
+use Rattle.input.proofs.Turning.{Playing, playing_on, played_out}
 use Rattle.script.specs.Sheet.{Counted}
 use Rattle.pass.specs.declared.Pass.{Pass}
 use Rattle.pass.specs.declared.Next.{Next}
 use Rattle.pass.specs.declared.Next.TheVariants as next
 use Rattle.pass.specs.Sheets.{More}
 use Rattle.pass.specs.Pass.{Memory, memory, Passing, passing, decide_of, stepped_of, Put, put, put_in, last_put, error_then_last_put, last_of, error_of, read_at, does_at, begun_of, flushed_of}
-use Rattle.pass.specs.Pass.{Turn, step, line, last, error, written, broken, filled, Turned}
+use Rattle.pass.specs.Pass.{Turn, step, line, last, error, written, broken, filled, over_of, DueTurn, Turned}
+use Rattle.pass.specs.Run.{is_over}
 use Rattle.pass.specs.Narrow.{Flushed, Filled}
 
 module _ (room : ℕ) (more : More) (p : Pass) (m : Memory) (n : Next) (due : n ≡ decide_of room p m.input (length m.text)) where
@@ -42,3 +45,17 @@ module _ (room : ℕ) (more : More) (p : Pass) (m : Memory) (n : Next) (due : n 
   turned_fill r input e f =
       due_turn next.Fill (take f.n f.brought) [] _ _ e (f.is m.lent m.bytes m.text)
       (filled f.n f.brought f.size f.most)
+
+-- ---- turns, one after the other: k of at most 2^64 - 1 were made
+
+module _ (room : ℕ) (more : More) (first before after : Passing) (k : ℕ)
+    (playing : Playing is_over (DueTurn room more) first before (18446744073709551615 - k)) (few : k < 18446744073709551615)
+    (turned : turning.Turned (DueTurn room more) before after) (over : Bool) (is : over ≡ over_of after.pass.stage) where
+  pub playing_more : over ≡ false → Playing is_over (DueTurn room more) first after (18446744073709551615 - (k + 1))
+  playing_more e =
+      playing_on is_over (DueTurn room more) first before after _ _ playing (omega (arith, few)) turned (rw (← is, e) (omega arith))
+
+  pub played_over : over ≡ true → turning.Played is_over (DueTurn room more) first after
+  played_over e =
+      played_out is_over (DueTurn room more) first after 0
+      (playing_on is_over (DueTurn room more) first before after _ 0 playing (omega (arith, few)) turned (rw (← is, e) refl)) (omega arith)

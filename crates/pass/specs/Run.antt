@@ -43,13 +43,16 @@ pub record PrintsBy (sheet : List ℕ → List ℕ) (read wrote : List ℕ) (aft
   -- and where the program is done, it is all of it
   pub whole : (rest : List ℕ) → MayFollow after.pass rest → after.pass.stage ≡ stage.Done → first_line ++ wrote ≡ sheet (read ++ rest)
 
--- A PROGRAM with fair words, for every way in which the input comes in pieces and every server just made; 560 bytes have room for any line of
--- passday's words
-abbrev pub EveryRun : ℕ → More → Type 0
-EveryRun room more =
+-- every run of a program, for every way in which the input comes in pieces and every server just made: it prints this sheet
+abbrev pub EveryRunOf : ℕ → More → (Start → List ℕ → List ℕ) → Type 0
+EveryRunOf room more sheet =
     (s : Start) → legal s ≡ true → (m : Memory) → m.lent ≡ (made s).lent → HasRoom room m
     → (turns : ℕ) (read wrote : List ℕ) (after : Passing) → Run room more (new_of (made s).server) m turns read wrote after → length read < 2 ^ 63
-    → PrintsBy (sheet_by more s) read wrote after
+    → PrintsBy (sheet s) read wrote after
+
+-- A PROGRAM with fair words; 560 bytes have room for any line of passday's words
+abbrev pub EveryRun : ℕ → More → Type 0
+EveryRun room more = EveryRunOf room more (sheet_by more)
 
 abbrev pub EveryProgram : Type 0
 EveryProgram = (room : ℕ) (more : More) → 560 ≤ room → Fair room more → EveryRun room more

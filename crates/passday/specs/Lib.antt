@@ -1,4 +1,3 @@
 pub mod Pass
-pub mod Narrow
 pub mod Run
 pub mod Whole

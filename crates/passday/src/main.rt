@@ -1,20 +1,20 @@
 // The script program: reads a script's lines from standard input, runs them against a server of 128 blocks, 32 files, 4 sessions and MAXSEL 50, and
-// prints what it answers. All but reading and writing is done by the crate script. In whatever pieces the input comes, the program goes on until the
-// script ends, and what it then has written is the sheet of the script that it read (specs/Run.antt, Whole.antt).
+// prints what it answers. All but the choice of a turn's part is done by the crates script and pass. In whatever pieces the input comes, the program goes
+// on until the script ends, and what it then has written is the sheet of the script that it read (specs/Run.antt, Whole.antt).
 #![tactic(auto)]
 
-mod pass;
+mod turn;
 
 ghost use Rattle.std.specs.Prelude.{◌≡◌, false, length};
 ghost use Rattle.server.specs.State.{lent};
-ghost use Rattle.passday.specs.Pass.{memory, passing, over_of};
+ghost use Rattle.pass.specs.Pass.{memory, passing, over_of};
 ghost use Rattle.passday.specs.Run.{Played};
 ghost use Rattle.passday.specs.Whole.{Ready, PlayedAll, RanInMemory};
 
 use pass::Pass;
 use std::io::{Stdin, Stdout};
 
-// Turns of the program, until it is over. Nothing says that the input ends, so they are counted down from a number that no run uses up.
+// Turns of the program, until it is over. Nothing says that the input ends, so they are counted up to a number that no run reaches.
 fn play(
     stdin: Stdin,
     stdout: Stdout,
@@ -38,12 +38,13 @@ fn play(
         input.new bytes.new text.new)) }
 {
     let mut pass = start;
-    let mut turns = u64::MAX;
-    while 0 < turns {
-        pass = pass::turn(
+    for _turn in 0..u64::MAX {
+        pass = turn::turn(
             stdin, stdout, pass, disk, map, owner, table, selected, held, input, bytes, text,
         );
-        turns = pass::turns_left(pass, turns);
+        if pass::is_over(pass) {
+            return pass;
+        }
     }
     pass
 }

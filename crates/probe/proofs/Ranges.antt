@@ -13,7 +13,7 @@ use Rattle.blocks.specs.Answers.{store_fits, reserve_number}
 use Rattle.equation.specs.Answer.{validity_of}
 use Rattle.table.specs.Given.{blocks_for}
 use Rattle.files.specs.Uploads.{Begins, begin_of}
-use Rattle.files.specs.Selection.{Selects, select_number, select_of}
+use Rattle.files.specs.Selection.{count_in, Selects, select_number, select_of}
 use Rattle.files.proofs.Calls.{done, refused, by_number}
 use Rattle.files.proofs.Beginning.{NotBegun, HasBegun, begin_cases}
 use Rattle.files.proofs.Choice.{chosen_most}
@@ -63,7 +63,7 @@ select_most eq n most e = go (leb 1 most && (leb most 50 && (leb most n && leb (
     go false q e = absurd (omega arith)
 
 module _ (eq disk owner table selected : List ℕ) (most : ℕ) where
-  select_count : (select_of eq disk owner table selected most).answer.count ≤ 50
+  select_count : count_in (select_of eq disk owner table selected most).answer ≤ 50
   unfolding select_of
   select_count =
       let k = select_number eq (length selected) most in
@@ -71,5 +71,5 @@ module _ (eq disk owner table selected : List ℕ) (most : ℕ) where
       (λ z. rw (done k _ _ z) (omega (arith, chosen_most eq disk owner table selected most, select_most eq (length selected) most z)))
       (λ z. rw (refused k _ _ z) (omega arith))
 
-  pub selected_most : (s : Selects) → s ≡ select_of eq disk owner table selected most → s.answer.count ≤ 50
-  selected_most s e = subst (λ (x : Selects). x.answer.count ≤ 50) (sym e) select_count
+  pub selected_most : (s : Selects) → s ≡ select_of eq disk owner table selected most → count_in s.answer ≤ 50
+  selected_most s e = subst (λ (x : Selects). count_in x.answer ≤ 50) (sym e) select_count

@@ -1,9 +1,8 @@
 -- Answers of several cases as one number: a refusal's number of document 01's table as it is, which is below 256, and 256 plus the place
 -- or the count of an answer that is no refusal.
-use Rattle.std.specs.Prelude.{ℕ, ◌+◌, Bool, cond, List, eqb}
+use Rattle.std.specs.Prelude.{ℕ, ◌+◌, Bool, cond, List, Result, Ok, Err}
 use Rattle.files.specs.declared.Begun.{Begun}
 use Rattle.files.specs.declared.Begun.TheVariants.{Refused, Started}
-use Rattle.files.specs.declared.Selection.{Selection}
 use Rattle.files.specs.Uploads.{Begins, begun_number}
 use Rattle.files.specs.Selection.{Selects}
 
@@ -34,8 +33,9 @@ began_of b = began (begun_code b.answer) b.map b.owner b.table
 
 -- ---- a selection
 
-unfoldable pub selection_code : Selection → ℕ
-selection_code s = cond (eqb s.refused 0) (256 + s.count) s.refused
+unfoldable pub selection_code : Result ℕ ℕ → ℕ
+selection_code (Ok count) = 256 + count
+selection_code (Err n) = n
 
 -- the number answered, and the lent numbers afterwards
 pub record Picked : Type 0 where

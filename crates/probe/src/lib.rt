@@ -7,15 +7,17 @@
 #![tactic(auto)]
 
 ghost use Rattle.std.specs.Prelude.{◌≡◌, cond, ◌≤◌, ◌<◌, length, take};
+ghost use Rattle.refusal.specs.Refusal.{numbered};
 ghost use Rattle.blocks.specs.FreeMap.{free_count};
 ghost use Rattle.blocks.specs.Answers.{make_number, make_map, make_owner, window_number, read_out};
 ghost use Rattle.files.specs.Uploads.{begin_of, writes, append_of, frees, discard_of};
 ghost use Rattle.files.specs.Completion.{check_of, complete_of};
-ghost use Rattle.files.specs.Selection.{select_of};
+ghost use Rattle.files.specs.Selection.{count_in, select_of};
 ghost use Rattle.files.specs.Sound.{sound_test};
 ghost use Rattle.probe.specs.Codes.{place_of, begun_code, selection_code, sound_code, began, began_of, picked, picked_of};
 
-use files::{Begun, Selection};
+use files::Begun;
+use refusal::Refusal;
 
 // ---- answers as numbers
 
@@ -29,14 +31,15 @@ fn begun_code(answer: Begun) -> u32
     }
 }
 
-fn selection_code(answer: Selection) -> u32
-    requires { answer.count ≤ 50 }
-    ensures { result ≡ selection_code answer }
+#[tactic(auto, unfolding(crate::specs::Codes::selection_code))]
+fn selection_code(answer: Result<usize, Refusal>) -> u32
+    requires { count_in (numbered answer) ≤ 50 }
+    ensures { result ≡ selection_code (numbered answer) }
 {
-    if answer.refused == 0 {
-        return 256 + answer.count as u32;
+    match answer {
+        Ok(count) => 256 + count as u32,
+        Err(refusal) => u32::from(u8::from(refusal)),
     }
-    answer.refused as u32
 }
 
 // ---- blocks
@@ -48,7 +51,7 @@ pub extern "C" fn store_make(map: &mut [u64], owner: &mut [u16]) -> u8
     ensures map_after { map.new ≡ make_map map.old owner.old }
     ensures owner_after { owner.new ≡ make_owner map.old owner.old }
 {
-    blocks::make(map, owner)
+    refusal::number_of(blocks::make(map, owner))
 }
 
 // The number of free blocks, as `blocks::free_count`.
@@ -71,7 +74,7 @@ pub extern "C" fn store_read(
     ensures value { result ≡ window_number (length disk.now) owner.now place at (length out.old) }
     ensures out_after { out.new ≡ read_out disk.now owner.now place at out.old }
 {
-    blocks::read(disk, owner, place, at, out)
+    refusal::number_of(blocks::read(disk, owner, place, at, out))
 }
 
 // ---- uploads

@@ -3,8 +3,7 @@
 -- server is this machine, `EveryCall` (crates/refines). Its parts are the contracts of the functions. "A packet written reads back as
 -- itself. Cutting elsewhere the bytes that a link takes, with each packet and closing byte at the same clock and in the same place among the other
 -- calls, changes no packet sent and no state after it." crates/worked shows the statements at work. Assumes nothing.
-use Rattle.std.specs.Prelude.{◌≡◌, List, ℕ, ◌≤◌, ◌+◌, length, take, drop}
-use Rattle.packet.specs.declared.plain.Plain.TheVariants as plain
+use Rattle.std.specs.Prelude.{◌≡◌, List, ℕ, ◌≤◌, ◌+◌, length, take, drop, Ok}
 use Rattle.packet.specs.Packet.{write_answer, left_in, read_answer}
 use Rattle.session.specs.declared.reply.Answer.TheVariants as answer
 use Rattle.server.specs.declared.Server.{Server}
@@ -21,7 +20,7 @@ use Rattle.promises.specs.Requests.{NothingDue}
 
 -- the reader finds this type and this information in front of the bytes
 pub record Reads (bytes : List ℕ) (kind : ℕ) (info : List ℕ) : Type 0 where
-  pub accepted : read_answer bytes ≡ plain.Packet kind (length info)
+  pub accepted : read_answer bytes ≡ Ok (kind, length info)
   pub information : take (length info) (drop 2 bytes) ≡ info
 
 -- "A packet written reads back as itself": what the plain writer leaves in the output, of the types and lengths that it takes

@@ -1,4 +1,5 @@
 -- Constants and whole relations: where the machine goes, and what the output then has. Assumes nothing.
+use Rattle.std.proofs.Common.{Result, Ok, Err}
 use mathlib.Core.Path.{◌≡◌, refl, sym, subst, ◌∙◌}
 use mathlib.Core.Bool.{Bool, true, false, cond}
 use mathlib.Core.List.{List, [], ◌∷◌, ◌++◌}
@@ -23,21 +24,15 @@ use Rattle.grammar.specs.declared.Reason.{Reason}
 use Rattle.grammar.specs.declared.Reason.TheVariants as reason
 use Rattle.grammar.proofs.Steps as steps
 use Rattle.grammar.proofs.Bytes.{width_cases}
-use Rattle.tokens.specs.Tokens.{item_at, sign_at, number_at, character_at}
-use Rattle.tokens.specs.Places.{Goes, GoesIn, behind, Skipped}
-use Rattle.tokens.specs.declared.items.Item.{Item}
-use Rattle.tokens.specs.declared.signs.Sign.{Sign}
-use Rattle.tokens.specs.declared.signs.Sign.TheVariants as sign
-use Rattle.tokens.specs.declared.amounts.Number.{Number}
-use Rattle.tokens.specs.declared.amounts.Number.TheVariants as number
+use Rattle.tokens.specs.Tokens.{item_at, sign_at, wrong_at, number_at, character_at}
+use Rattle.tokens.specs.declared.Wrong.{Wrong}
+use Rattle.tokens.specs.Places.{Goes, GoesIn, Skipped}
 use Rattle.tokens.specs.declared.strings.Character.{Character}
 use Rattle.tokens.specs.declared.strings.Character.TheVariants as character
 use Rattle.tokens.proofs.Places as places
 use Rattle.tokens.proofs.TokenLaws as tokens
 use Rattle.tokens.proofs.ItemLaws.{ItemIs, ItemRead, reads_item}
-use Rattle.readings.specs.Contract.{StringIs, StringRead, ConstantIs, ConstantRead, StringConstantRead, RelationRead}
-use Rattle.readings.specs.declared.Reading.{Reading}
-use Rattle.readings.specs.declared.Reading.TheVariants.{At, Wrong}
+use Rattle.readings.specs.Contract.{Reading, StringIs, StringRead, ConstantIs, ConstantRead, StringConstantRead, RelationRead}
 use Rattle.readings.proofs.PutLaws as output
 
 pub operator_small : (c : Comparison) → operator_number c ≤ 5
@@ -51,7 +46,7 @@ operator_small LessOrEqual = omega arith
 
 -- ---- numbers
 
-pub was_number : (text : List ℕ) (at id : ℕ) → digit (get_or text at 0) ≡ true → (r x : Number) → r ≡ number_at text at id → r ≡ x → tokens.NumberRead text at id x
+pub was_number : (text : List ℕ) (at id : ℕ) → digit (get_or text at 0) ≡ true → (r x : Result (ℕ × ℕ × ℕ) Wrong) → r ≡ number_at text at id → r ≡ x → tokens.NumberRead text at id x
 was_number text at id d r x e z = rw (← z, e) (tokens.number_read text at id d)
 
 taken_length : (w v : ℕ) → width w ≡ true → length (take w (four v)) ≡ w
@@ -68,11 +63,11 @@ head_bytes code id size content out mid now n m hs hm e f =
     output.put_all out mid now n m (code ∷ (two id ++ (size ∷ []))) content e hm f ∙ rw hs
 
 module _ (text : List ℕ) (at id : ℕ) (c : Comparison) (out : List ℕ) (n : ℕ) where
-  pub number_wrong : (p : ℕ) (why : Reason) (now : List ℕ) → tokens.NumberRead text at id (number.Wrong p why) → ConstantRead text at id c out n
-      (Wrong p why) now
+  pub number_wrong : (p : ℕ) (why : Reason) (now : List ℕ) → tokens.NumberRead text at id (Err (wrong_at p why)) → ConstantRead text at id c out n
+      (Err (wrong_at p why)) now
   number_wrong p why now h = h c
 
-  pub number_is : (v w q m k : ℕ) (mid now : List ℕ) → tokens.NumberRead text at id (number.Is v w q) → m ≡ n + 4 → k ≡ m + w
+  pub number_is : (v w q m k : ℕ) (mid now : List ℕ) → tokens.NumberRead text at id (Ok (v, w, q)) → m ≡ n + 4 → k ≡ m + w
       → mid ≡ sets out n ((128 + 16 * operator_number c) ∷ (two id ++ (w ∷ []))) → now ≡ sets mid m (take w (four v)) → ConstantIs text
       (constant id c) at out n q k now
   unfolding relation_bytes number_relation
@@ -145,7 +140,7 @@ module _ (text : List ℕ) (at n : ℕ) (out₀ : List ℕ) (p m stars : ℕ) (o
       }
 
   pub string_wrong : (q : ℕ) (why : Reason) (now : List ℕ) → tokens.CharacterRead text p s.content (character.Wrong q why) → StringRead text at out₀ n
-      (Wrong q why) now
+      (Err (wrong_at q why)) now
   string_wrong q why now h id c l ls = s.runs id c l ls ∙ h id c l ls
 
   pub spelling_more : (b e k t : ℕ) (now : List ℕ) → tokens.CharacterRead text p s.content (character.Is b e) → k ≡ m + 1 → now ≡ set out m b
@@ -181,13 +176,13 @@ length_last code id size content out mid late now n m hm e1 e2 e3 hs =
     e3 ∙ moved ∙ head_bytes code id size content out (set mid (n + 3) size) (sets (set mid (n + 3) size) m content) n m hs hm again refl
 
 module _ (text : List ℕ) (at id : ℕ) (c : Comparison) (out : List ℕ) (n m : ℕ) (mid : List ℕ) where
-  pub string_constant_wrong : (p : ℕ) (why : Reason) (late now : List ℕ) → StringRead text at mid m (Wrong p why) late → StringConstantRead text at id c out n
-      (Wrong p why) now
+  pub string_constant_wrong : (p : ℕ) (why : Reason) (late now : List ℕ) → StringRead text at mid m (Err (wrong_at p why)) late → StringConstantRead text at id c out n
+      (Err (wrong_at p why)) now
   string_constant_wrong p why late now h = h id c
 
-  pub string_constant : (e k : ℕ) (late now : List ℕ) → StringRead text at mid m (At e k) late → m ≡ n + 4 → mid ≡ sets out n
+  pub string_constant : (e k : ℕ) (late now : List ℕ) → StringRead text at mid m (Ok (e, k)) late → m ≡ n + 4 → mid ≡ sets out n
       ((131 + 16 * operator_number c) ∷ (two id ++ (0 ∷ [])))
-      → now ≡ set late (n + 3) (k - m) → StringConstantRead text at id c out n (At e k) now
+      → now ≡ set late (n + 3) (k - m) → StringConstantRead text at id c out n (Ok (e, k)) now
   unfolding relation_bytes text_relation
   string_constant e k late now h hm e1 e2 =
       let size : k - m ≡ length h.content = omega (arith, h.count) in
@@ -205,7 +200,7 @@ module _ (text : List ℕ) (at id : ℕ) (c : Comparison) (out : List ℕ) (n m 
 module _ (text : List ℕ) (at id : ℕ) (c : Comparison) (out : List ℕ) (n : ℕ) (blank : is_blank (get_or text at 0) ≡ false) (b : ℕ) (hb : b ≡ get_or text at 0) where
   pub string_from : b ≡ 34 → is_equality c ≡ true → (r : Reading) (now : List ℕ) → StringConstantRead text (at + 1) id c out n r now
       → ConstantRead text at id c out n r now
-  string_from h i (At e m) now k =
+  string_from h i (Ok (e, m)) now k =
       record {
         relation = k.relation;
         few = omega (arith, k.few);
@@ -214,40 +209,40 @@ module _ (text : List ℕ) (at id : ℕ) (c : Comparison) (out : List ℕ) (n : 
         bytes = k.bytes;
         runs = λ l ls. places.part_goes text at (constant id c) (string id c []) 34 (sym hb ∙ h) (omega arith) (steps.wants_string id c i) l ls ∙ k.runs l ls;
       }
-  string_from h i (Wrong p why) now k = λ l ls.
+  string_from h i (Err w) now k = λ l ls.
       places.part_goes text at (constant id c) (string id c []) 34 (sym hb ∙ h) (omega arith) (steps.wants_string id c i) l ls ∙ k l ls
 
   pub string_in : b ≡ 34 → at + 1 ≤ length text
   string_in h = omega (arith, places.byte_in text at 34 (sym hb ∙ h) (omega arith))
 
-  pub no_order : b ≡ 34 → is_equality c ≡ false → (now : List ℕ) → ConstantRead text at id c out n (Wrong at reason.Order) now
+  pub no_order : b ≡ 34 → is_equality c ≡ false → (now : List ℕ) → ConstantRead text at id c out n (Err (wrong_at at reason.Order)) now
   no_order h i now = places.part_wrong text at (constant id c) reason.Order (rw (← hb, h) (order_part i))
     where
       order_part : is_equality c ≡ false → part_of (constant id c) 34 ≡ stop reason.Order
       order_part i = unfold part_of wanted is_blank digit in rw i
 
-  pub no_constant : digit b ≡ false → (b ≡ 34 → ⊥) → (now : List ℕ) → ConstantRead text at id c out n (Wrong at reason.Constant) now
+  pub no_constant : digit b ≡ false → (b ≡ 34 → ⊥) → (now : List ℕ) → ConstantRead text at id c out n (Err (wrong_at at reason.Constant)) now
   no_constant h i now = places.part_wrong text at (constant id c) reason.Constant
       (rw (← hb) (unfold part_of wanted in rw (rw (← hb) at blank, h, ne_eqb b 34 i)))
 
 -- ---- relations
 
-pub was_item : (text : List ℕ) (at : ℕ) → at ≤ length text → is_blank (get_or text at 0) ≡ false → (get_or text at 0 ≡ 40 → ⊥) → (r x : Item) → r ≡ item_at text at
+pub was_item : (text : List ℕ) (at : ℕ) → at ≤ length text → is_blank (get_or text at 0) ≡ false → (get_or text at 0 ≡ 40 → ⊥) → (r x : Result (ℕ × ℕ) ℕ) → r ≡ item_at text at
     → r ≡ x
     → ItemRead text at x
 was_item text at h blank no_open r x e z = rw (← z, e) (reads_item text at h blank no_open)
 
-pub was_sign : (text : List ℕ) (at : ℕ) (r x : Sign) → is_blank (get_or text at 0) ≡ false → r ≡ sign_at text at → r ≡ x → tokens.SignRead text at x
+pub was_sign : (text : List ℕ) (at : ℕ) (r x : Result (Comparison × ℕ) ℕ) → is_blank (get_or text at 0) ≡ false → r ≡ sign_at text at → r ≡ x → tokens.SignRead text at x
 was_sign text at r x b e z = rw (← z, e) (tokens.sign_read text at b)
 
 module _ (text : List ℕ) (at : ℕ) (out : List ℕ) (n id e : ℕ) (i : ItemIs text at id e) (q : ℕ) (s : Skipped text e q) where
   to_sign : (l : Level) (ls : List Level) → Goes text (want l ls) at (inside (item id) l ls) q
   to_sign l ls = i.runs l ls ∙ s.runs (inside (item id) l ls) (steps.item_still id l ls)
 
-  pub no_sign : (p : ℕ) (now : List ℕ) → tokens.SignRead text q (sign.Wrong p) → RelationRead text at out n (Wrong p reason.Operator) now
+  pub no_sign : (p : ℕ) (now : List ℕ) → tokens.SignRead text q (Err p) → RelationRead text at out n (Err (wrong_at p reason.Operator)) now
   no_sign p now h l ls = to_sign l ls ∙ h id l ls
 
-  module _ (c : Comparison) (k : ℕ) (g : tokens.SignRead text q (sign.Is c k)) (d : ℕ) (t : Skipped text k d) where
+  module _ (c : Comparison) (k : ℕ) (g : tokens.SignRead text q (Ok (c, k))) (d : ℕ) (t : Skipped text k d) where
     to_constant : (l : Level) (ls : List Level) → Goes text (want l ls) at (inside (constant id c) l ls) d
     to_constant l ls = to_sign l ls ∙ g.runs id l ls ∙ t.runs (inside (constant id c) l ls) (steps.constant_still id c l ls)
 
@@ -255,7 +250,7 @@ module _ (text : List ℕ) (at : ℕ) (out : List ℕ) (n id e : ℕ) (i : ItemI
     far = omega (arith, i.forward, s.forward, g.forward, t.forward)
 
     pub relation_read : (r : Reading) (now : List ℕ) → ConstantRead text d id c out n r now → RelationRead text at out n r now
-    relation_read (At x m) now h =
+    relation_read (Ok (x, m)) now h =
         record {
           relation = h.relation;
           few = omega (arith, h.few, far);
@@ -264,4 +259,4 @@ module _ (text : List ℕ) (at : ℕ) (out : List ℕ) (n id e : ℕ) (i : ItemI
           bytes = h.bytes;
           runs = λ l ls. to_constant l ls ∙ h.runs l ls;
         }
-    relation_read (Wrong p why) now h = λ l ls. to_constant l ls ∙ h l ls
+    relation_read (Err w) now h = λ l ls. to_constant l ls ∙ h l ls

@@ -1,4 +1,5 @@
 -- The cycle of readers: what each turn and each return of them is. Assumes nothing.
+use Rattle.std.proofs.Common.{Ok, Err}
 use mathlib.Core.Path.{◌≡◌, refl, sym, subst, ◌∙◌}
 use mathlib.Core.Bool.{Bool, true, false, cond}
 use mathlib.Core.List.{List, [], ◌∷◌, ◌++◌, append_assoc, append-nil}
@@ -16,11 +17,10 @@ use Rattle.grammar.specs.Machine.{Level, level, fresh, want, have, ampersand, ba
 use Rattle.grammar.specs.declared.Reason.{Reason}
 use Rattle.grammar.specs.declared.Reason.TheVariants as reason
 use Rattle.grammar.proofs.Steps as steps
+use Rattle.tokens.specs.Tokens.{wrong_at}
 use Rattle.tokens.specs.Places.{Goes, Skipped}
-use Rattle.readings.specs.Contract.{RelationRead, Opens, Relates, StartRead, join_at, closed_at, FactorIs, FactorRead, ProductIs, ProductRead, SumIs}
+use Rattle.readings.specs.Contract.{Reading, RelationRead, Opens, Relates, StartRead, join_at, closed_at, FactorIs, FactorRead, ProductIs, ProductRead, SumIs}
 use Rattle.readings.specs.Contract.{SumRead}
-use Rattle.readings.specs.declared.Reading.{Reading}
-use Rattle.readings.specs.declared.Reading.TheVariants.{At, Wrong}
 use Rattle.readings.specs.declared.Start.{Start}
 use Rattle.readings.specs.declared.Start.TheVariants as start
 use Rattle.readings.specs.declared.Joiner.{Joiner}
@@ -69,22 +69,22 @@ module _ (text : List ℕ) (at left : ℕ) where
     was_start x z = subst (λ (y : Start). StartRead text at left y) z h
 
   module _ (out : List ℕ) (n : ℕ) (r : Reading) (now : List ℕ) where
-    pub factor_at : (e m : ℕ) → FactorRead text at left out n r now → r ≡ At e m → FactorIs text at left out n e m now
+    pub factor_at : (e m : ℕ) → FactorRead text at left out n r now → r ≡ Ok (e, m) → FactorIs text at left out n e m now
     factor_at e m h z = subst (λ (x : Reading). FactorRead text at left out n x now) z h
 
-    pub factor_bad : (p : ℕ) (why : Reason) → FactorRead text at left out n r now → r ≡ Wrong p why → FactorRead text at left out n (Wrong p why) now
+    pub factor_bad : (p : ℕ) (why : Reason) → FactorRead text at left out n r now → r ≡ Err (wrong_at p why) → FactorRead text at left out n (Err (wrong_at p why)) now
     factor_bad p why h z = subst (λ (x : Reading). FactorRead text at left out n x now) z h
 
-    pub product_at : (e m : ℕ) → ProductRead text at left out n r now → r ≡ At e m → ProductIs text at left out n e m now
+    pub product_at : (e m : ℕ) → ProductRead text at left out n r now → r ≡ Ok (e, m) → ProductIs text at left out n e m now
     product_at e m h z = subst (λ (x : Reading). ProductRead text at left out n x now) z h
 
-    pub product_bad : (p : ℕ) (why : Reason) → ProductRead text at left out n r now → r ≡ Wrong p why → ProductRead text at left out n (Wrong p why) now
+    pub product_bad : (p : ℕ) (why : Reason) → ProductRead text at left out n r now → r ≡ Err (wrong_at p why) → ProductRead text at left out n (Err (wrong_at p why)) now
     product_bad p why h z = subst (λ (x : Reading). ProductRead text at left out n x now) z h
 
-    pub sum_at : (e m : ℕ) → SumRead text at left out n r now → r ≡ At e m → SumIs text at left out n e m now
+    pub sum_at : (e m : ℕ) → SumRead text at left out n r now → r ≡ Ok (e, m) → SumIs text at left out n e m now
     sum_at e m h z = subst (λ (x : Reading). SumRead text at left out n x now) z h
 
-    pub sum_bad : (p : ℕ) (why : Reason) → SumRead text at left out n r now → r ≡ Wrong p why → SumRead text at left out n (Wrong p why) now
+    pub sum_bad : (p : ℕ) (why : Reason) → SumRead text at left out n r now → r ≡ Err (wrong_at p why) → SumRead text at left out n (Err (wrong_at p why)) now
     sum_bad p why h z = subst (λ (x : Reading). SumRead text at left out n x now) z h
 
 module _ (text : List ℕ) (at b : ℕ) (r : Joiner) (h : r ≡ join_at text at b) where
@@ -105,7 +105,7 @@ module _ (text : List ℕ) (at b : ℕ) (r : Joiner) (h : r ≡ join_at text at 
 module _ (text : List ℕ) (at left : ℕ) (out : List ℕ) (n : ℕ) where
   pub factor_relation : (q : ℕ) → Relates text at q → (r : Reading) (now : List ℕ) → RelationRead text q out n r now → FactorRead text at left out n r now
   unfolding postfix
-  factor_relation q s (At e m) now h =
+  factor_relation q s (Ok (e, m)) now h =
       record {
         means = relation h.relation;
         few = omega (arith, h.few, s.forward);
@@ -114,11 +114,11 @@ module _ (text : List ℕ) (at left : ℕ) (out : List ℕ) (n : ℕ) where
         bytes = h.bytes;
         runs = λ l ls z. s.runs l ls ∙ h.runs l ls;
       }
-  factor_relation q s (Wrong p why) now h = λ l ls z. s.runs l ls ∙ h l ls
+  factor_relation q s (Err w) now h = λ l ls z. s.runs l ls ∙ h l ls
 
   module _ (e : ℕ) (o : Opens text at left e) where
-    pub factor_inner_wrong : (p : ℕ) (why : Reason) (now : List ℕ) → SumRead text e (left - 1) out n (Wrong p why) now → FactorRead text at left out n
-        (Wrong p why) now
+    pub factor_inner_wrong : (p : ℕ) (why : Reason) (now : List ℕ) → SumRead text e (left - 1) out n (Err (wrong_at p why)) now → FactorRead text at left out n
+        (Err (wrong_at p why)) now
     factor_inner_wrong p why now s l ls h = o.runs l ls h ∙ s (l ∷ ls) (omega (arith, o.room))
 
     module _ (q m : ℕ) (now : List ℕ) (s : SumIs text e (left - 1) out n q m now) where
@@ -137,7 +137,7 @@ module _ (text : List ℕ) (at left : ℕ) (out : List ℕ) (n : ℕ) where
                 (have (and_after l.product (or_after s.sum s.product)) l.sum ls) h (omega arith) (steps.have_close s.product s.sum ls l);
           }
 
-      pub factor_open : (get_or text q 0 ≡ 41 → ⊥) → FactorRead text at left out n (Wrong q (cond (ltb q (length text)) reason.Connective reason.Bracket)) now
+      pub factor_open : (get_or text q 0 ≡ 41 → ⊥) → FactorRead text at left out n (Err (wrong_at q (cond (ltb q (length text)) reason.Connective reason.Bracket))) now
       factor_open h l ls z =
           to_close l ls z
           ∙ laws.wrong_either text q (have s.product s.sum (l ∷ ls)) reason.Connective reason.Bracket
@@ -148,12 +148,12 @@ module _ (text : List ℕ) (at left : ℕ) (out : List ℕ) (n : ℕ) where
       factor_close r e = rw e (by (eqb (get_or text q 0) 41) refl)
         where
           open_by : (get_or text q 0 ≡ 41 → ⊥) → (t : Bool) → ltb q (length text) ≡ t
-              → FactorRead text at left out n (cond t (Wrong q reason.Connective) (Wrong q reason.Bracket)) now
+              → FactorRead text at left out n (cond t (Err (wrong_at q reason.Connective)) (Err (wrong_at q reason.Bracket))) now
           open_by h true f = rw f at (factor_open h)
           open_by h false f = rw f at (factor_open h)
 
           by : (t : Bool) → eqb (get_or text q 0) 41 ≡ t
-              → FactorRead text at left out n (cond t (At (q + 1) m) (cond (ltb q (length text)) (Wrong q reason.Connective) (Wrong q reason.Bracket))) now
+              → FactorRead text at left out n (cond t (Ok (q + 1, m)) (cond (ltb q (length text)) (Err (wrong_at q reason.Connective)) (Err (wrong_at q reason.Bracket)))) now
           by true f = factor_closed (eqb-true (get_or text q 0) 41 f)
           by false f = open_by (eqb-false (get_or text q 0) 41 f) (ltb q (length text)) refl
 
@@ -212,7 +212,7 @@ module _ (text : List ℕ) (left p₀ m₀ : ℕ) (out₀ : List ℕ) (p m : ℕ
         (steps.have_ampersand (g.grow t) o ls)
 
     pub product_half : (at : ℕ) (out-in : List ℕ) (n : ℕ) (now : List ℕ) → FactorIs text at left out-in n p₀ m₀ out₀ → (get_or text (q + 1) 0 ≡ 38 → ⊥)
-        → ProductRead text at left out-in n (Wrong (q + 1) reason.Connective) now
+        → ProductRead text at left out-in n (Err (wrong_at (q + 1) reason.Connective)) now
     product_half at out-in n now f h o ls z =
         f.runs (level o none) ls z ∙ to_amp f.means o ls z
         ∙ laws.wrong text (q + 1) (ampersand (g.grow f.means) o ls) reason.Connective
@@ -231,7 +231,7 @@ module _ (text : List ℕ) (left p₀ m₀ : ℕ) (out₀ : List ℕ) (p m : ℕ
           (steps.second_ampersand (g.grow t) o ls)))
 
       pub product_wrong : (at : ℕ) (out-in : List ℕ) (n : ℕ) (now : List ℕ) (x : ℕ) (why : Reason) → FactorIs text at left out-in n p₀ m₀ out₀ → FactorRead text
-          (q + 2) left out m (Wrong x why) now → ProductRead text at left out-in n (Wrong x why) now
+          (q + 2) left out m (Err (wrong_at x why)) now → ProductRead text at left out-in n (Err (wrong_at x why)) now
       product_wrong at out-in n now x why f r o ls z =
           f.runs (level o none) ls z ∙ to_want f.means o ls z ∙ r (level o (some (g.grow f.means))) ls z
 
@@ -317,7 +317,7 @@ module _ (text : List ℕ) (left p₀ m₀ : ℕ) (out₀ : List ℕ) (p m : ℕ
         (steps.have_bar (g.last t) (g.front t) ls)
 
     pub sum_half : (at : ℕ) (out-in : List ℕ) (n : ℕ) (now : List ℕ) → ProductIs text at left out-in n p₀ m₀ out₀ → (get_or text (p + 1) 0 ≡ 124 → ⊥)
-        → SumRead text at left out-in n (Wrong (p + 1) reason.Connective) now
+        → SumRead text at left out-in n (Err (wrong_at (p + 1) reason.Connective)) now
     sum_half at out-in n now f h ls z =
         f.runs none ls z ∙ to_bar f.means ls z
         ∙ laws.wrong text (p + 1) (bar (g.last f.means) (g.front f.means) ls) reason.Connective
@@ -336,7 +336,7 @@ module _ (text : List ℕ) (left p₀ m₀ : ℕ) (out₀ : List ℕ) (p m : ℕ
           (omega arith) (steps.second_bar (g.last t) (g.front t) ls)))
 
       pub sum_wrong : (at : ℕ) (out-in : List ℕ) (n : ℕ) (now : List ℕ) (x : ℕ) (why : Reason) → ProductIs text at left out-in n p₀ m₀ out₀ → ProductRead text
-          (p + 2) left out m (Wrong x why) now → SumRead text at left out-in n (Wrong x why) now
+          (p + 2) left out m (Err (wrong_at x why)) now → SumRead text at left out-in n (Err (wrong_at x why)) now
       sum_wrong at out-in n now x why f r ls z =
           f.runs none ls z ∙ sum_want f.means ls z ∙ r (some (or_after (g.front f.means) (g.last f.means))) ls z
 

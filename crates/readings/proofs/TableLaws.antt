@@ -1,15 +1,15 @@
 -- The reason of a refused text is the one of the table. Assumes nothing.
-use mathlib.Core.Path.{◌≡◌, refl, sym, ap, subst, ◌∙◌}
+use mathlib.Core.Path.{◌≡◌, refl, sym, ap, ◌∙◌}
 use mathlib.Core.Bool.{Bool, true, false, cond}
 use mathlib.Core.List.{List, [], ◌∷◌, ◌++◌, append_assoc, append-nil}
 use mathlib.Core.Option.{Option, none, some}
-use Prim.Native.Nat.{ℕ, zero, suc, ◌+◌, ◌-◌, ◌*◌, ◌≤◌, ◌<◌}
+use Prim.Native.Nat.{ℕ, suc, ◌+◌, ◌-◌, ◌*◌, ◌<◌}
 use native.Mathlib.Omega.{arith}
 use native.Mathlib.Numerals.{add-one}
 use lib.Dec.{ltb, leb, eqb}
-use lib.ListN.{length, take, drop, length-append}
+use lib.ListN.{length, length-append}
 use lib.Seq.{take_at, drop_at}
-use borrow.Author.Tests.{ltb-true, ltb-false, eqb-true, eqb-false, lt-ltb}
+use borrow.Author.Tests.{ltb-true, eqb-true, lt-ltb}
 use Rattle.text.specs.Match.{lower}
 use Rattle.lines.specs.Numerals.{digit, hex_value}
 use Rattle.equation.specs.Holds.{Relation}
@@ -21,7 +21,7 @@ use Rattle.names.proofs.NameLaws as names
 use Rattle.names.proofs.SearchLaws.{not_named}
 use Rattle.grammar.specs.Formula.{Formula, relation, and_after, or_after}
 use Rattle.grammar.specs.Meaning.{is_equality, is_width, width_of, number_relation}
-use Rattle.grammar.specs.Grammar.{operator_text, characters_bytes}
+use Rattle.grammar.specs.Grammar.{operator_text}
 use Rattle.grammar.specs.Machine as machine
 use Rattle.grammar.specs.Machine.{Phase, name, hash, item, order, colon, coded, Part, on, whole, past, stop, lettered, wanted, added, part_of}
 use Rattle.grammar.specs.Machine.{Level, level, fresh, State, want, inside, have, ampersand, bar, Move, go, halt, closed, after, taken, step}

@@ -1,21 +1,25 @@
 -- What the readers promise: where the machine (crates/grammar) goes, whatever stands open around, and what the output then has. Assumes nothing.
-use Rattle.std.specs.Prelude.{◌≡◌, false, cond, List, [], ◌∷◌, ℕ, ◌+◌, ◌*◌, ◌≤◌, ◌<◌, ltb, eqb, length, get_or}
+use Rattle.std.specs.Prelude.{◌≡◌, false, cond, List, [], ◌∷◌, ℕ, ◌+◌, ◌*◌, ◌≤◌, ◌<◌, ltb, eqb, length, get_or, Result, Ok, Err}
 use Rattle.std.proofs.Math.Option.{Option, none}
 use Rattle.std.proofs.lemmas.List.Edits.{sets}
 use Rattle.equation.specs.Holds.{Relation}
 use Rattle.names.specs.Kinds.{is_blank}
-use Rattle.grammar.specs.Formula.{Formula, relation, relation_bytes, postfix, and_after, or_after}
+use Rattle.grammar.specs.Formula.{Formula, relation_bytes, postfix, and_after, or_after}
 use Rattle.grammar.specs.Meaning.{text_relation}
 use Rattle.grammar.specs.Machine.{Phase, constant, string, Level, level, fresh, want, inside, have, refused, from}
 use Rattle.grammar.specs.declared.Comparison.{Comparison}
 use Rattle.grammar.specs.declared.Reason.TheVariants as reason
+use Rattle.tokens.specs.Tokens.{wrong_at}
+use Rattle.tokens.specs.declared.Wrong.{Wrong}
 use Rattle.tokens.specs.Places.{Goes, StopsIn, behind}
-use Rattle.readings.specs.declared.Reading.{Reading}
-use Rattle.readings.specs.declared.Reading.TheVariants.{At, Wrong}
 use Rattle.readings.specs.declared.Start.{Start}
 use Rattle.readings.specs.declared.Start.TheVariants as start
 use Rattle.readings.specs.declared.Joiner.{Joiner}
 use Rattle.readings.specs.declared.Joiner.TheVariants as joiner
+
+-- the place behind what was read, and how many bytes the output has then; or the first wrong place and the reason
+abbrev pub Reading : Type 0
+Reading = Result (ℕ × ℕ) Wrong
 
 -- ---- constants and relations. n bytes stand in `out` before, m after
 
@@ -30,8 +34,8 @@ pub record StringIs (text : List ℕ) (at : ℕ) (out : List ℕ) (n e m : ℕ) 
   pub runs : (id : ℕ) (c : Comparison) (l : Level) (ls : List Level) → Goes text (inside (string id c []) l ls) at (behind l ls (text_relation id c content)) e
 
 abbrev pub StringRead : List ℕ → ℕ → List ℕ → ℕ → Reading → List ℕ → Type 0
-StringRead text at out n (At e m) now = StringIs text at out n e m now
-StringRead text at out n (Wrong p why) now = (id : ℕ) (c : Comparison) → StopsIn text (string id c []) at p why
+StringRead text at out n (Ok (e, m)) now = StringIs text at out n e m now
+StringRead text at out n (Err w) now = (id : ℕ) (c : Comparison) → StopsIn text (string id c []) at w.at w.reason
 
 -- a constant that is read from a phase on; a relation has at most six bytes more than twice the constant's
 pub record ConstantIs (text : List ℕ) (a : Phase) (at : ℕ) (out : List ℕ) (n e m : ℕ) (now : List ℕ) : Type 0 where
@@ -43,8 +47,8 @@ pub record ConstantIs (text : List ℕ) (a : Phase) (at : ℕ) (out : List ℕ) 
   pub runs : (l : Level) (ls : List Level) → Goes text (inside a l ls) at (behind l ls relation) e
 
 abbrev pub ConstantReadFrom : List ℕ → Phase → ℕ → List ℕ → ℕ → Reading → List ℕ → Type 0
-ConstantReadFrom text a at out n (At e m) now = ConstantIs text a at out n e m now
-ConstantReadFrom text a at out n (Wrong p why) now = StopsIn text a at p why
+ConstantReadFrom text a at out n (Ok (e, m)) now = ConstantIs text a at out n e m now
+ConstantReadFrom text a at out n (Err w) now = StopsIn text a at w.at w.reason
 
 abbrev pub ConstantRead : List ℕ → ℕ → ℕ → Comparison → List ℕ → ℕ → Reading → List ℕ → Type 0
 ConstantRead text at id c out n r now = ConstantReadFrom text (constant id c) at out n r now
@@ -61,8 +65,8 @@ pub record RelationIs (text : List ℕ) (at : ℕ) (out : List ℕ) (n e m : ℕ
   pub runs : (l : Level) (ls : List Level) → Goes text (want l ls) at (behind l ls relation) e
 
 abbrev pub RelationRead : List ℕ → ℕ → List ℕ → ℕ → Reading → List ℕ → Type 0
-RelationRead text at out n (At e m) now = RelationIs text at out n e m now
-RelationRead text at out n (Wrong p why) now = (l : Level) (ls : List Level) → from (want l ls) at text ≡ refused p why
+RelationRead text at out n (Ok (e, m)) now = RelationIs text at out n e m now
+RelationRead text at out n (Err w) now = (l : Level) (ls : List Level) → from (want l ls) at text ≡ refused w.at w.reason
 
 -- ---- what a factor begins with, connectives, and the closing bracket
 
@@ -89,7 +93,7 @@ join_at text at b = cond (eqb (get_or text at 0) b) (cond (eqb (get_or text (at 
 
 unfoldable pub closed_at : List ℕ → ℕ → ℕ → Reading
 closed_at text at m =
-    cond (eqb (get_or text at 0) 41) (At (at + 1) m) (cond (ltb at (length text)) (Wrong at reason.Connective) (Wrong at reason.Bracket))
+    cond (eqb (get_or text at 0) 41) (Ok (at + 1, m)) (cond (ltb at (length text)) (Err (wrong_at at reason.Connective)) (Err (wrong_at at reason.Bracket)))
 
 -- ---- the cycle
 
@@ -102,8 +106,8 @@ pub record FactorIs (text : List ℕ) (at left : ℕ) (out : List ℕ) (n e m : 
   pub runs : (l : Level) (ls : List Level) → length ls + left ≡ 16 → Goes text (want l ls) at (have (and_after l.product means) l.sum ls) e
 
 abbrev pub FactorRead : List ℕ → ℕ → ℕ → List ℕ → ℕ → Reading → List ℕ → Type 0
-FactorRead text at left out n (At e m) now = FactorIs text at left out n e m now
-FactorRead text at left out n (Wrong p why) now = (l : Level) (ls : List Level) → length ls + left ≡ 16 → from (want l ls) at text ≡ refused p why
+FactorRead text at left out n (Ok (e, m)) now = FactorIs text at left out n e m now
+FactorRead text at left out n (Err w) now = (l : Level) (ls : List Level) → length ls + left ≡ 16 → from (want l ls) at text ≡ refused w.at w.reason
 
 pub record ProductIs (text : List ℕ) (at left : ℕ) (out : List ℕ) (n e m : ℕ) (now : List ℕ) : Type 0 where
   pub means : Formula
@@ -116,9 +120,9 @@ pub record ProductIs (text : List ℕ) (at left : ℕ) (out : List ℕ) (n e m :
   pub runs : (o : Option Formula) (ls : List Level) → length ls + left ≡ 16 → Goes text (want (level o none) ls) at (have means o ls) e
 
 abbrev pub ProductRead : List ℕ → ℕ → ℕ → List ℕ → ℕ → Reading → List ℕ → Type 0
-ProductRead text at left out n (At e m) now = ProductIs text at left out n e m now
-ProductRead text at left out n (Wrong p why) now = (o : Option Formula) (ls : List Level) → length ls + left ≡ 16 → from
-    (want (level o none) ls) at text ≡ refused p why
+ProductRead text at left out n (Ok (e, m)) now = ProductIs text at left out n e m now
+ProductRead text at left out n (Err w) now = (o : Option Formula) (ls : List Level) → length ls + left ≡ 16 → from
+    (want (level o none) ls) at text ≡ refused w.at w.reason
 
 pub record SumIs (text : List ℕ) (at left : ℕ) (out : List ℕ) (n e m : ℕ) (now : List ℕ) : Type 0 where
   pub sum : Option Formula
@@ -133,5 +137,5 @@ pub record SumIs (text : List ℕ) (at left : ℕ) (out : List ℕ) (n e m : ℕ
   pub runs : (ls : List Level) → length ls + left ≡ 16 → Goes text (want fresh ls) at (have product sum ls) e
 
 abbrev pub SumRead : List ℕ → ℕ → ℕ → List ℕ → ℕ → Reading → List ℕ → Type 0
-SumRead text at left out n (At e m) now = SumIs text at left out n e m now
-SumRead text at left out n (Wrong p why) now = (ls : List Level) → length ls + left ≡ 16 → from (want fresh ls) at text ≡ refused p why
+SumRead text at left out n (Ok (e, m)) now = SumIs text at left out n e m now
+SumRead text at left out n (Err w) now = (ls : List Level) → length ls + left ≡ 16 → from (want fresh ls) at text ≡ refused w.at w.reason

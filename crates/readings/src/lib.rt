@@ -4,14 +4,10 @@
 // the table (specs/Table.antt, proofs/TableLaws.antt).
 #![tactic(auto)]
 
-use grammar::Reason;
+use tokens::Wrong;
 
 // The place behind what was read, and how many bytes the output has then; or the first wrong place and the reason.
-#[derive(Clone, Copy)]
-pub enum Reading {
-    At(usize, usize),
-    Wrong(usize, Reason),
-}
+pub type Reading = Result<(usize, usize), Wrong>;
 
 // What a factor begins with: a bracket, up to its end; a relation, from its place on; or a bracket too many.
 #[derive(Clone, Copy)]

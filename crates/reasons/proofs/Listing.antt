@@ -2,9 +2,9 @@
 use mathlib.Core.Path.{◌≡◌, refl, sym, ap, ◌∙◌, subst}
 use mathlib.Core.Bool.{Bool, true, false, ◌&&◌, cond}
 use mathlib.Core.List.Memᴰ
-use mathlib.Core.List.{List, [], ◌∷◌, ◌++◌, map, Memᴰ}
-use mathlib.Core.Logic.{◌⊎◌, inl, inr, ⊎_elim}
-use Prim.Native.Nat.{ℕ, zero, suc, ◌+◌, ◌-◌, ◌/◌, ◌≤◌, ◌<◌}
+use mathlib.Core.List.{List, [], ◌∷◌, ◌++◌, Memᴰ}
+use mathlib.Core.Logic.{⊎_elim}
+use Prim.Native.Nat.{ℕ, zero, suc, ◌-◌, ◌/◌, ◌≤◌, ◌<◌}
 use native.Mathlib.Omega.{arith}
 use lib.Dec.{ltb, leb}
 use lib.ListN.{length, get_or, take, drop, replicate, length-map}
@@ -12,20 +12,17 @@ use lib.Seq.{take_at}
 use borrow.Author.Tests.{lt-ltb, le-ltb, le-leb, leb-true, eq-eqb}
 use Rattle.equation.specs.Answer.{answer_of, selects, validity_of}
 use Rattle.equation.specs.Answer as equation
-use Rattle.equation.specs.declared.evaluation.Truth.{Truth}
-use Rattle.equation.specs.declared.evaluation.Truth.TheVariants.{No, Yes, Refused}
+use Rattle.std.proofs.Common.{Result, Ok, Err, Some}
 use Rattle.stored.specs.Answers.{truth_at}
 use Rattle.table.specs.declared.File.{File}
 use Rattle.table.specs.declared.Key.TheVariants.{Time}
-use Rattle.table.specs.declared.Found.{Found}
-use Rattle.table.specs.declared.Found.TheVariants.{Nothing, At}
-use Rattle.table.specs.Table.{files, file_at, numbers, times, find_of}
+use Rattle.table.specs.Table.{files, numbers, times, find_of}
 use Rattle.table.specs.Order.{in_order, Rising}
 use Rattle.table.specs.Fit.{Distinct}
 use Rattle.table.proofs.Records.{key_at}
-use Rattle.table.proofs.Finding.{find_found, find_number_law, find_own}
+use Rattle.table.proofs.Finding.{find_found, find_own}
 use Rattle.table.proofs.Ordering.{rising_above, in_order_rises, in_order_above, in_order_all}
-use Rattle.files.specs.View.{record_at, bytes_at}
+use Rattle.files.specs.View.{record_at}
 use Rattle.files.specs.Selection.{meets_at, passing, numbers_at, chosen, select_number, select_of, listed}
 use Rattle.files.specs.Selection as selection
 use Rattle.files.proofs.Selected.{passing_in, in_passing}
@@ -110,11 +107,10 @@ module _ (ts : List ℕ) (test : ℕ → Bool) (p : ℕ) where
 -- ---- SELECT's list
 
 -- both layers' test of an answer
-yes_same : (r : Truth) → selection.is_yes r ≡ equation.is_yes r
+yes_same : (r : Result Bool ℕ) → selection.is_yes r ≡ equation.is_yes r
 unfolding selection.is_yes equation.is_yes
-yes_same No = refl
-yes_same Yes = refl
-yes_same (Refused n) = refl
+yes_same (Ok b) = refl
+yes_same (Err n) = refl
 
 module _ (eq disk owner table : List ℕ) (store : Store disk owner) (few : length table / 4 ≤ 256) (short : length eq ≤ 256) where
   abbrev matches : ℕ → Bool
@@ -187,16 +183,16 @@ number_back table (q ∷ ps) p (Memᴰ.head e) = Memᴰ.head (ap (λ (x : ℕ). 
 number_back table (q ∷ ps) p (Memᴰ.tail m) = Memᴰ.tail (number_back table ps p m)
 
 -- the place of a number that stands in the list
-pub number_in : (table ps : List ℕ) (number p : ℕ) → Distinct (numbers (files table)) → find_of (files table) number ≡ At p → In number (numbers_at table ps)
+pub number_in : (table ps : List ℕ) (number p : ℕ) → Distinct (numbers (files table)) → find_of (files table) number ≡ Some p → In number (numbers_at table ps)
     → Memᴰ p ps
 number_in table ps number p d f m =
     let i = holds_in table ps number m in
     let n = (find_found (files table) number p f).0 in
-    let g : find_of (files table) number ≡ At i.place =
+    let g : find_of (files table) number ≡ Some i.place =
     ap (find_of (files table)) i.is ∙ find_own (files table) d i.place (λ z. n (i.is ∙ z)) in
     subst (λ (q : ℕ). Memᴰ q ps) (same i.place p (sym g ∙ f)) i.member
   where
-    same : (a b : ℕ) → At a ≡ At b → a ≡ b
+    same : (a b : ℕ) → Some a ≡ Some b → a ≡ b
     same a b e = cc
 
 both_right : (a b : Bool) → a && b ≡ true → b ≡ true

@@ -11,32 +11,29 @@ use native.Mathlib.Numerals.{add-one}
 use lib.Dec.{leb, eqb}
 use lib.ListN.{length, get_or, take, drop}
 use lib.Seq.{drop-drop, get_or-drop, take_at, drop_at}
-use borrow.Author.Tests.{leb-true, leb-false, lt-leb, eqb-true, eqb-false, eq-eqb, ne_eqb}
+use borrow.Author.Tests.{leb-true, leb-false, lt-leb, eqb-false, eq-eqb, ne_eqb}
 use Rattle.header.specs.Items.{Field}
 use Rattle.equation.specs.Holds.{Relation, relation_of, holds}
 use Rattle.equation.specs.Symbols.{symbols}
-use Rattle.equation.specs.Tree.{Tree, parse, truth, truth_on}
+use Rattle.equation.specs.Tree.{Tree, parse, truth_on}
 use Rattle.equation.specs.Marks.{relations_of}
-use Rattle.equation.specs.Answer.{answer, selects}
-use Rattle.equation.specs.declared.evaluation.Truth.{Truth}
-use Rattle.equation.specs.declared.evaluation.Truth.TheVariants.{No, Yes}
+use Rattle.equation.specs.Answer.{selects}
 use Rattle.equation.proofs.Trees.{map_o, Agree, run_same, answer_truth}
 use Rattle.equation.proofs.Selects.{selects_truth}
-use Rattle.table.specs.declared.Found.{Found}
-use Rattle.table.specs.declared.Found.TheVariants.{Nothing, At}
+use Rattle.std.proofs.Common.{Some, None}
+use Rattle.std.specs.Prelude as std
 use Rattle.table.specs.Table.{files, numbers, times, find_of}
 use Rattle.table.specs.Fit.{Distinct}
 use Rattle.table.proofs.Finding.{find_number_law}
 use Rattle.files.specs.View.{record_at}
-use Rattle.files.specs.Selection.{numbers_at, chosen, select_number}
+use Rattle.files.specs.Selection.{numbers_at, chosen}
 use Rattle.why.specs.declared.Explained.{Explained}
-use Rattle.why.specs.Reasons.{reasons}
 use Rattle.why.specs.Run.{Result, join_of}
 use Rattle.why.specs.Answer.{Whys, whys, refused_by, sizes_fit, items_at, time_at, older_of, told, deliver, reasons_on, file_why, found_why, tree_why, why_of}
-use Rattle.reasons.specs.Promised.{In, shown, outcome_with, truth_of, Rising, Decides, list_of, Listed, Promised, Promises}
+use Rattle.reasons.specs.Promised.{In, shown, outcome_with, truth_of, Decides, Listed, Promised, Promises}
 use Rattle.why.proofs.Reasoned.{reasoned, leaf_with, reasoned_run, leaves_agree}
 use Rattle.why.proofs.Answers.{Fit, fit_of, store_of}
-use Rattle.reasons.proofs.Numbers.{size, Parsed, parse_numbers, rising_length, reasons_rise, reasons_one}
+use Rattle.reasons.proofs.Numbers.{size, parse_numbers, rising_length, reasons_rise, reasons_one}
 use Rattle.reasons.proofs.Deciding.{T, R, reasons_truth, reasons_enough, reasons_needed}
 use Rattle.reasons.proofs.Listing.{chosen_in, chosen_back, number_in, number_back, select_short, list_is}
 
@@ -115,15 +112,10 @@ module _ (eq : List ℕ) (t : Tree) (e : parse eq ≡ some t) (short : length eq
     unfolding turned
     unnamed m h = rw (not_elem m (R g t) h)
 
-    changes : In n (R g t) → outcome_with turned eq ≡ cond (T g t) No Yes
+    changes : In n (R g t) → outcome_with turned eq ≡ truth_of (not (T g t))
     changes i =
         with_truths turned
         ∙ ap truth_of (reasons_needed g turned n 0 t (parse_numbers eq t e).numbered i (itself i) unnamed)
-        ∙ other (T g t)
-      where
-        other : (b : Bool) → truth_of (not b) ≡ cond b No Yes
-        other true = refl
-        other false = refl
 
   decides_shown : Decides eq fields (T g t) (R g t)
   decides_shown =
@@ -166,7 +158,7 @@ module _ (eq : List ℕ) (number : ℕ) (disk owner table : List ℕ) (most : �
     parsed : parse eq ≡ some tree
     fit : Fit (length eq) (length disk) (length owner) (length table) most
     place : ℕ
-    found : find_of (files table) number ≡ At place
+    found : find_of (files table) number ≡ Some place
     complete : time_at table place ≡ 0 → ⊥
     room : length (reasons_on (items_at disk owner table place) tree) ≤ length named
     is : W ≡ whys (told (truth_on (items_at disk owner table place) tree) (older_of eq disk owner table (time_at table place)) most
@@ -193,7 +185,7 @@ module _ (eq : List ℕ) (number : ℕ) (disk owner table : List ℕ) (most : �
           omega arith
 
       room : (f : sizes_fit (length eq) (length disk) (length owner) (length table) most ≡ true) (t : Tree) (p : parse eq ≡ some t) (place : ℕ)
-          → find_of (files table) number ≡ At place → eqb (time_at table place) 0 ≡ false → (b : Bool) → leb (length (rs t place)) (length named) ≡ b → Case
+          → find_of (files table) number ≡ Some place → eqb (time_at table place) 0 ≡ false → (b : Bool) → leb (length (rs t place)) (length named) ≡ b → Case
       room f t p place d c true h =
           answers (record {
             tree = t;
@@ -211,14 +203,14 @@ module _ (eq : List ℕ) (number : ℕ) (disk owner table : List ℕ) (most : �
           no 33 (λ z. omega arith) (λ z. inr (omega arith)) (rw (f, p, d, c, h))
 
       time : (f : sizes_fit (length eq) (length disk) (length owner) (length table) most ≡ true) (t : Tree) (p : parse eq ≡ some t) (place : ℕ)
-          → find_of (files table) number ≡ At place → (b : Bool) → eqb (time_at table place) 0 ≡ b → Case
+          → find_of (files table) number ≡ Some place → (b : Bool) → eqb (time_at table place) 0 ≡ b → Case
       time f t p place d true c = no 11 (λ z. omega arith) (λ z. absurd (omega arith)) (rw (f, p, d, c))
       time f t p place d false c = room f t p place d c (leb (length (rs t place)) (length named)) refl
 
       found : (f : sizes_fit (length eq) (length disk) (length owner) (length table) most ≡ true) (t : Tree) (p : parse eq ≡ some t)
-          → (o : Found) → find_of (files table) number ≡ o → Case
-      found f t p Nothing d = no 4 (λ z. omega arith) (λ z. absurd (omega arith)) (rw (f, p, d))
-      found f t p (At place) d = time f t p place d (eqb (time_at table place) 0) refl
+          → (o : std.Option ℕ) → find_of (files table) number ≡ o → Case
+      found f t p None d = no 4 (λ z. omega arith) (λ z. absurd (omega arith)) (rw (f, p, d))
+      found f t p (Some place) d = time f t p place d (eqb (time_at table place) 0) refl
 
       tree : sizes_fit (length eq) (length disk) (length owner) (length table) most ≡ true → (o : Option Tree) → parse eq ≡ o → Case
       tree f none p = no 8 (λ z. omega arith) (λ z. absurd (omega arith)) (rw (f, p))
@@ -268,7 +260,7 @@ module _ (eq : List ℕ) (number : ℕ) (disk owner table : List ℕ) (most : �
     unfolding told
     tells = record { matched = refl; beyond = refl; count = refl }
 
-    answered_decided : (place : ℕ) × (find_of (files table) number ≡ At place) × (0 < time_at table place)
+    answered_decided : (place : ℕ) × (find_of (files table) number ≡ Some place) × (0 < time_at table place)
         × Decides eq (items_at disk owner table place) E.matched (take E.count named')
         × (E.count ≤ length named) × (drop E.count named' ≡ drop E.count named)
     unfolding told

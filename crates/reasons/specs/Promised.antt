@@ -1,17 +1,14 @@
 -- WHAT IS PROMISED of the relations named and of the list, beside the equation of the public call (src/lib.rt). Document 02, A5: "Prove that each
 -- named relation has the truth shown, and that no change to the truth of unnamed ones can change the outcome." Assumes nothing.
-use Rattle.std.specs.Prelude.{◌≡◌, Bool, true, false, cond, ◌⊎◌, ℕ, ◌+◌, ◌-◌, ◌≤◌, ◌<◌, length, get_or, take, drop}
+use Rattle.std.specs.Prelude.{◌≡◌, Bool, true, false, not, Result, Ok, ◌⊎◌, ℕ, ◌+◌, ◌-◌, ◌≤◌, ◌<◌, length, get_or, take, drop, Some}
 use mathlib.Core.List.{List, [], ◌∷◌, Memᴰ}
 use Rattle.header.specs.Items.{Field}
 use Rattle.equation.specs.Holds.{Relation, relation_of, holds}
 use Rattle.equation.specs.Marks.{relations_of}
 use Rattle.equation.specs.Answer.{answer, answer_on}
-use Rattle.equation.specs.declared.evaluation.Truth.{Truth}
-use Rattle.equation.specs.declared.evaluation.Truth.TheVariants.{No, Yes}
-use Rattle.table.specs.declared.Found.TheVariants.{At}
 use Rattle.table.specs.Table.{files, numbers, times, find_of}
 use Rattle.table.specs.Fit.{Distinct}
-use Rattle.files.specs.Selection.{select_number, select_of}
+use Rattle.files.specs.Selection.{count_in, select_number, select_of}
 use Rattle.why.specs.declared.Explained.{Explained}
 use Rattle.why.specs.Answer.{refused_by, sizes_fit, items_at, time_at, why_of}
 
@@ -29,11 +26,11 @@ abbrev pub shown : List ℕ → List Field → ℕ → Bool
 shown eq fields n = holds (relation_at eq n) fields
 
 -- the outcome of an equation whose relations have these truths, by their numbers
-abbrev pub outcome_with : (ℕ → Bool) → List ℕ → Truth
+abbrev pub outcome_with : (ℕ → Bool) → List ℕ → Result Bool ℕ
 outcome_with truths eq = answer (λ k r. truths (k + 1)) eq
 
-abbrev pub truth_of : Bool → Truth
-truth_of matched = cond matched Yes No
+abbrev pub truth_of : Bool → Result Bool ℕ
+truth_of matched = Ok matched
 
 -- the numbers rise, from above `low` and up to `high`
 abbrev pub Rising : ℕ → ℕ → List ℕ → Type 0
@@ -54,14 +51,14 @@ pub record Decides (eq : List ℕ) (fields : List Field) (matched : Bool) (named
   pub enough : (truths : ℕ → Bool) → ((n : ℕ) → In n named → truths n ≡ shown eq fields n) → outcome_with truths eq ≡ truth_of matched
   -- none can be left out: with all other named ones as shown, the outcome can be the other
   pub needed : (n : ℕ) → In n named
-      → (truths : ℕ → Bool) × ((m : ℕ) → In m named → (m ≡ n → ⊥) → truths m ≡ shown eq fields m) × (outcome_with truths eq ≡ cond matched No Yes)
+      → (truths : ℕ → Bool) × ((m : ℕ) → In m named → (m ≡ n → ⊥) → truths m ≡ shown eq fields m) × (outcome_with truths eq ≡ truth_of (not matched))
 
 -- ---- the list
 
 -- the numbers of the files that SELECT lists
 abbrev pub list_of : List ℕ → List ℕ → List ℕ → List ℕ → List ℕ → ℕ → List ℕ
 list_of eq disk owner table selected most =
-    take (select_of eq disk owner table selected most).answer.count (select_of eq disk owner table selected most).selected
+    take (count_in (select_of eq disk owner table selected most).answer) (select_of eq disk owner table selected most).selected
 
 -- a file matched and is not beyond exactly when SELECT lists it
 pub record Listed (number : ℕ) (answer : Explained) (list : List ℕ) : Type 0 where
@@ -78,7 +75,7 @@ module _ (eq : List ℕ) (number : ℕ) (disk owner table : List ℕ) (most : �
     pub room : answer.refused ≡ 33 → (sizes_fit (length eq) (length disk) (length owner) (length table) most ≡ false) ⊎ (length named < length (relations_of eq))
     -- where it is not refused there is a complete file of that number, the relations named decide on its items, and the other numbers lent stay
     pub decided : answer.refused ≡ 0
-        → (place : ℕ) × (find_of (files table) number ≡ At place) × (0 < time_at table place)
+        → (place : ℕ) × (find_of (files table) number ≡ Some place) × (0 < time_at table place)
         × Decides eq (items_at disk owner table place) answer.matched (take answer.count named')
         × (answer.count ≤ length named) × (drop answer.count named' ≡ drop answer.count named)
     -- where file numbers and upload times are given once, the answer is about the list of the SELECT with this equation

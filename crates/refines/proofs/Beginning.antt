@@ -13,9 +13,7 @@ use Rattle.session.specs.declared.state.Uplink.TheVariants as up
 use Rattle.session.specs.declared.reply.Reply.TheVariants as reply
 use Rattle.session.specs.State.{with_up}
 use Rattle.table.specs.declared.File as table
-use Rattle.table.specs.declared.Found.{Found}
-use Rattle.table.specs.declared.Found.TheVariants.{Nothing, At}
-use Rattle.table.specs.declared.Given.TheVariants.{UsedUp, Next}
+use Rattle.std.proofs.Common.{Option, Some, None}
 use Rattle.table.specs.Table.{find_of, free_of}
 use Rattle.table.specs.Given.{blocks_for, most_given}
 use Rattle.table.proofs.Finding.{free_place}
@@ -110,12 +108,12 @@ module _ (c : Here) (size : ℕ) where
     unfolding filesUp.begin_with
     begin_in_law = rw left
 
-    in_full : (filesUp.begin_in Nothing (N + 1) size (map_part sv l) (owner_part sv l) (table_part sv l)).answer ≡ Refused 13
+    in_full : (filesUp.begin_in None (N + 1) size (map_part sv l) (owner_part sv l) (table_part sv l)).answer ≡ Refused 13
     unfolding filesUp.begin_in
     in_full = refl
 
     in_place : (place : ℕ) → place < 256
-        → (filesUp.begin_in (At place) (N + 1) size (map_part sv l) (owner_part sv l) (table_part sv l)).answer
+        → (filesUp.begin_in (Some place) (N + 1) size (map_part sv l) (owner_part sv l) (table_part sv l)).answer
         ≡ cond (leb (blocks_for size) (free_count (map_part sv l))) (Started place) (Refused 13)
     unfolding filesUp.begin_in filesUp.begin_at
     in_place place h =
@@ -139,20 +137,20 @@ module _ (c : Here) (size : ℕ) where
         (turn (reply.UploadError 13) (M c))
     room_does = begun b.answer refl ∙ go (free_of (fs c)) refl
       where
-        go : (r : Found) → free_of (fs c) ≡ r
+        go : (r : Option ℕ) → free_of (fs c) ≡ r
             → outcome b.answer
             ≡ cond (ltb (length (M c).files) sv.files) (cond (leb (blocks_for size) (free (M c))) given (turn (reply.UploadError 13) (M c)))
             (turn (reply.UploadError 13) (M c))
-        go Nothing e =
+        go None e =
             ap outcome
             (ap (λ (x : filesUp.Begins). x.answer)
-            (begin_in_law ∙ ap (λ (r : Found). filesUp.begin_in r (N + 1) size (map_part sv l) (owner_part sv l) (table_part sv l)) e) ∙ in_full)
+            (begin_in_law ∙ ap (λ (r : Option ℕ). filesUp.begin_in r (N + 1) size (map_part sv l) (owner_part sv l) (table_part sv l)) e) ∙ in_full)
             ∙ ap (λ (t : Bool). cond t (cond (leb (blocks_for size) (free (M c))) given (turn (reply.UploadError 13) (M c))) (turn (reply.UploadError 13) (M c)))
             (sym (places_full sv l c.good e))
-        go (At place) e =
+        go (Some place) e =
             ap outcome
             (ap (λ (x : filesUp.Begins). x.answer)
-            (begin_in_law ∙ ap (λ (r : Found). filesUp.begin_in r (N + 1) size (map_part sv l) (owner_part sv l) (table_part sv l)) e)
+            (begin_in_law ∙ ap (λ (r : Option ℕ). filesUp.begin_in r (N + 1) size (map_part sv l) (owner_part sv l) (table_part sv l)) e)
             ∙ in_place place
             (omega (
               arith,
@@ -169,7 +167,7 @@ module _ (c : Here) (size : ℕ) where
     where
       go : (t : Bool) → eqb N most_given ≡ t
           → turn_view sv l c.i c.part
-          (on_frees (parts sv l c.i) (upload.begin_with (cond t UsedUp (Next (N + 1))) (s0 c) sv.last size (map_part sv l) (owner_part sv l) (table_part sv l)))
+          (on_frees (parts sv l c.i) (upload.begin_with (cond t None (Some (N + 1))) (s0 c) sv.last size (map_part sv l) (owner_part sv l) (table_part sv l)))
           ≡ cond t (turn (reply.UploadError 3) (M c))
           (cond (ltb (length (M c).files) sv.files) (cond (leb (blocks_for size) (free (M c))) given (turn (reply.UploadError 13) (M c)))
           (turn (reply.UploadError 13) (M c)))

@@ -16,8 +16,8 @@ use Rattle.session.specs.declared.state.Downlink.TheVariants as down
 use Rattle.session.specs.declared.state.Listed.TheVariants as listed
 use Rattle.session.specs.declared.reply.Reply.TheVariants as reply
 use Rattle.session.specs.State.{with_down, with_next}
-use Rattle.table.specs.declared.Found.{Found}
-use Rattle.table.specs.declared.Found.TheVariants.{Nothing, At}
+use Rattle.std.proofs.Common.{Some, None}
+use Rattle.std.specs.Prelude as std
 use Rattle.table.specs.Table.{file_at, find_of}
 use Rattle.table.proofs.Finding.{find_number_law}
 use Rattle.decide.specs.Words.{word_at}
@@ -85,11 +85,11 @@ module _ (c : Here) (long : Bool) where
       moves c (with_down (with_next (s0 c) s.next) (down.Listing (listed.One place) long 0 0)) (model.with_down (model.listing long (n ∷ []) 0)) c.linked
       (ap (λ (k : ℕ). model.with_down (model.listing long (k ∷ []) 0) (k0 c)) e) reply.Nothing
 
-  found_does : (found : Found) (n : ℕ) → find_of (fs c) n ≡ found
+  found_does : (found : std.Option ℕ) (n : ℕ) → find_of (fs c) n ≡ found
       → does c (list_found found long s.next (fs c)) ≡ directory_of_one (file_in (F c) found) (M c) c.i long n
   unfolding list_found directory_of_one
-  found_does Nothing n e = tells c (reply.DownloadError 4)
-  found_does (At place) n e =
+  found_does None n e = tells c (reply.DownloadError 4)
+  found_does (Some place) n e =
       on c (eqb (file_at (fs c) place).time 0) _ _ _ _ (λ _. tells c (reply.DownloadError 11)) (λ _. one_does place n (find_number_law (fs c) n place e))
 
   -- ---- of the next ten of the selection

@@ -15,8 +15,8 @@ use Rattle.session.specs.declared.state.Downlink.TheVariants as down
 use Rattle.session.specs.declared.reply.Reply.{Reply}
 use Rattle.session.specs.declared.reply.Reply.TheVariants as reply
 use Rattle.session.specs.State.{with_down, with_next}
-use Rattle.table.specs.declared.Found.{Found}
-use Rattle.table.specs.declared.Found.TheVariants.{Nothing, At}
+use Rattle.std.proofs.Common.{Some, None}
+use Rattle.std.specs.Prelude as std
 use Rattle.table.specs.Table.{file_at, find_of}
 use Rattle.table.proofs.Finding.{find_found, find_number_law}
 use Rattle.decide.specs.Words.{word_at}
@@ -137,11 +137,11 @@ module _ (c : Here) where
           moves c (with_down (with_next (s0 c) passed) (down.Sending place offset 0)) (λ k. model.with_down (sending n offset) (model.with_next passed k)) c.linked
           (ap (λ (d : model.Downlink). model.with_down d (model.with_next passed (k0 c))) from) reply.Nothing
 
-  found_does : (found : Found) (n offset lock passed : ℕ) → find_of (fs c) n ≡ found
+  found_does : (found : std.Option ℕ) (n offset lock passed : ℕ) → find_of (fs c) n ≡ found
       → does c (on_found found offset lock passed (fs c)) ≡ download_of (file_in (F c) found) (M c) c.i n offset lock passed
   unfolding on_found download_of
-  found_does Nothing n offset lock passed e = tells c (reply.DownloadError 4)
-  found_does (At place) n offset lock passed e =
+  found_does None n offset lock passed e = tells c (reply.DownloadError 4)
+  found_does (Some place) n offset lock passed e =
       on c (eqb (file_at (fs c) place).time 0) _ _ _ _ (λ _. tells c (reply.DownloadError 11))
       (λ q.
       subst (λ (k : ℕ). does c (cond (ltb (file_at (fs c) place).size offset) (act.Tell (reply.DownloadError 2)) (act.Send place offset lock passed))

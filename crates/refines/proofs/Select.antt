@@ -12,8 +12,7 @@ use lib.Seq.{take_at}
 use Rattle.packet.specs.Frame.{padded}
 use Rattle.packet.proofs.FrameLaws.{padded_length}
 use Rattle.header.specs.Items.{fields_of}
-use Rattle.equation.specs.declared.evaluation.Truth.{Truth}
-use Rattle.equation.specs.declared.evaluation.Truth.TheVariants.{No, Yes, Refused}
+use Rattle.std.proofs.Common.{Result, Ok, Err, Some, None}
 use Rattle.equation.specs.Answer.{answer_of, refusal, validity_of}
 use Rattle.equation.specs.Answer as equation
 use Rattle.equation.specs.Tree.{Tree, parse}
@@ -23,8 +22,7 @@ use Rattle.session.specs.declared.reply.Reply.TheVariants as reply
 use Rattle.session.specs.State.{with_selection}
 use Rattle.session.specs.Expected.{takes_command}
 use Rattle.table.specs.declared.Key.TheVariants.{Time}
-use Rattle.table.specs.declared.Found.{Found}
-use Rattle.table.specs.declared.Found.TheVariants.{Nothing, At}
+use Rattle.std.specs.Prelude as std
 use Rattle.table.specs.Table.{file_at, find_of, times, uploaded}
 use Rattle.table.specs.Order.{in_order}
 use Rattle.table.proofs.Records.{key_at, uploaded_file, uploaded_time}
@@ -58,11 +56,10 @@ use Rattle.views.proofs.Order as order
 use Rattle.refines.proofs.Packets.{Here, F, N, fs, sel, s0, k0, M, does, stays}
 
 -- both layers' test of an answer
-yes_same : (r : Truth) → selection.is_yes r ≡ equation.is_yes r
+yes_same : (r : Result Bool ℕ) → selection.is_yes r ≡ equation.is_yes r
 unfolding selection.is_yes equation.is_yes
-yes_same No = refl
-yes_same Yes = refl
-yes_same (Refused n) = refl
+yes_same (Ok b) = refl
+yes_same (Err n) = refl
 
 -- an equation of at most 256 bytes is accepted, or refused by 8
 refused_8 : (eq : List ℕ) → length eq ≤ 256 → (validity_of eq ≡ 0 → ⊥) → validity_of eq ≡ 8
@@ -139,9 +136,9 @@ module _ (c : Here) where
   lies : (f : File) (n : ℕ) → order.Stands (numbered sv l) n f → Lies f
   lies f n s = go (find_of (fs c) f.number) refl s.is
     where
-      go : (r : Found) → find_of (fs c) f.number ≡ r → file_in (F c) r ≡ some f → Lies f
-      go Nothing e h = let z : ◌≡◌ {A = ℕ} 0 1 = cc in absurd (omega arith)
-      go (At p) e h =
+      go : (r : std.Option ℕ) → find_of (fs c) f.number ≡ r → file_in (F c) r ≡ some f → Lies f
+      go None e h = let z : ◌≡◌ {A = ℕ} 0 1 = cc in absurd (omega arith)
+      go (Some p) e h =
           let z : g p ≡ f = cc in
           record { place = p; live = λ y. let k = find_number_law (fs c) f.number p e in let q = s.some in omega arith; is = sym z }
 
@@ -286,7 +283,7 @@ module _ (c : Here) where
           → turn_view sv l c.i c.part
           (on_chooses (parts sv l c.i)
           (download.selected_as (s0 c) sv.last
-          (cond t (selects (record { refused = 0; count = count }) (listed sv.most ns (sel c))) (selects (record { refused = validity_of c.info; count = 0 }) (sel c)))))
+          (cond t (selects (Ok count) (listed sv.most ns (sel c))) (selects (Err (validity_of c.info)) (sel c)))))
           ≡ cond t (turn (reply.Selected (length (selection sv.most c.info (M c).files)))
           (in_session c.i (model.with_selection (selection sv.most c.info (M c).files)) (M c)))
           (turn (reply.DownloadError 8) (M c))

@@ -18,7 +18,7 @@ use Rattle.session.specs.declared.reply.Reply.{Reply}
 use Rattle.session.specs.declared.reply.Reply.TheVariants as reply
 use Rattle.session.specs.State.{with_up}
 use Rattle.table.specs.declared.File as table
-use Rattle.table.specs.declared.Given.TheVariants.{UsedUp, Next}
+use Rattle.std.proofs.Common.{Some, None}
 use Rattle.table.specs.Table.{files, numbers}
 use Rattle.table.specs.Given.{upload_time, most_given}
 use Rattle.table.specs.Fit.{Distinct}
@@ -207,7 +207,7 @@ module _ (c : Here) where
           complete_done (map_part sv l) l.disk (owner_part sv l) (table_part sv l) sv.last.number sv.last.time (facts sv l c.good).store
           (facts sv l c.good).disk place partial.number z time
 
-      accept_is : on_moves P (upload.finish_as (upload.timed (Next time)) (s0 c) sv.last place l.disk (map_part sv l) (owner_part sv l) (table_part sv l))
+      accept_is : on_moves P (upload.finish_as (upload.timed (Some time)) (s0 c) sv.last place l.disk (map_part sv l) (owner_part sv l) (table_part sv l))
           ≡ turned (turn_of (with_up (s0 c) up.Idle) (last_of sv.last.number time) reply.Ack) x
       unfolding on_moves upload.finish_as upload.timed upload.with_blocks upload.accept_turn upload.accepted_as
       accept_is = rw done
@@ -226,7 +226,7 @@ module _ (c : Here) where
           ).files.numbers
 
       accept_does : turn_view sv l c.i c.part
-          (on_moves P (upload.finish_as (upload.timed (Next time)) (s0 c) sv.last place l.disk (map_part sv l) (owner_part sv l) (table_part sv l)))
+          (on_moves P (upload.finish_as (upload.timed (Some time)) (s0 c) sv.last place l.disk (map_part sv l) (owner_part sv l) (table_part sv l)))
           ≡ turn reply.Ack (in_session c.i (model.with_up model.no_upload)
           (model.model (M c) sv.last.number time (changed n (completed time) (M c).files) (M c).sessions))
       accept_does =
@@ -265,7 +265,7 @@ module _ (c : Here) where
       where
         go : (b : Bool) → eqb sv.last.time most_given ≡ b
             → turn_view sv l c.i c.part
-            (on_moves P (upload.finish_as (upload.timed (cond b UsedUp (Next (time_at c.clock sv.last.time)))) (s0 c) sv.last place l.disk (map_part sv l)
+            (on_moves P (upload.finish_as (upload.timed (cond b None (Some (time_at c.clock sv.last.time)))) (s0 c) sv.last place l.disk (map_part sv l)
             (owner_part sv l) (table_part sv l)))
             ≡ cond b (turn (reply.Nak 3) (discarded c.i n model.no_upload (M c))) acked
         go true f = reject_does 3

@@ -13,8 +13,8 @@ use Rattle.session.specs.declared.state.Uplink.{Uplink}
 use Rattle.session.specs.declared.state.Uplink.TheVariants as up
 use Rattle.session.specs.declared.reply.Reply.TheVariants as reply
 use Rattle.session.specs.State.{closed_session, with_up}
-use Rattle.table.specs.declared.Found.{Found}
-use Rattle.table.specs.declared.Found.TheVariants.{Nothing, At}
+use Rattle.std.proofs.Common.{Some, None}
+use Rattle.std.specs.Prelude as std
 use Rattle.table.specs.Table.{numbers, file_at, find_of}
 use Rattle.table.specs.Fit.{Distinct}
 use Rattle.table.proofs.Finding.{by_equal, find_number_law, find_own}
@@ -103,7 +103,7 @@ module _ (c : Here) where
         apart e =
             let a = find_own (fs c) one q live in
             let b = find_own (fs c) one place file in
-            let x : At q ≡ At place = sym a ∙ ap (find_of (fs c)) (e ∙ sym is) ∙ b in
+            let x : Some q ≡ Some place = sym a ∙ ap (find_of (fs c)) (e ∙ sym is) ∙ b in
             cc
 
     receives_same : (u : Uplink) → ((q o r : ℕ) → u ≡ up.Receiving q o r → (F c q).file.number ≡ 0 → ⊥) → receives (up_of (F c) u) n ≡ uploads_in u place
@@ -144,11 +144,11 @@ module _ (c : Here) where
       ∙ ap (λ (k : ℕ). turn (reply.Go n k) (in_session c.i (model.with_up (model.receiving n)) (M c)))
       (sym (bytes.bytes_received sv l (facts sv l c.good) place file))
 
-  continued_does : (found : Found) (n size : ℕ) → find_of (fs c) n ≡ found → (n ≡ 0 → ⊥)
+  continued_does : (found : std.Option ℕ) (n size : ℕ) → find_of (fs c) n ≡ found → (n ≡ 0 → ⊥)
       → does c (on_continued found n size sv.links (fs c)) ≡ upload_continued (file_in (F c) found) (M c) c.i n size
   unfolding on_continued upload_continued
-  continued_does Nothing n size e z = tells c (reply.UploadError 4)
-  continued_does (At place) n size e z =
+  continued_does None n size e z = tells c (reply.UploadError 4)
+  continued_does (Some place) n size e z =
       on c (eqb (file_at (fs c) place).time 0) _ _ _ _
       (λ _.
       on c (eqb (file_at (fs c) place).size size) _ _ _ _

@@ -1,25 +1,27 @@
 -- Lines put together of pieces, and what is printed of them. Assumes nothing.
-use mathlib.Core.Path.{◌≡◌, refl, sym, ap, subst, ◌∙◌}
+use Rattle.std.proofs.Common.{nat_eq}
+use mathlib.Core.Path.{◌≡◌, refl, ap, ◌∙◌}
 use mathlib.Core.Bool.{Bool, true, false, cond}
 use mathlib.Core.List.{List, [], ◌∷◌, ◌++◌, append_assoc}
-use Prim.Native.Nat.{ℕ, suc, ◌+◌, ◌*◌, ◌-◌, ◌≤◌, ◌<◌}
+use Prim.Native.Nat.{ℕ, ◌+◌, ◌*◌, ◌-◌, ◌≤◌, ◌<◌}
 use native.Mathlib.Omega.{arith}
-use native.Mathlib.Numerals.{add-one}
-use lib.Dec.{leb, ltb, eqb}
-use lib.ListN.{length, get_or, take, drop, replicate, length-append, drop_of_length-le}
-use lib.Seq.{sets, sets-eq, drop-cons, take_at, length-take-le}
-use borrow.Author.Tests.{le-leb, lt-leb, leb-true, leb-false, eq-eqb, ne_eqb}
+use Rattle.std.proofs.Common.{nat_eq, ◌&&◌}
+use Rattle.std.specs.List.{starts_with}
+use lib.Dec.{eqb}
+use lib.ListN.{length, take, drop, replicate, length-append}
+use lib.Seq.{sets, sets-eq, take_at, length-take-le}
+use borrow.Author.Tests.{le-leb}
 use Rattle.numbers.specs.Numbers.{stored_at}
 use Rattle.packet.specs.Names.{bytes_of}
 use Rattle.lines.specs.Text.{decimal_of, hex_of}
-use Rattle.lines.specs.Lines.{Printed, printed, printed_in}
+use Rattle.lines.specs.Lines.{printed, printed_in}
 use Rattle.lines.proofs.TextLaws.{hex_length, digits_most}
 use Rattle.lines.proofs.Writing.{joined, printed_whole, printed_none}
 use Rattle.names.specs.Names.{begins_with}
 use Rattle.grammar.specs.declared.Reason.{Reason}
 use Rattle.grammar.specs.declared.Reason.TheVariants as reason
 use Rattle.replies.specs.Reply.{word_of, bytes_line, wrong_line, refused_line, text_line}
-use Rattle.replies.specs.Words.{in10, word_for}
+use Rattle.replies.specs.Words.{word_for}
 use Rattle.replies.specs.declared.Word.{Word}
 
 -- ---- pieces
@@ -126,21 +128,13 @@ print_line buffer line now text n h i e = rw (e, h) (ap (λ (l : List ℕ). prin
 
 -- ---- the word in front of a line
 
-module _ (line word : List ℕ) (i : ℕ) where
-  pub begins_more : i < length word → i < length line → get_or word i 0 ≡ get_or line i 0 → begins_with word line ≡ begins_with (drop i word) (drop i line)
-      → begins_with word line ≡ begins_with (drop (i + 1) word) (drop (i + 1) line)
-  unfolding begins_with
-  begins_more h k e s = s ∙ rw (add-one i, drop-cons word i 0 h, drop-cons line i 0 k, eq-eqb (get_or word i 0) (get_or line i 0) e)
-
-  pub begins_other : i < length word → i < length line → (get_or word i 0 ≡ get_or line i 0 → ⊥) → begins_with word line ≡ begins_with (drop i word) (drop i line)
-      → false ≡ begins_with word line
-  unfolding begins_with
-  begins_other h k e s = sym (s ∙ rw (drop-cons word i 0 h, drop-cons line i 0 k, ne_eqb (get_or word i 0) (get_or line i 0) e))
-
-  pub begins_short : i < length word → length line ≤ i → begins_with word line ≡ begins_with (drop i word) (drop i line) → false ≡ begins_with word line
-  unfolding begins_with
-  begins_short h k s = sym (s ∙ rw (drop-cons word i 0 h, drop_of_length-le line {i = i} k))
-
-  pub begins_whole : length word ≤ i → begins_with word line ≡ begins_with (drop i word) (drop i line) → true ≡ begins_with word line
-  unfolding begins_with
-  begins_whole h s = sym (s ∙ rw (drop_of_length-le word {i = i} h))
+-- the library's test
+pub begins_is : (word line : List ℕ) → starts_with nat_eq line word ≡ begins_with word line
+unfolding begins_with
+begins_is [] line = refl
+begins_is (b ∷ word) [] = refl
+begins_is (b ∷ word) (c ∷ line) = rw (← begins_is word line) (go (eqb b c) (starts_with nat_eq line word))
+  where
+    go : (t u : Bool) → (t && u) ≡ cond t u false
+    go true u = refl
+    go false u = refl

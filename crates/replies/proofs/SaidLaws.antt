@@ -1,7 +1,7 @@
 -- The answers of the two calls, as lines. Assumes nothing.
 use mathlib.Core.Path.{◌≡◌, refl, sym, ap, subst, ◌∙◌}
 use mathlib.Core.Bool.{Bool, true, false, cond}
-use mathlib.Core.List.{List, [], ◌∷◌, ◌++◌}
+use mathlib.Core.List.{List, ◌++◌}
 use mathlib.Core.Option.{Option, none, some}
 use Prim.Native.Nat.{ℕ, ◌+◌, ◌≤◌, ◌<◌}
 use native.Mathlib.Omega.{arith}
@@ -14,9 +14,8 @@ use Rattle.lines.specs.Text.{decimal_of}
 use Rattle.lines.proofs.TextLaws.{digits_most_8}
 use Rattle.equation.specs.Tree.{Tree, parse}
 use Rattle.equation.specs.Newer.{unmarked}
-use Rattle.grammar.specs.Formula.{Formula, postfix}
+use Rattle.grammar.specs.Formula.{postfix}
 use Rattle.grammar.specs.Machine.{Outcome, accepted, refused, outcome_of}
-use Rattle.grammar.specs.declared.Reason.{Reason}
 use Rattle.grammar.proofs.Viable.{first_wrong}
 use Rattle.paper.specs.Answer as paper
 use Rattle.paper.specs.declared.Answer.{Answer}

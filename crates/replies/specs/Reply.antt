@@ -1,7 +1,8 @@
 -- The lines of the program `equations`: "`text` TAB an equation as on paper (the rest of the line, tabs included); `bytes` TAB hex" is read, and "for each
 -- line one: `bytes` TAB hex, or `wrong` TAB place TAB reason, or `refused` TAB reason; for `bytes`: `text` TAB the text, or `refused` TAB reason (`33`, `8`,
 -- `mark`, `deeper`, `bytes`)" is printed. TAB is 9, the newline 10. Assumes nothing.
-use Rattle.std.specs.Prelude.{Bool, true, false, cond, List, [], ◌∷◌, ◌++◌, ℕ, ◌+◌, leb, length, take, drop, replicate}
+use Rattle.std.specs.Prelude.{Bool, true, false, cond, List, [], ◌∷◌, ◌++◌, ℕ, ◌+◌, leb, length, take, drop, replicate, None, Some}
+use Rattle.std.specs.Prelude as std
 use Rattle.std.proofs.Math.Option.{Option, none, some}
 use Rattle.packet.specs.Names.{bytes_of}
 use Rattle.lines.specs.Numerals.{is_hex, bytes_in}
@@ -15,8 +16,6 @@ use Rattle.grammar.specs.declared.Reason.TheVariants as reason
 use Rattle.back.specs.Answer.{Answers, written_of}
 use Rattle.back.specs.declared.Answer.{Answer}
 use Rattle.back.specs.declared.Answer.TheVariants as answer
-use Rattle.replies.specs.declared.Reply.{Reply}
-use Rattle.replies.specs.declared.Reply.TheVariants as reply
 
 -- the words of the reasons
 unfoldable pub word_of : Reason → List ℕ
@@ -83,17 +82,17 @@ replies_to line =
 -- ---- the answer to a line, and the lent text afterwards
 
 pub record Replies : Type 0 where
-  pub reply : Reply
+  pub reply : std.Option ℕ
   pub text : List ℕ
 
-abbrev pub replies : Reply → List ℕ → Replies
+abbrev pub replies : std.Option ℕ → List ℕ → Replies
 replies r text = record { reply = r; text = text }
 
 abbrev pub lined : Printed → Replies
-lined p = replies (reply.Line p.size) p.text
+lined p = replies (Some p.size) p.text
 
 unfoldable pub replied : Option (List ℕ) → List ℕ → Replies
-replied none text = replies reply.Unreadable text
+replied none text = replies None text
 replied (some line) text = lined (printed_in line text)
 
 abbrev pub reply_of : List ℕ → List ℕ → Replies

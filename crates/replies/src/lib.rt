@@ -15,17 +15,10 @@ ghost use Rattle.replies.specs.Words.{word_for};
 
 use back::to_text;
 use grammar::Reason;
-use lines::numeral::{Pairs, hex};
+use lines::numeral::hex;
 use lines::write::width;
 use numbers::{hex_digit, store};
 use paper::to_bytes;
-
-// A line can't be read; or a line of so many bytes stands at the front of the text, 0 where the text is too short for it.
-#[derive(Clone, Copy)]
-pub enum Reply {
-    Unreadable,
-    Line(usize),
-}
 
 // A reason's word: the first `size` of the bytes, the others zero.
 #[derive(Clone, Copy)]
@@ -96,7 +89,8 @@ fn push(out: &mut [u8], n: usize, piece: &[u8]) -> usize
     ensures value { result ≡ n + length piece.now }
     ensures out_after { out.new ≡ sets out.old n piece.now }
 {
-    store(out, n, piece);
+    // not refused: the piece was found to fit
+    let _ = store(out, n, piece);
     n + piece.len()
 }
 
@@ -105,16 +99,11 @@ fn push_hex(out: &mut [u8], n: usize, bytes: &[u8]) -> usize
     ensures value { result ≡ n + 2 * length bytes.now }
     ensures out_after { out.new ≡ sets out.old n (hex_of bytes.now) }
 {
-    let mut to = n;
-    let mut i = 0;
-    while i < bytes.len() {
-        let b = bytes[i];
-        out[to] = hex_digit(b / 16);
-        out[to + 1] = hex_digit(b % 16);
-        to += 2;
-        i += 1;
+    for (i, b) in bytes.iter().enumerate() {
+        out[n + 2 * i] = hex_digit(b / 16);
+        out[n + 2 * i + 1] = hex_digit(b % 16);
     }
-    to
+    n + 2 * bytes.len()
 }
 
 fn push_decimal(out: &mut [u8], n: usize, v: usize) -> usize
@@ -125,9 +114,10 @@ fn push_decimal(out: &mut [u8], n: usize, v: usize) -> usize
     let digits = width(v);
     let mut i = n + digits - 1;
     let mut rest = v;
+    // a `while`: each turn writes the last digit of what is left and takes its tenth
     while 9 < rest {
         out[i] = 48 + (rest % 10) as u8;
-        rest = rest / 10;
+        rest /= 10;
         i -= 1;
     }
     out[i] = 48 + rest as u8;
@@ -199,7 +189,8 @@ fn print(buffer: &[u8], n: usize, text: &mut [u8]) -> usize
     if text.len() < n {
         return 0;
     }
-    store(text, 0, &buffer[..n]);
+    // not refused: the text was found long enough
+    let _ = store(text, 0, &buffer[..n]);
     n
 }
 
@@ -255,18 +246,7 @@ fn blank_equation() -> [u8; 2047]
 pub fn begins(line: &[u8], word: &[u8]) -> bool
     ensures { result ≡ begins_with word.now line.now }
 {
-    let mut i = 0;
-    while i < word.len() {
-        if line.len() <= i {
-            return false;
-        }
-        if word[i] == line[i] {
-            i += 1;
-        } else {
-            return false;
-        }
-    }
-    true
+    line.starts_with(word)
 }
 
 // 4,096 zeros, for a line. The `ensures` gives only the length.
@@ -294,20 +274,18 @@ fn reply_to_bytes(equation: &[u8], text: &mut [u8]) -> usize
     print(&buffer, n, text)
 }
 
-// The line for an equation that is written in hex, with a buffer for its bytes that has room where one of 65,536 has.
-fn reply_in(field: &[u8], bytes: &mut [u8], text: &mut [u8]) -> Reply
+// The line for an equation that is written in hex, with a buffer for its bytes that has room where one of 65,536 has: how many bytes it has, or 0 where the
+// text is too short for it. None where the field is not hex.
+fn reply_in(field: &[u8], bytes: &mut [u8], text: &mut [u8]) -> Option<usize>
     requires { leb (length (bytes_in field.now)) (length bytes.old) ≡ leb (length (bytes_in field.now)) 65536 }
     ensures { replies result text.new ≡ replied (hex_reply field.now) text.old }
 {
-    let p = hex(field, 0, bytes);
-    match p {
-        Pairs::Bad => Reply::Unreadable,
-        Pairs::Bytes(n) => Reply::Line(reply_to_bytes(&bytes[..n], text)),
-    }
+    let n = hex(field, 0, bytes)?;
+    Some(reply_to_bytes(&bytes[..n], text))
 }
 
 // The line for an equation that is written in hex. Most are short, and a buffer of 65,536 bytes takes longer to make than their line.
-fn reply_to_hex(field: &[u8], text: &mut [u8]) -> Reply
+fn reply_to_hex(field: &[u8], text: &mut [u8]) -> Option<usize>
     ensures { replies result text.new ≡ replied (hex_reply field.now) text.old }
 {
     if field.len() < 4096 {
@@ -318,21 +296,22 @@ fn reply_to_hex(field: &[u8], text: &mut [u8]) -> Reply
     reply_in(field, &mut bytes, text)
 }
 
-// Answers a line of the program.
-pub fn answer_line(line: &[u8], text: &mut [u8]) -> Reply
+// Answers a line of the program: how many bytes the answer has, which stands at the front of the text, or 0 where the text is too short for it. None where
+// the line can't be read.
+pub fn answer_line(line: &[u8], text: &mut [u8]) -> Option<usize>
     ensures { replies result text.new ≡ reply_of line.now text.old }
 {
     if begins(line, b"text\t") {
         if 5 <= line.len() {
-            return Reply::Line(reply_to_text(&line[5..], text));
+            return Some(reply_to_text(&line[5..], text));
         }
-        return Reply::Unreadable;
+        return None;
     }
     if begins(line, b"bytes\t") {
         if 6 <= line.len() {
             return reply_to_hex(&line[6..], text);
         }
-        return Reply::Unreadable;
+        return None;
     }
-    Reply::Unreadable
+    None
 }

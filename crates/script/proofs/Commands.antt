@@ -1,5 +1,6 @@
 -- What a line of the script says of its command: the session numbers have 32 bits, and a line of 131,072 bytes has at most 65,536 hex pairs. Assumes
 -- nothing.
+use Rattle.std.proofs.Common.{Option, None, Some}
 use native.Mathlib.Omega.{arith}
 use mathlib.Core.Path.{◌≡◌, refl, sym, ◌∙◌}
 use mathlib.Core.Bool.{Bool, true, false, cond}
@@ -10,10 +11,6 @@ use lib.ListN.{length, drop, get_or, length-append, length-drop}
 use lib.Seq.{take-length, take-append_seam}
 use borrow.Author.Tests.{leb-true, le-leb}
 use Rattle.packet.specs.Names.{bytes_of}
-use Rattle.lines.specs.declared.numeral.Digits.{Digits}
-use Rattle.lines.specs.declared.numeral.Digits.TheVariants as decimal
-use Rattle.lines.specs.declared.commands.Number.{Number}
-use Rattle.lines.specs.declared.commands.Number.TheVariants as number
 use Rattle.lines.specs.declared.commands.Command.{Command}
 use Rattle.lines.specs.declared.commands.Command.TheVariants.{Unreadable, Time, Open, Drop, Rx}
 use Rattle.lines.specs.Numerals.{digits, value_from, decimal_by, decimal_at, is_hex, bytes_in}
@@ -27,19 +24,19 @@ use Rattle.script.proofs.Agreeing.{Alike, Agree}
 
 -- ---- a decimal number has 32 bits
 
-unfoldable SmallDigits : Digits → Type 0
-SmallDigits decimal.Bad = Unit {0}
-SmallDigits (decimal.Value v next) = v < 4294967296
+unfoldable SmallDigits : Option (ℕ × ℕ) → Type 0
+SmallDigits None = Unit {0}
+SmallDigits (Some (v, next)) = v < 4294967296
 
-unfoldable SmallNumber : Number → Type 0
-SmallNumber number.Bad = Unit {0}
-SmallNumber (number.Value v) = v < 4294967296
+unfoldable SmallNumber : Option ℕ → Type 0
+SmallNumber None = Unit {0}
+SmallNumber (Some v) = v < 4294967296
 
 by_small : (v at : ℕ) (ds : List ℕ) → SmallDigits (decimal_by v at ds)
 unfolding decimal_by SmallDigits
 by_small v at ds = go (leb (value_from v ds) 4294967295) refl
   where
-    go : (t : Bool) → leb (value_from v ds) 4294967295 ≡ t → SmallDigits (cond t (decimal.Value (value_from v ds) (at + length ds)) decimal.Bad)
+    go : (t : Bool) → leb (value_from v ds) 4294967295 ≡ t → SmallDigits (cond t (Some (value_from v ds, at + length ds)) None)
     go true e = omega (arith, leb-true (value_from v ds) 4294967295 e)
     go false e = tt
 
@@ -47,16 +44,16 @@ decimal_small : (line : List ℕ) (at : ℕ) → SmallDigits (decimal_at line at
 unfolding decimal_at SmallDigits
 decimal_small line at = go (ltb 0 (length (digits (drop at line))))
   where
-    go : (t : Bool) → SmallDigits (cond t (decimal_by 0 at (digits (drop at line))) decimal.Bad)
+    go : (t : Bool) → SmallDigits (cond t (decimal_by 0 at (digits (drop at line))) None)
     go true = by_small 0 at (digits (drop at line))
     go false = tt
 
-ends_small : (d : Digits) (end : ℕ) → SmallDigits d → SmallNumber (ends_at d end)
+ends_small : (d : Option (ℕ × ℕ)) (end : ℕ) → SmallDigits d → SmallNumber (ends_at d end)
 unfolding ends_at SmallDigits SmallNumber
-ends_small decimal.Bad end p = tt
-ends_small (decimal.Value v next) end p = go (eqb next end)
+ends_small None end p = tt
+ends_small (Some (v, next)) end p = go (eqb next end)
   where
-    go : (t : Bool) → SmallNumber (cond t (number.Value v) number.Bad)
+    go : (t : Bool) → SmallNumber (cond t (Some v) None)
     go true = p
     go false = tt
 
@@ -73,10 +70,10 @@ SmallSession (Open session) = session < 4294967296
 SmallSession (Drop session) = session < 4294967296
 SmallSession (Rx session n) = session < 4294967296
 
-two_small : (name : List ℕ) (n : Number) → SmallNumber n → SmallSession (command_of_two name n)
+two_small : (name : List ℕ) (n : Option ℕ) → SmallNumber n → SmallSession (command_of_two name n)
 unfolding command_of_two SmallNumber SmallSession
-two_small name number.Bad p = tt
-two_small name (number.Value v) p = go (same name (bytes_of "time")) (same name (bytes_of "open")) (same name (bytes_of "drop"))
+two_small name None p = tt
+two_small name (Some v) p = go (same name (bytes_of "time")) (same name (bytes_of "open")) (same name (bytes_of "drop"))
   where
     go : (t u w : Bool) → SmallSession (cond t (Time v) (cond u (Open v) (cond w (Drop v) Unreadable)))
     go true u w = tt
@@ -84,10 +81,10 @@ two_small name (number.Value v) p = go (same name (bytes_of "time")) (same name 
     go false false true = p
     go false false false = tt
 
-three_small : (name : List ℕ) (n : Number) (hex : List ℕ) → SmallNumber n → SmallSession (command_of_three name n hex)
+three_small : (name : List ℕ) (n : Option ℕ) (hex : List ℕ) → SmallNumber n → SmallSession (command_of_three name n hex)
 unfolding command_of_three SmallNumber SmallSession
-three_small name number.Bad hex p = tt
-three_small name (number.Value v) hex p = go (same name (bytes_of "rx")) (is_hex hex)
+three_small name None hex p = tt
+three_small name (Some v) hex p = go (same name (bytes_of "rx")) (is_hex hex)
   where
     go : (t u : Bool) → SmallSession (cond t (cond u (Rx v (length (bytes_in hex))) Unreadable) Unreadable)
     go true true = p
@@ -128,10 +125,10 @@ Counts (Open session) n = Unit {0}
 Counts (Drop session) n = Unit {0}
 Counts (Rx session m) n = m ≡ n
 
-two_counts : (name : List ℕ) (n : Number) (k : ℕ) → Counts (command_of_two name n) k
+two_counts : (name : List ℕ) (n : Option ℕ) (k : ℕ) → Counts (command_of_two name n) k
 unfolding command_of_two Counts
-two_counts name number.Bad k = tt
-two_counts name (number.Value v) k = go (same name (bytes_of "time")) (same name (bytes_of "open")) (same name (bytes_of "drop"))
+two_counts name None k = tt
+two_counts name (Some v) k = go (same name (bytes_of "time")) (same name (bytes_of "open")) (same name (bytes_of "drop"))
   where
     go : (t u w : Bool) → Counts (cond t (Time v) (cond u (Open v) (cond w (Drop v) Unreadable))) k
     go true u w = tt
@@ -139,10 +136,10 @@ two_counts name (number.Value v) k = go (same name (bytes_of "time")) (same name
     go false false true = tt
     go false false false = tt
 
-three_counts : (name : List ℕ) (n : Number) (hex : List ℕ) → Counts (command_of_three name n hex) (length (bytes_in hex))
+three_counts : (name : List ℕ) (n : Option ℕ) (hex : List ℕ) → Counts (command_of_three name n hex) (length (bytes_in hex))
 unfolding command_of_three Counts
-three_counts name number.Bad hex = tt
-three_counts name (number.Value v) hex = go (same name (bytes_of "rx")) (is_hex hex)
+three_counts name None hex = tt
+three_counts name (Some v) hex = go (same name (bytes_of "rx")) (is_hex hex)
   where
     go : (t u : Bool) → Counts (cond t (cond u (Rx v (length (bytes_in hex))) Unreadable) Unreadable) (length (bytes_in hex))
     go true true = refl

@@ -1,6 +1,6 @@
 -- A directory ends: how many requests may still send a packet of it, that each that sends one leaves fewer, and that there are not many. Assumes nothing.
 use native.Mathlib.Omega.{arith}
-use mathlib.Core.Path.{◌≡◌, refl, sym, ◌∙◌, ap}
+use mathlib.Core.Path.{◌≡◌, sym, ◌∙◌, ap}
 use mathlib.Core.Bool.{Bool}
 use mathlib.Core.List.{List, [], ◌∷◌, map}
 use Prim.Native.Nat.{ℕ, suc, ◌+◌, ◌-◌, ◌*◌, ◌/◌, ◌≤◌, ◌<◌, min}
@@ -8,8 +8,7 @@ use lib.ListN.{length, take, drop, length-append, length-take, length-drop, leng
 use Rattle.session.specs.declared.state.Listed.{Listed}
 use Rattle.session.specs.declared.state.Listed.TheVariants as listed
 use Rattle.table.specs.declared.File.{File}
-use Rattle.table.specs.declared.Found.{Found}
-use Rattle.table.specs.declared.Found.TheVariants.{Nothing, At}
+use Rattle.std.proofs.Common.{Option, Some, None}
 use Rattle.table.specs.Table.{file_at, find_of}
 use Rattle.blocks.proofs.Bits.{by_lt}
 use Rattle.header.specs.Entries.{running_on}
@@ -59,12 +58,12 @@ module _ (es : List (List ℕ)) (done sent : ℕ) where
 -- ---- and there are not many
 
 -- an entry is not longer than all blocks together
-entry_most : (long : Bool) (disk owner : List ℕ) (fs : List File) (f : Found) → length (entry_in long disk owner fs f) ≤ 1048576
+entry_most : (long : Bool) (disk owner : List ℕ) (fs : List File) (f : Option ℕ) → length (entry_in long disk owner fs f) ≤ 1048576
 unfolding entry_in
-entry_most long disk owner fs Nothing = omega arith
-entry_most long disk owner fs (At place) = (entry_short long disk owner place (file_at fs place).received).most
+entry_most long disk owner fs None = omega arith
+entry_most long disk owner fs (Some place) = (entry_short long disk owner place (file_at fs place).received).most
 
-running_most : (long : Bool) (disk owner : List ℕ) (fs : List File) (founds : List Found)
+running_most : (long : Bool) (disk owner : List ℕ) (fs : List File) (founds : List (Option ℕ))
     → length (running_on (map (entry_in long disk owner fs) founds)) ≤ length founds * 1048576
 unfolding running_on
 running_most long disk owner fs [] = omega arith

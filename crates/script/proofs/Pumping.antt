@@ -20,7 +20,6 @@ use Rattle.session.specs.State.{closed_session, with_down}
 use Rattle.session.specs.Reply.{answered}
 use Rattle.table.specs.declared.File.{File}
 use Rattle.table.specs.Table.{files, file_at}
-use Rattle.blocks.specs.Owners.{blocks}
 use Rattle.blocks.proofs.Bits.{by_lt}
 use Rattle.blocks.proofs.Owners.{blocks_le}
 use Rattle.files.specs.Sound.{sound_test}

@@ -1,6 +1,6 @@
 -- The server's call for what a script is doing (document 01, "The script program"). The script keeps the server and its slices to itself, so these are
 -- the calls that do not test 35 again (crates/server, specs/Kept.antt); specs/Reached.antt says that they are the server's own. Assumes nothing.
-use Rattle.std.specs.Prelude.{true, cond, List, ℕ, ltb}
+use Rattle.std.specs.Prelude.{true, cond, List, ℕ, ltb, Option, None, Some}
 use Rattle.session.specs.declared.reply.Answer.TheVariants as answer
 use Rattle.server.specs.declared.Server.{Server}
 use Rattle.server.specs.State.{Lent, lent, Outcome, outcome, done_with}
@@ -8,8 +8,6 @@ use Rattle.server.specs.Calls.{Opened, Lost}
 use Rattle.server.specs.Calls.{login_by, receive_by, request_by, lose_by}
 use Rattle.script.specs.declared.doing.Doing.{Doing}
 use Rattle.script.specs.declared.doing.Doing.TheVariants as doing
-use Rattle.script.specs.declared.calling.Heard.{Heard}
-use Rattle.script.specs.declared.calling.Heard.TheVariants as heard
 use Rattle.input.specs.Parts.{bytes_from}
 
 -- "`rx`, session and hex bytes"
@@ -34,16 +32,16 @@ call_of sv clock (doing.Pumping session) bytes l out = only_out l (request_by tr
 
 -- ---- the same in two parts: what is handed over, and the calls that hand over nothing
 
-abbrev pub heard_to : ℕ → ℕ → ℕ → Heard
-heard_to session at end = heard.Part session (cond (ltb at end) at end) end
+abbrev pub heard_to : ℕ → ℕ → ℕ → Option (ℕ × ℕ × ℕ)
+heard_to session at end = Some (session, cond (ltb at end) at end, end)
 
 -- both places are cut to what is lent
-unfoldable pub heard_of : Doing → ℕ → Heard
-heard_of doing.Rest size = heard.Nothing
-heard_of (doing.Opening session) size = heard.Nothing
-heard_of (doing.Dropping session) size = heard.Nothing
+unfoldable pub heard_of : Doing → ℕ → Option (ℕ × ℕ × ℕ)
+heard_of doing.Rest size = None
+heard_of (doing.Opening session) size = None
+heard_of (doing.Dropping session) size = None
 heard_of (doing.Hearing session at n) size = heard_to session at (cond (ltb n size) n size)
-heard_of (doing.Pumping session) size = heard.Nothing
+heard_of (doing.Pumping session) size = None
 
 unfoldable pub still_of : Server → ℕ → Doing → Lent → List ℕ → Outcome
 still_of sv clock doing.Rest l out = outcome (done_with sv (answer.Quiet 0)) l out

@@ -8,26 +8,16 @@ use input::parts::least;
 use server::{Done, Server};
 use session::reply::Answer;
 
-// What is handed over: nothing, or for a session the bytes of the line from a place to another.
-#[derive(Clone, Copy)]
-enum Heard {
-    Nothing,
-    Part(u32, usize, usize),
-}
-
-// What is handed over of a line of `size` bytes.
-fn handed(doing: Doing, size: usize) -> Heard
+// What is handed over of a line of `size` bytes: for a session the bytes from a place to another, or nothing.
+fn handed(doing: Doing, size: usize) -> Option<(u32, usize, usize)>
     ensures { result ≡ heard_of doing size }
 {
     match doing {
-        Doing::Rest => Heard::Nothing,
-        Doing::Opening(_) => Heard::Nothing,
-        Doing::Dropping(_) => Heard::Nothing,
         Doing::Hearing(session, at, n) => {
             let e = least(n, size);
-            Heard::Part(session, least(at, e), e)
+            Some((session, least(at, e), e))
         }
-        Doing::Pumping(_) => Heard::Nothing,
+        _ => None,
     }
 }
 
@@ -112,12 +102,11 @@ pub(crate) fn call(
     ensures { outcome result (lent disk.new map.new owner.new table.new selected.new held.new) out.new
         ≡ call_of server clock doing bytes.now (lent disk.old map.old owner.old table.old selected.old held.old) out.old }
 {
-    let part = handed(doing, bytes.len());
-    match part {
-        Heard::Nothing => still_call(
+    match handed(doing, bytes.len()) {
+        None => still_call(
             server, clock, doing, &*disk, &*map, &*owner, &*table, selected, held, out,
         ),
-        Heard::Part(session, from, to) => server::receive(
+        Some((session, from, to)) => server::receive(
             server,
             true,
             disk,

@@ -1,14 +1,14 @@
 -- A DATA packet: bytes read into the front of an array of zeros, and written as a packet; what is due where there is room for it. Assumes nothing.
+use Rattle.std.proofs.Common.{Result}
 use mathlib.Core.Path.{◌≡◌, refl, sym, ap, ◌∙◌}
 use mathlib.Core.Bool.{Bool, cond}
 use mathlib.Core.List.{List, ◌∷◌, ◌++◌}
-use Prim.Native.Nat.{ℕ, zero, suc, ◌+◌, ◌-◌, ◌≤◌}
+use Prim.Native.Nat.{ℕ, zero, suc, ◌+◌, ◌-◌, ◌≤◌, min}
 use native.Mathlib.Omega.{arith}
 use lib.Dec.{eqb}
 use lib.ListN.{length, take, drop, replicate, length-append}
 use lib.Seq.{length-take-le, take_at}
 use borrow.Author.Tests.{le-ltb}
-use Rattle.packet.specs.declared.plain.Written.{Written}
 use Rattle.packet.specs.Packet.{packet_of, write_answer, left_in}
 use Rattle.packet.proofs.PacketLaws.{accepted}
 use Rattle.session.specs.declared.state.Session.{Session}
@@ -21,7 +21,12 @@ use Rattle.session.specs.State.{with_down}
 use Rattle.session.specs.Reply.{answered}
 use Rattle.listing.specs.Listing.{next_bytes, fill_of}
 use Rattle.listing.proofs.FillLaws.{fill_bytes}
-use Rattle.sending.specs.Sending.{asked, asked_of, told, listed_as, due_of, due_in}
+use Rattle.sending.specs.Sending.{least_of, asked, asked_of, told, listed_as, due_of, due_in}
+
+-- the lesser of a number and 256 is the library's
+pub least_is_min : (n : ℕ) → min n 256 ≡ least_of n
+unfolding least_of
+least_is_min n = grind arith
 
 -- the first n of many zeros
 pub zeros : (n m : ℕ) → n ≤ m → take {A = ℕ} n (replicate m 0) ≡ replicate n 0
@@ -46,7 +51,7 @@ module _ (n : ℕ) (last : List ℕ) (h : n ≤ 256) (kept : length last ≡ len
   front = take_at last (drop n (replicate 256 0)) n size
 
   -- the packet that goes out
-  pub data_sent : (out out' : List ℕ) (r : Written)
+  pub data_sent : (out out' : List ℕ) (r : Result ℕ ℕ)
       → 258 ≤ length out
       → r ≡ write_answer 0 (take n (last ++ drop n (replicate 256 0))) out
       → out' ≡ left_in r 0 (take n (last ++ drop n (replicate 256 0))) out
@@ -62,7 +67,7 @@ module _ (n : ℕ) (bytes : List ℕ) (h : n ≤ 256) (whole : length bytes ≡ 
   pub filled_length : n ≡ length (take n bytes)
   filled_length = sym filled_size
 
-  pub filled_sent : (out out' : List ℕ) (r : Written)
+  pub filled_sent : (out out' : List ℕ) (r : Result ℕ ℕ)
       → 258 ≤ length out
       → r ≡ write_answer 0 (take n bytes) out
       → out' ≡ left_in r 0 (take n bytes) out

@@ -17,16 +17,6 @@ pub struct Asked {
     pub answer: Answer,
 }
 
-// At most 256.
-fn least(n: usize) -> usize
-    ensures { (result ≡ least_of n) × (result ≤ 256) }
-{
-    if n < 256 {
-        return n;
-    }
-    256
-}
-
 // A DATA packet of the next n bytes of the file at a place.
 fn send_data(
     s: Session,
@@ -43,11 +33,13 @@ fn send_data(
 {
     let at = offset as usize + sent as usize;
     let mut info = [0u8; 256];
-    blocks::read(disk, owner, (place % 65536) as u16, at, &mut info[..n]);
-    packet::plain::write_packet(0, &info[..n], out);
+    // where the place has no such bytes, they are zeros
+    let _ = blocks::read(disk, owner, (place % 65536) as u16, at, &mut info[..n]);
+    // neither refusal can occur: the type, the length and the room are as the writer wants them
+    let _ = packet::plain::write_packet(0, &info[..n], out);
     let down = Downlink::Sending {
-        place: place,
-        offset: offset,
+        place,
+        offset,
         sent: ((sent as u64 + n as u64) % 4294967296) as u32,
     };
     Asked {
@@ -74,13 +66,12 @@ fn send_next(
     let at = offset as usize + sent as usize;
     let size = f.size as usize;
     if at < size {
-        let n = least(size - at);
+        let n = (size - at).min(256);
         return send_data(s, place, offset, sent, n, disk, owner, out);
     }
-    let answer = session::reply::send(Reply::DataEnd, 0, out);
     Asked {
-        session: session::state::with_down(s, Downlink::Ended { place: place }),
-        answer: answer,
+        session: session::state::with_down(s, Downlink::Ended { place }),
+        answer: session::reply::send(Reply::DataEnd, 0, out),
     }
 }
 
@@ -90,18 +81,18 @@ fn send_filled(s: Session, listed: Listed, long: bool, f: Filled, out: &mut [u8]
     ensures { asked result out.new ≡ listed_as s listed long f out.old }
 {
     if f.size == 0 {
-        let answer = session::reply::send(Reply::DataEnd, 0, out);
         return Asked {
             session: session::state::with_down(s, Downlink::Idle),
-            answer: answer,
+            answer: session::reply::send(Reply::DataEnd, 0, out),
         };
     }
     let n = f.size;
     let bytes = f.bytes;
-    packet::plain::write_packet(0, &bytes[..n], out);
+    // neither refusal can occur: the type, the length and the room are as the writer wants them
+    let _ = packet::plain::write_packet(0, &bytes[..n], out);
     let down = Downlink::Listing {
-        listed: listed,
-        long: long,
+        listed,
+        long,
         done: f.done,
         sent: f.sent,
     };
@@ -128,12 +119,14 @@ fn send_listing(
     ensures { asked result out.new
         ≡ listing_of s listed long done sent disk.now owner.now (files table.now) selected.now out.old }
 {
-    let next = s.next;
-    let f = listing::fill(listed, long, next, done, sent, disk, owner, table, selected);
+    let f = listing::fill(
+        listed, long, s.next, done, sent, disk, owner, table, selected,
+    );
     send_filled(s, listed, long, f, out)
 }
 
 // What is due, if anything, in an output that has room for it.
+#[tactic(auto, unfolding(crate::specs::Sending::due_of))]
 fn send_due(
     s: Session,
     disk: &[u8],
@@ -145,9 +138,8 @@ fn send_due(
     requires { 258 ≤ length out.old }
     ensures { asked result out.new ≡ due_of s.down s disk.now owner.now (files table.now) selected.now out.old }
 {
-    let down = s.down;
-    match down {
-        Downlink::Idle => Asked {
+    match s.down {
+        Downlink::Idle | Downlink::Ended { .. } => Asked {
             session: s,
             answer: Answer::Quiet(0),
         },
@@ -156,17 +148,10 @@ fn send_due(
             offset,
             sent,
         } => send_next(s, place, offset, sent, disk, owner, table, out),
-        Downlink::Ended { place: _ } => Asked {
-            session: s,
-            answer: Answer::Quiet(0),
+        Downlink::Aborting { .. } => Asked {
+            session: session::state::with_down(s, Downlink::Idle),
+            answer: session::reply::send(Reply::Aborted, 0, out),
         },
-        Downlink::Aborting { place: _ } => {
-            let answer = session::reply::send(Reply::Aborted, 0, out);
-            Asked {
-                session: session::state::with_down(s, Downlink::Idle),
-                answer: answer,
-            }
-        }
         Downlink::Listing {
             listed,
             long,

@@ -1,5 +1,5 @@
 -- What the tests of the local refusals say where they are true. Assumes nothing.
-use mathlib.Core.Path.{◌≡◌, refl}
+use mathlib.Core.Path.{◌≡◌, refl, ap, ◌∙◌}
 use mathlib.Core.Bool.{Bool, true, false, cond}
 use Prim.Native.Nat.{ℕ, ◌+◌, ◌-◌, ◌*◌, ◌≤◌, ◌<◌}
 use native.Mathlib.Omega.{arith}
@@ -12,9 +12,16 @@ use Rattle.links.proofs.Facts.{part_end}
 use Rattle.server.specs.declared.Server.{Server}
 use Rattle.server.specs.declared.check.Check.{Check}
 use Rattle.server.specs.declared.check.Check.TheVariants.{Go, Refuse}
+use Rattle.server.specs.declared.check.Lengths.{Lengths}
 use Rattle.server.specs.State.{Lent, lent, words, link_of}
-use Rattle.server.specs.Check.{sizes_fit, room_fits, fits, in_state, session_check, check_by}
+use Rattle.server.specs.Check.{lengths_of, sizes_fit, room_fits, fits, in_state, session_check, check_by, check_for}
 use Rattle.server.specs.Calls.{StepPre, LosePre, DuePre, on_request}
+
+-- what is judged by the lengths of slices is judged for these slices
+pub judged : (sound : Bool) (sv : Server) (l : Lent) (session : ℕ) (wanted : Bool) (out : ℕ) (n : Lengths) (k : Check) → n ≡ lengths_of l
+    → k ≡ check_by sound sv session wanted out n.disk n.map n.owner n.table n.selected n.held → k ≡ check_for sound sv l session wanted out
+judged sound sv l session wanted out n k e f =
+    f ∙ ap (λ (m : Lengths). check_by sound sv session wanted out m.disk m.map m.owner m.table m.selected m.held) e
 
 -- a test and then another
 first : (t a : Bool) → cond t a false ≡ true → t ≡ true

@@ -5,8 +5,20 @@ use Rattle.files.specs.Sound.{sound_test}
 use Rattle.links.specs.Sound.{links_sound}
 use Rattle.server.specs.declared.Server.{Server}
 use Rattle.server.specs.declared.check.Check.{Check}
+use Rattle.server.specs.declared.check.Lengths.{Lengths}
 use Rattle.server.specs.declared.check.Check.TheVariants.{Go, Refuse}
 use Rattle.server.specs.State.{Lent, link_of, words}
+
+-- how long each slice is that is lent
+abbrev pub lengths_of : Lent → Lengths
+lengths_of l = record {
+  disk = length l.disk;
+  map = length l.map;
+  owner = length l.owner;
+  table = length l.table;
+  selected = length l.selected;
+  held = length l.held;
+}
 
 -- the sizes of the table: 1 to 4,096 blocks, 1 to 256 files, 1 to 4 sessions, MAXSEL 1 to 50
 unfoldable pub sizes_fit : ℕ → ℕ → ℕ → ℕ → Bool

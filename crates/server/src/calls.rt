@@ -38,7 +38,7 @@ pub(crate) fn step(
     let answer = session::reply::send(reply, f.taken, out);
     Done {
         server: next,
-        answer: answer,
+        answer,
     }
 }
 
@@ -49,7 +49,7 @@ pub(crate) fn on_login(k: Check, server: Server, out: &mut [u8], clock: u32) -> 
 {
     match k {
         Check::Refuse(n) => Done {
-            server: server,
+            server,
             answer: Answer::Refused(n),
         },
         Check::Go(i) => {
@@ -57,7 +57,7 @@ pub(crate) fn on_login(k: Check, server: Server, out: &mut [u8], clock: u32) -> 
             let answer = session::reply::send(Reply::Login(clock), 0, out);
             Done {
                 server: next,
-                answer: answer,
+                answer,
             }
         }
     }
@@ -70,7 +70,7 @@ pub(crate) fn on_lose(k: Check, server: Server, selected: &mut [u32], held: &mut
 {
     match k {
         Check::Refuse(n) => Done {
-            server: server,
+            server,
             answer: Answer::Refused(n),
         },
         Check::Go(i) => {
@@ -100,7 +100,7 @@ pub(crate) fn on_request(
 {
     match k {
         Check::Refuse(n) => Done {
-            server: server,
+            server,
             answer: Answer::Refused(n),
         },
         Check::Go(i) => {
@@ -115,7 +115,7 @@ pub(crate) fn on_request(
             let answer = asked.answer;
             Done {
                 server: turns::with_link(server, i, next),
-                answer: answer,
+                answer,
             }
         }
     }

@@ -1,7 +1,7 @@
 // The local refusals: sizes (33), an unsound state (35), the session (34), the output (32). Whether the state is sound is handed in.
 ghost use Rattle.std.specs.Prelude.{◌≡◌, Bool, true, false, cond, ◌+◌, ◌*◌, ◌/◌, ◌≤◌, length};
-ghost use Rattle.server.specs.State.{words};
-ghost use Rattle.server.specs.Check.{sizes_fit, room_fits, fits_in, in_state, session_check, check_by};
+ghost use Rattle.server.specs.State.{words, lent};
+ghost use Rattle.server.specs.Check.{lengths_of, sizes_fit, room_fits, fits_in, in_state, session_check, check_by};
 
 use crate::Server;
 
@@ -23,103 +23,92 @@ pub struct Lengths {
     pub held: usize,
 }
 
+impl Lengths {
+    // The lengths of these slices.
+    pub fn of(
+        disk: &[u8],
+        map: &[u64],
+        owner: &[u16],
+        table: &[u32],
+        selected: &[u32],
+        held: &[u8],
+    ) -> Lengths
+        ensures { result ≡ lengths_of (lent disk.now map.now owner.now table.now selected.now held.now) }
+    {
+        Lengths {
+            disk: disk.len(),
+            map: map.len(),
+            owner: owner.len(),
+            table: table.len(),
+            selected: selected.len(),
+            held: held.len(),
+        }
+    }
+}
+
 // The sizes are in the table.
+#[tactic(auto, unfolding(crate::specs::Check::sizes_fit))]
 pub fn sizes_fit(blocks: usize, files: usize, sessions: usize, most: usize) -> bool
     ensures { result ≡ sizes_fit blocks files sessions most }
 {
-    if blocks < 1 {
-        return false;
-    }
-    if 4096 < blocks {
-        return false;
-    }
-    if files < 1 {
-        return false;
-    }
-    if 256 < files {
-        return false;
-    }
-    if sessions < 1 {
-        return false;
-    }
-    if 4 < sessions {
-        return false;
-    }
-    if most < 1 {
-        return false;
-    }
-    most <= 50
+    matches!(blocks, 1..=4096)
+        && matches!(files, 1..=256)
+        && matches!(sessions, 1..=4)
+        && matches!(most, 1..=50)
 }
 
 // What is lent is long enough.
+#[tactic(auto, unfolding(crate::specs::Check::room_fits))]
 fn room_fits(blocks: usize, files: usize, sessions: usize, most: usize, n: Lengths) -> bool
     requires { (blocks ≤ 4096) × (files ≤ 256) × (sessions ≤ 4) × (most ≤ 50) }
     ensures { result ≡ room_fits blocks files sessions most n.disk n.map n.owner n.table n.selected n.held }
 {
-    if n.disk < 256 * blocks {
-        return false;
-    }
-    if n.map < (blocks + 63) / 64 {
-        return false;
-    }
-    if n.owner < blocks {
-        return false;
-    }
-    if n.table < 4 * files {
-        return false;
-    }
-    if n.selected < sessions * most {
-        return false;
-    }
-    sessions * 258 <= n.held
+    256 * blocks <= n.disk
+        && (blocks + 63) / 64 <= n.map
+        && blocks <= n.owner
+        && 4 * files <= n.table
+        && sessions * most <= n.selected
+        && sessions * 258 <= n.held
 }
 
 // Sizes and lengths, 33.
+#[tactic(auto, unfolding(crate::specs::Check::sizes_fit))]
 pub fn fits_all(server: Server, n: Lengths) -> bool
     ensures { result ≡ fits_in server n.disk n.map n.owner n.table n.selected n.held }
 {
-    if sizes_fit(server.blocks, server.files, server.sessions, server.most) {
-        return room_fits(server.blocks, server.files, server.sessions, server.most, n);
-    }
-    false
+    sizes_fit(server.blocks, server.files, server.sessions, server.most)
+        && room_fits(server.blocks, server.files, server.sessions, server.most, n)
 }
 
 // The link is in the state that a call wants.
+#[tactic(auto, unfolding(crate::specs::Check::in_state))]
 fn in_state(wanted: bool, linked: bool) -> bool
     ensures { result ≡ in_state wanted linked }
 {
-    if wanted {
-        return linked;
-    }
-    if linked {
-        return false;
-    }
-    true
+    linked == wanted
 }
 
 // The session's number and state, 34; the output, 32.
+#[tactic(auto, unfolding(crate::specs::Check::session_check))]
 fn check_session(server: Server, session: usize, wanted: bool, out: usize) -> Check
     requires { server.sessions ≤ 4 }
     ensures { result ≡ session_check server session wanted out }
 {
-    if session == 0 {
-        return Check::Refuse(34);
-    }
-    if server.sessions < session {
+    if session == 0 || server.sessions < session {
         return Check::Refuse(34);
     }
     let i = session - 1;
-    let s = server.links[i];
-    if in_state(wanted, s.linked) {
-        if out < 258 {
-            return Check::Refuse(32);
-        }
-        return Check::Go(i);
+    if !in_state(wanted, server.links[i].linked) {
+        return Check::Refuse(34);
     }
-    Check::Refuse(34)
+    if out < 258 {
+        return Check::Refuse(32);
+    }
+    Check::Go(i)
 }
 
 // The local refusals in their order. `sound`: the state is none that 35 refuses.
+#[tactic(auto, unfolding(crate::specs::Check::check_by, crate::specs::Check::sizes_fit))]
 pub fn judge(
     server: Server,
     sound: bool,
@@ -130,11 +119,11 @@ pub fn judge(
 ) -> Check
     ensures { result ≡ check_by sound server session wanted out n.disk n.map n.owner n.table n.selected n.held }
 {
-    if fits_all(server, n) {
-        if sound {
-            return check_session(server, session, wanted, out);
-        }
+    if !fits_all(server, n) {
+        return Check::Refuse(33);
+    }
+    if !sound {
         return Check::Refuse(35);
     }
-    Check::Refuse(33)
+    check_session(server, session, wanted, out)
 }

@@ -62,18 +62,11 @@ pub fn receive(
     ensures { outcome result (lent disk.new map.new owner.new table.new selected.new held.new) out.new
         ≡ receive_by sound server (lent disk.old map.old owner.old table.old selected.old held.old) out.old session clock input.now }
 {
-    let n = Lengths {
-        disk: disk.len(),
-        map: map.len(),
-        owner: owner.len(),
-        table: table.len(),
-        selected: selected.len(),
-        held: held.len(),
-    };
+    let n = Lengths::of(disk, map, owner, table, selected, held);
     let k = check::judge(server, sound, session, true, out.len(), n);
     match k {
         Check::Refuse(number) => Done {
-            server: server,
+            server,
             answer: Answer::Refused(number),
         },
         Check::Go(i) => calls::step(
@@ -99,14 +92,7 @@ pub fn login(
     ensures { opened result out.new
         ≡ login_by sound server (lent disk.now map.now owner.now table.now selected.now held.now) out.old session clock }
 {
-    let n = Lengths {
-        disk: disk.len(),
-        map: map.len(),
-        owner: owner.len(),
-        table: table.len(),
-        selected: selected.len(),
-        held: held.len(),
-    };
+    let n = Lengths::of(disk, map, owner, table, selected, held);
     let k = check::judge(server, sound, session, false, out.len(), n);
     calls::on_login(k, server, out, clock)
 }
@@ -126,14 +112,7 @@ pub fn lose(
     ensures { lost result selected.new held.new
         ≡ lose_by sound server (lent disk.now map.now owner.now table.now selected.old held.old) session }
 {
-    let n = Lengths {
-        disk: disk.len(),
-        map: map.len(),
-        owner: owner.len(),
-        table: table.len(),
-        selected: selected.len(),
-        held: held.len(),
-    };
+    let n = Lengths::of(disk, map, owner, table, selected, held);
     let k = check::judge(server, sound, session, true, 258, n);
     calls::on_lose(k, server, selected, held)
 }
@@ -154,14 +133,7 @@ pub fn request(
     ensures { opened result out.new
         ≡ request_by sound server (lent disk.now map.now owner.now table.now selected.now held.now) out.old session }
 {
-    let n = Lengths {
-        disk: disk.len(),
-        map: map.len(),
-        owner: owner.len(),
-        table: table.len(),
-        selected: selected.len(),
-        held: held.len(),
-    };
+    let n = Lengths::of(disk, map, owner, table, selected, held);
     let k = check::judge(server, sound, session, true, out.len(), n);
     calls::on_request(k, server, disk, owner, table, selected, out)
 }

@@ -20,14 +20,13 @@ pub(crate) fn hear(held: &mut [u8], i: usize, count: usize, input: &[u8]) -> Fra
 }
 
 // The information length of a whole packet, 0 for none.
+#[tactic(auto, unfolding(crate::specs::Turns::size_in))]
 fn size_in(frame: Frame) -> usize
     ensures { result ≡ size_in frame }
 {
     match frame {
-        Frame::Open => 0,
-        Frame::TooLong => 0,
         Frame::Whole(_, size) => size,
-        Frame::Refused(_) => 0,
+        _ => 0,
     }
 }
 
@@ -36,9 +35,10 @@ fn used(sessions: usize, i: usize, s: Session) -> Session
     ensures { result ≡ used_of sessions i s }
 {
     if i < sessions {
-        return s;
+        s
+    } else {
+        session::state::closed()
     }
-    session::state::closed()
 }
 
 // The sessions in use: what one beyond them holds counts for nothing.
@@ -46,11 +46,8 @@ fn in_use(server: Server) -> [Session; 4]
     ensures { result ≡ in_use server }
 {
     let n = server.sessions;
-    let a = used(n, 0, server.links[0]);
-    let b = used(n, 1, server.links[1]);
-    let c = used(n, 2, server.links[2]);
-    let d = used(n, 3, server.links[3]);
-    [a, b, c, d]
+    let [a, b, c, d] = server.links;
+    [used(n, 0, a), used(n, 1, b), used(n, 2, c), used(n, 3, d)]
 }
 
 // The store's parts and the session's selection are handed to the act that is decided on.
@@ -112,11 +109,10 @@ pub(crate) fn with_turn(server: Server, i: usize, t: Turn) -> Server
     requires { i ≤ 3 }
     ensures { result ≡ with_turn server i t }
 {
-    let s = t.session;
-    let l = t.last;
-    let mut next = with_link(server, i, s);
-    next.last = l;
-    next
+    Server {
+        last: t.last,
+        ..with_link(server, i, t.session)
+    }
 }
 
 // Forgets a session's selection and its unfinished packet.

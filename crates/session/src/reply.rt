@@ -5,7 +5,7 @@ ghost use Rattle.session.specs.Reply.{sent_info, answered, told};
 
 use numbers::write32;
 
-// What a packet or a request is answered with.
+// What a packet or a request is answered with. The refusals are the numbers that go out in the packet.
 #[derive(Clone, Copy)]
 pub enum Reply {
     Nothing,
@@ -23,7 +23,7 @@ pub enum Reply {
 }
 
 // The answer of a call: how many bytes it took, and whether nothing is sent, a packet of so many bytes, or the link is closed; or
-// the number of a local refusal.
+// the number of a local refusal, which is what C is told.
 #[derive(Clone, Copy)]
 pub enum Answer {
     Quiet(usize),
@@ -37,7 +37,8 @@ fn send_info(kind: u8, info: &[u8], taken: usize, out: &mut [u8]) -> Answer
     requires { (kind ≤ 17) × (length info.now ≤ 256) × (258 ≤ length out.old) }
     ensures { told result out.new ≡ sent_info kind info.now taken out.old }
 {
-    packet::plain::write_packet(kind, info, out);
+    // neither refusal can occur: the type, the length and the room are as the writer wants them
+    let _ = packet::plain::write_packet(kind, info, out);
     Answer::Sent(taken, 2 + info.len())
 }
 
@@ -60,23 +61,27 @@ fn send_byte(kind: u8, number: u8, taken: usize, out: &mut [u8]) -> Answer
 }
 
 // UL_GO_RESP.
+#[tactic(auto, unfolding(numbers::specs::Numbers::stored_at))]
 fn send_go(number: u32, offset: u32, taken: usize, out: &mut [u8]) -> Answer
     requires { 258 ≤ length out.old }
     ensures { told result out.new ≡ sent_info 4 (four number ++ four offset) taken out.old }
 {
     let mut info = [0u8; 8];
-    write32(&mut info, 0, number);
-    write32(&mut info, 4, offset);
+    // not refused: the information has these bytes
+    let _ = write32(&mut info, 0, number);
+    let _ = write32(&mut info, 4, offset);
     send_info(4, &info, taken, out)
 }
 
 // LOGIN_RESP: the clock, and the flags: headers required, no saved selection, version 0.
+#[tactic(auto, unfolding(numbers::specs::Numbers::stored_at))]
 fn send_login(clock: u32, taken: usize, out: &mut [u8]) -> Answer
     requires { 258 ≤ length out.old }
     ensures { told result out.new ≡ sent_info 2 (four clock ++ 4 ∷ []) taken out.old }
 {
     let mut info = [4u8; 5];
-    write32(&mut info, 0, clock);
+    // not refused: the information has these bytes
+    let _ = write32(&mut info, 0, clock);
     send_info(2, &info, taken, out)
 }
 
@@ -90,6 +95,7 @@ fn send_selected(count: usize, taken: usize, out: &mut [u8]) -> Answer
 }
 
 // Sends a reply; 32 and nothing written where the output is shorter than 258 bytes.
+#[tactic(auto, unfolding(crate::specs::Reply::answered, crate::specs::Reply::tell))]
 pub fn send(reply: Reply, taken: usize, out: &mut [u8]) -> Answer
     ensures { told result out.new ≡ answered reply taken out.old }
 {

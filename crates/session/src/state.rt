@@ -19,6 +19,7 @@ pub enum Uplink {
 // moved past the last of them. No command moves that place before DATA_END goes out, so all of them are known until then.
 #[derive(Clone, Copy)]
 pub enum Listed {
+    // no `Option`: both have a place
     One(usize),
     Selected(usize),
 }
@@ -91,205 +92,107 @@ pub fn fresh() -> Session
 pub fn with_up(s: Session, up: Uplink) -> Session
     ensures { result ≡ with_up s up }
 {
-    let down = s.down;
-    Session {
-        linked: s.linked,
-        up: up,
-        down: down,
-        held: s.held,
-        count: s.count,
-        next: s.next,
-    }
+    Session { up, ..s }
 }
 
 pub fn with_down(s: Session, down: Downlink) -> Session
     ensures { result ≡ with_down s down }
 {
-    let up = s.up;
-    Session {
-        linked: s.linked,
-        up: up,
-        down: down,
-        held: s.held,
-        count: s.count,
-        next: s.next,
-    }
+    Session { down, ..s }
 }
 
 pub fn with_held(s: Session, held: usize) -> Session
     ensures { result ≡ with_held s held }
 {
-    let mut t = s;
-    t.held = held;
-    t
+    Session { held, ..s }
 }
 
 // A new selection, with its first file next.
 pub fn with_selection(s: Session, count: usize) -> Session
     ensures { result ≡ with_selection s count }
 {
-    let mut t = s;
-    t.count = count;
-    t.next = 0;
-    t
+    Session {
+        count,
+        next: 0,
+        ..s
+    }
 }
 
 pub fn with_next(s: Session, next: usize) -> Session
     ensures { result ≡ with_next s next }
 {
-    let mut t = s;
-    t.next = next;
-    t
+    Session { next, ..s }
 }
 
 // DATA and DATA_END are expected.
 fn takes_data(up: Uplink) -> bool
     ensures { result ≡ takes_data up }
 {
-    match up {
-        Uplink::Idle => false,
-        Uplink::Receiving {
-            place: _,
-            offset: _,
-            received: _,
-        } => true,
-        Uplink::Ignoring => true,
-    }
+    matches!(up, Uplink::Receiving { .. } | Uplink::Ignoring)
 }
 
 // UPLOAD_CMD is expected.
 fn takes_upload(up: Uplink) -> bool
     ensures { result ≡ takes_upload up }
 {
-    match up {
-        Uplink::Idle => true,
-        Uplink::Receiving {
-            place: _,
-            offset: _,
-            received: _,
-        } => false,
-        Uplink::Ignoring => false,
-    }
+    matches!(up, Uplink::Idle)
 }
 
 // A command that begins something on the downlink is expected.
 fn takes_command(down: Downlink) -> bool
     ensures { result ≡ takes_command down }
 {
-    match down {
-        Downlink::Idle => true,
-        Downlink::Sending {
-            place: _,
-            offset: _,
-            sent: _,
-        } => false,
-        Downlink::Ended { place: _ } => false,
-        Downlink::Aborting { place: _ } => false,
-        Downlink::Listing {
-            listed: _,
-            long: _,
-            done: _,
-            sent: _,
-        } => false,
-    }
+    matches!(down, Downlink::Idle)
 }
 
 // DL_ACK_CMD is expected.
 fn takes_ack(down: Downlink) -> bool
     ensures { result ≡ takes_ack down }
 {
-    match down {
-        Downlink::Idle => false,
-        Downlink::Sending {
-            place: _,
-            offset: _,
-            sent: _,
-        } => false,
-        Downlink::Ended { place: _ } => true,
-        Downlink::Aborting { place: _ } => false,
-        Downlink::Listing {
-            listed: _,
-            long: _,
-            done: _,
-            sent: _,
-        } => false,
-    }
+    matches!(down, Downlink::Ended { .. })
 }
 
 // DL_NAK_CMD is expected.
 fn takes_nak(down: Downlink) -> bool
     ensures { result ≡ takes_nak down }
 {
-    match down {
-        Downlink::Idle => true,
-        Downlink::Sending {
-            place: _,
-            offset: _,
-            sent: _,
-        } => true,
-        Downlink::Ended { place: _ } => true,
-        Downlink::Aborting { place: _ } => false,
-        Downlink::Listing {
-            listed: _,
-            long: _,
-            done: _,
-            sent: _,
-        } => true,
-    }
+    !matches!(down, Downlink::Aborting { .. })
 }
 
 // The packets of the uplink that are expected.
+#[tactic(auto, unfolding(crate::specs::Expected::expected_up))]
 fn expected_up(up: Uplink, kind: u8, size: usize) -> bool
     ensures { result ≡ expected_up up kind size }
 {
-    if kind == 0 {
-        return takes_data(up);
+    match kind {
+        0 => takes_data(up),
+        1 => size == 0 && takes_data(up),
+        3 => takes_upload(up),
+        _ => false,
     }
-    if kind == 1 {
-        if size == 0 {
-            return takes_data(up);
-        }
-        return false;
-    }
-    if kind == 3 {
-        return takes_upload(up);
-    }
-    false
 }
 
 // The packets of the downlink that are expected.
+#[tactic(auto, unfolding(crate::specs::Expected::expected_down))]
 fn expected_down(down: Downlink, kind: u8, size: usize) -> bool
     ensures { result ≡ expected_down down kind size }
 {
-    if kind == 8 {
-        return takes_command(down);
+    match kind {
+        8 | 14..=16 => takes_command(down),
+        12 => takes_ack(down),
+        13 => size == 0 && takes_nak(down),
+        _ => false,
     }
-    if kind == 12 {
-        return takes_ack(down);
-    }
-    if kind == 13 {
-        if size == 0 {
-            return takes_nak(down);
-        }
-        return false;
-    }
-    if kind < 14 {
-        return false;
-    }
-    if 16 < kind {
-        return false;
-    }
-    takes_command(down)
 }
 
 // A packet of this type and information length is expected in the session's state.
+#[tactic(auto, unfolding(crate::specs::Expected::expected))]
 pub fn expects(s: Session, kind: u8, size: usize) -> bool
     ensures { result ≡ expected s.up s.down kind size }
 {
-    let up = s.up;
-    let down = s.down;
     if kind < 8 {
-        return expected_up(up, kind, size);
+        expected_up(s.up, kind, size)
+    } else {
+        expected_down(s.down, kind, size)
     }
-    expected_down(down, kind, size)
 }

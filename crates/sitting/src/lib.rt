@@ -15,7 +15,7 @@ use marking::Kind;
 use std::io::{Stdin, Stdout};
 use turn::Sitting;
 
-// Turns, until the run is over. Nothing says that the input ends, so they are counted down from a number that no run uses up.
+// Turns, until the run is over. Nothing says that the input ends, so they are counted up to a number that no run reaches.
 fn play(
     stdin: Stdin,
     stdout: Stdout,
@@ -39,12 +39,13 @@ fn play(
         input.new bytes.new text.new)) }
 {
     let mut sitting = start;
-    let mut turns = u64::MAX;
-    while 0 < turns {
+    for passed in 0..u64::MAX {
         sitting = turn::turn(
             stdin, stdout, sitting, disk, map, owner, table, selected, held, input, bytes, text,
         );
-        turns = turn::turns_left(sitting, turns);
+        if turn::is_over(sitting) {
+            return sitting;
+        }
     }
     sitting
 }

@@ -95,7 +95,7 @@ pub(crate) fn new_sitting(kind: Kind, server: Server) -> Sitting
     }
 }
 
-fn is_over(sitting: Sitting) -> bool
+pub(crate) fn is_over(sitting: Sitting) -> bool
     ensures { result ≡ over_of sitting.stage }
 {
     let stage = sitting.stage;
@@ -105,19 +105,6 @@ fn is_over(sitting: Sitting) -> bool
         Stage::Done => true,
         Stage::Broken => true,
     }
-}
-
-// How many turns are left after a turn: none where it is over, and else one less.
-pub(crate) fn turns_left(sitting: Sitting, turns: u64) -> u64
-    ensures { result ≡ (if over_of sitting.stage then 0 else turns - 1) }
-{
-    if is_over(sitting) {
-        return 0;
-    }
-    if 0 < turns {
-        return turns - 1;
-    }
-    0
 }
 
 fn with_stage(sitting: Sitting, stage: Stage) -> Sitting

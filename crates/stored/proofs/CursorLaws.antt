@@ -11,7 +11,7 @@ use lib.Seq.{length-take-le, get_or-take, get_or-drop, drop-drop}
 use borrow.Author.Tests.{eq-eqb, ne_eqb}
 use Rattle.numbers.specs.Numbers.{number}
 use Rattle.blocks.specs.Owners.{blocks, nth, next_of}
-use Rattle.blocks.specs.Contents.{held, contents}
+use Rattle.blocks.specs.Contents.{held}
 use Rattle.blocks.proofs.Owners.{nth_in, nth_next, nth_zero}
 use Rattle.blocks.proofs.Held.{length_held, held_get}
 use Rattle.header.specs.Items.{Field, head_of, walk, marked, fields_of}

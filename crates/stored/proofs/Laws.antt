@@ -19,8 +19,7 @@ use Rattle.header.proofs.Set.{Reads, verdict_parts, set_length, set_verdict, set
 use Rattle.equation.specs.Marks.{settled_by}
 use Rattle.equation.specs.Answer.{answer_of}
 use Rattle.equation.specs.Parsed.{relations_by, outcome_by, steps_of}
-use Rattle.equation.specs.declared.evaluation.Truth.{Truth}
-use Rattle.equation.specs.declared.evaluation.Truth.TheVariants.{Refused}
+use Rattle.std.proofs.Common.{Result, Err}
 use Rattle.equation.proofs.Depth.{at_most_64}
 use Rattle.equation.proofs.Runs.{answer_by_law}
 use Rattle.stored.specs.Answers.{file_at, sizes_fit, check_at, header_at, truth_at, truth_by, set_number, set_disk}
@@ -140,11 +139,11 @@ unfolding truth_by truth_at
 truth_by_law eq disk owner place received = go (leb (length eq) 256) refl
   where
     go : (t : Bool) → leb (length eq) 256 ≡ t
-        → cond t (cond (sizes_fit disk owner place) (outcome_by (steps_of eq) (settled_by (fields_of (file_at disk owner place received)) (relations_by eq (steps_of eq)) (replicate 64 0))) (Refused 33)) (Refused 33)
-        ≡ cond t (cond (sizes_fit disk owner place) (answer_of eq (file_at disk owner place received)) (Refused 33)) (Refused 33)
+        → cond t (cond (sizes_fit disk owner place) (outcome_by (steps_of eq) (settled_by (fields_of (file_at disk owner place received)) (relations_by eq (steps_of eq)) (replicate 64 0))) (Err 33)) (Err 33)
+        ≡ cond t (cond (sizes_fit disk owner place) (answer_of eq (file_at disk owner place received)) (Err 33)) (Err 33)
     go true e =
         let h = leb-true (length eq) 256 e in
-        ap (λ (a : Truth). cond (sizes_fit disk owner place) a (Refused 33)) (answer_by_law eq (omega arith) (fields_of (file_at disk owner place received)) 64 (at_most_64 eq h))
+        ap (λ (a : Result Bool ℕ). cond (sizes_fit disk owner place) a (Err 33)) (answer_by_law eq (omega arith) (fields_of (file_at disk owner place received)) 64 (at_most_64 eq h))
     go false e = refl
 
 -- ---- the answers depend on the contents alone

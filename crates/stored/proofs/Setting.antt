@@ -2,6 +2,7 @@
 use mathlib.Core.Path.{◌≡◌, refl, sym, ap, ◌∙◌, subst}
 use mathlib.Core.Bool.{true, false}
 use mathlib.Core.List.{List}
+use Rattle.std.proofs.Common.{Ok, Err}
 use Prim.Native.Nat.{ℕ, suc, ◌+◌, ◌*◌, ◌≤◌, ◌<◌}
 use native.Mathlib.Omega.{arith}
 use lib.ListN.{length, take}
@@ -11,14 +12,14 @@ use Rattle.blocks.specs.Owners.{blocks}
 use Rattle.blocks.specs.Contents.{stored}
 use Rattle.blocks.specs.Answers.{write_disk}
 use Rattle.blocks.proofs.Answers.{disk_fits_law}
-use Rattle.header.specs.Header.{check_items, header_of}
+use Rattle.header.specs.Header.{check_items, header_sum, header_of}
 use Rattle.header.specs.Items.{Field}
 use Rattle.header.specs.Fields.{server_set, with_fields, fields_set, row_at}
 use Rattle.header.specs.Fields as header
 use Rattle.header.specs.declared.fields.FieldRow.{FieldRow}
 use Rattle.header.specs.declared.scan.Header.{Header}
 use Rattle.header.proofs.Written.{Bytes}
-use Rattle.header.proofs.Set.{stored_rows, with_length, set_length, next_row, row_size, rows_done, sum_inside, sum_step, header_refusal, header_passed}
+use Rattle.header.proofs.Set.{stored_rows, with_length, set_length, next_row, row_size, rows_done, sum_inside, sum_step, still_accepted, header_refused, header_accepted, header_read}
 use Rattle.stored.specs.Answers.{file_at, sizes_fit, set_number, set_disk}
 use Rattle.stored.specs.Settable.{Settable}
 use Rattle.stored.proofs.Feeding.{bytes_contents}
@@ -88,22 +89,28 @@ module _ (disk owner : List ℕ) (place received at : ℕ) (s : Settable disk ow
         (rows_done number time at file in_header_law file_bytes k (stored_rows (take k rows) file file) refl z) c)
         with_rows
 
+    -- the items are not refused then either
+    pub items_still : (d : List ℕ) → d ≡ stored (place + 1) owner disk 0 (with_fields rows file) → check_items (file_at d owner place received) ≡ 0
+    items_still d e =
+        let c = subst (λ (x : List ℕ). Changed disk owner x (place + 1) received (with_fields rows file)) (sym e) with_rows in
+        ap check_items c.own ∙ still_accepted number time file (with_fields rows file) file_bytes s.items refl
+
     -- then the header's sum leaves the disk with the file stored anew
-    pub sum_written : (d₁ d₂ : List ℕ) (k : Header)
+    pub sum_written : (d₁ d₂ : List ℕ) (k : ℕ)
         → d₁ ≡ stored (place + 1) owner disk 0 (with_fields rows file)
-        → k ≡ header_of 10 (file_at d₁ owner place received)
-        → d₂ ≡ write_disk d₁ owner place 63 (two k.sum)
+        → k ≡ header_sum (file_at d₁ owner place received)
+        → d₂ ≡ write_disk d₁ owner place 63 (two k)
         → d₂ ≡ stored (place + 1) owner disk 0 (fields_set number time file)
     sum_written d₁ d₂ k e h w =
         let c₁ = subst (λ (x : List ℕ). Changed disk owner x (place + 1) received (with_fields rows file)) (sym e) with_rows in
         let i = sum_inside file file_bytes s.items in
         let l = size in
-        let c₂ = changed_write disk owner place received s.sizes bytes s.room d₁ (with_fields rows file) 63 (two k.sum) c₁ (omega arith) in
-        let r = sum_step number time 10 file (with_fields rows file) (stored_at (with_fields rows file) 63 (two k.sum)) k file_bytes s.items refl
-        (h ∙ ap (header_of 10) c₁.own) refl in
-        w ∙ changed_one disk owner (write_disk d₁ owner place 63 (two k.sum)) (stored (place + 1) owner disk 0 (fields_set number time file)) (place + 1) received
+        let c₂ = changed_write disk owner place received s.sizes bytes s.room d₁ (with_fields rows file) 63 (two k) c₁ (omega arith) in
+        let r = sum_step number time file (with_fields rows file) (stored_at (with_fields rows file) 63 (two k)) k file_bytes s.items refl
+        (h ∙ ap header_sum c₁.own) refl in
+        w ∙ changed_one disk owner (write_disk d₁ owner place 63 (two k)) (stored (place + 1) owner disk 0 (fields_set number time file)) (place + 1) received
         (fields_set number time file) bytes
-        (subst (λ (x : List ℕ). Changed disk owner (write_disk d₁ owner place 63 (two k.sum)) (place + 1) received x) r c₂)
+        (subst (λ (x : List ℕ). Changed disk owner (write_disk d₁ owner place 63 (two k)) (place + 1) received x) r c₂)
         (stored_changed disk owner (place + 1) received (fields_set number time file) bytes (set_length number time file ∙ size) s.room)
 
 -- ---- the answers
@@ -124,20 +131,20 @@ module _ (disk owner : List ℕ) (place received number time : ℕ) where
         → (35 ≡ set_number disk owner place received) × (disk ≡ set_disk disk owner place received number time)
     refused_length h = refused 35 (unfold set_number in rw (e, lt-leb received (256 * blocks (place + 1) owner) h)) (λ z. omega arith)
 
-    module _ (h : received ≤ 256 * blocks (place + 1) owner) (w : Header) (g : w ≡ header_of 18 (file_at disk owner place received)) where
-      refusal : w.refusal ≡ set_number disk owner place received
+    module _ (h : received ≤ 256 * blocks (place + 1) owner) where
+      number_items : set_number disk owner place received ≡ check_items (file_at disk owner place received)
       unfolding set_number
-      refusal =
-          rw (e, le-leb received (256 * blocks (place + 1) owner) h)
-          (ap (λ (x : Header). x.refusal) g ∙ header_refusal 18 (file_at disk owner place received))
+      number_items = rw (e, le-leb received (256 * blocks (place + 1) owner) h)
 
-      pub refused_items : (w.refusal ≡ 0 → ⊥)
-          → (w.refusal ≡ set_number disk owner place received) × (disk ≡ set_disk disk owner place received number time)
-      refused_items n = refused w.refusal refusal n
+      pub refused_items : (n : ℕ) → 0 < n
+          → Err n ≡ header_of 18 (file_at disk owner place received)
+          → (n ≡ set_number disk owner place received) × (disk ≡ set_disk disk owner place received number time)
+      refused_items n p g =
+          refused n (header_refused 18 n (file_at disk owner place received) g ∙ sym number_items) (λ z. omega arith)
 
-      module _ (z : w.refusal ≡ 0) where
+      module _ (w : Header) (g : Ok w ≡ header_of 18 (file_at disk owner place received)) where
         items : check_items (file_at disk owner place received) ≡ 0
-        items = sym (header_refusal 18 (file_at disk owner place received)) ∙ ap (λ (x : Header). x.refusal) (sym g) ∙ z
+        items = header_accepted 18 (file_at disk owner place received) w g
 
         pub settable : Settable disk owner place received w.place.at
         settable =
@@ -145,11 +152,11 @@ module _ (disk owner : List ℕ) (place received number time : ℕ) where
               sizes = e;
               room = h;
               items = items;
-              upload = ap (λ (x : Header). x.place.at) (g ∙ header_passed 18 (file_at disk owner place received) items);
+              upload = ap (λ (x : Header). x.place.at) (header_read 18 (file_at disk owner place received) w g);
             }
 
         pub fields_done : (d : List ℕ) → d ≡ stored (place + 1) owner disk 0 (fields_set number time (file_at disk owner place received))
             → (0 ≡ set_number disk owner place received) × (d ≡ set_disk disk owner place received number time)
         unfolding set_disk
         fields_done d q =
-            (sym z ∙ refusal, rw (eq-eqb (set_number disk owner place received) 0 (sym refusal ∙ z)) q)
+            (sym items ∙ sym number_items, rw (eq-eqb (set_number disk owner place received) 0 (number_items ∙ items)) q)

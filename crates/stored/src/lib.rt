@@ -5,12 +5,13 @@
 #![tactic(auto)]
 
 ghost use Rattle.std.specs.Prelude.{◌≡◌, ◌+◌, ◌*◌, ◌/◌, ◌≤◌, ◌<◌, length, get_or, take, drop};
+ghost use Rattle.refusal.specs.Refusal.{number_of, numbered};
 ghost use Rattle.numbers.specs.Numbers.{two};
 ghost use Rattle.blocks.specs.Owners.{nth};
 ghost use Rattle.blocks.specs.Contents.{stored};
 ghost use Rattle.blocks.specs.Answers.{disk_fits, write_disk};
 ghost use Rattle.header.specs.Items.{head_of, walk, fields_of};
-ghost use Rattle.header.specs.Header.{header_of, refused_with};
+ghost use Rattle.header.specs.Header.{check_items, header_sum, header_of};
 ghost use Rattle.header.specs.Fields.{server_set, with_fields, fields_set};
 ghost use Rattle.header.specs.Scan.{start_of, scan_from, header_from};
 ghost use Rattle.equation.specs.Marks.{settled, settled_by};
@@ -20,36 +21,18 @@ ghost use Rattle.stored.specs.Settable.{Settable};
 ghost use Rattle.stored.specs.Settled.{settle_number, settled_at};
 ghost use Rattle.stored.specs.Cursor.{Lies, Stands};
 
-use equation::evaluation::{Truth, outcome, settle};
+use equation::evaluation::{outcome, settle};
 use header::fields::FieldRow;
 use header::items::Head;
 use header::scan::{Header, Scan};
 use header::{fields, scan};
+use refusal::Refusal;
 
 // Whether the sizes are in the table, the disk has the blocks, and the file place is one.
 fn sizes_fit(size: usize, n: usize, place: u16) -> bool
     ensures { result ≡ disk_fits size n place }
 {
-    if n < 1 {
-        return false;
-    }
-    if 4096 < n {
-        return false;
-    }
-    if size < 256 * n {
-        return false;
-    }
-    place < 256
-}
-
-// The lesser of two numbers.
-fn least(a: usize, b: usize) -> usize
-    ensures { (result ≤ a) × (result ≤ b) × (result < b → result ≡ a) }
-{
-    if a < b {
-        return a;
-    }
-    b
+    1 <= n && n <= 4096 && 256 * n <= size && place < 256
 }
 
 // ---- scanning
@@ -62,8 +45,9 @@ fn scan_file(disk: &[u8], owner: &[u16], place: u16, received: usize, want: u16)
     let mut s = scan::start(want);
     let mut left = received;
     let mut b = blocks::next_block(owner, place, 0);
+    // a `while`: each turn goes on at the file's next block, which is searched for among the owners
     while b < owner.len() {
-        let n = least(left, 256);
+        let n = left.min(256);
         let from = 256 * b;
         let to = from + n;
         s = scan::feed(s, &disk[from..to]);
@@ -81,11 +65,12 @@ fn scan_header(disk: &[u8], owner: &[u16], place: u16, received: usize, want: u1
     let mut s = scan::start(want);
     let mut left = received;
     let mut b = blocks::next_block(owner, place, 0);
+    // a `while`: each turn goes on at the file's next block, which is searched for among the owners
     while b < owner.len() {
         if scan::ended(s) {
             return s;
         }
-        let n = least(left, 256);
+        let n = left.min(256);
         let from = 256 * b;
         let to = from + n;
         s = scan::feed_header(s, &disk[from..to]);
@@ -95,72 +80,82 @@ fn scan_header(disk: &[u8], owner: &[u16], place: u16, received: usize, want: u1
     s
 }
 
-// The checks of DATA_END on the file at a place, announced as so many bytes: 0, or the number of the refusal. One pass.
-pub fn check(disk: &[u8], owner: &[u16], place: u16, received: usize, announced: u32) -> u8
-    ensures { result ≡ check_at disk.now owner.now place received announced }
+// The checks of DATA_END on the file at a place, announced as so many bytes. One pass.
+#[tactic(auto, unfolding(crate::specs::Answers::check_at))]
+pub fn check(
+    disk: &[u8],
+    owner: &[u16],
+    place: u16,
+    received: usize,
+    announced: u32,
+) -> Result<(), Refusal>
+    ensures { number_of result ≡ check_at disk.now owner.now place received announced }
 {
-    if sizes_fit(disk.len(), owner.len(), place) {
-        let n = least(received, 256 * blocks::block_count(owner, place));
-        let s = scan_file(disk, owner, place, n, 18);
-        return scan::verdict_of(s, n, announced);
+    if !sizes_fit(disk.len(), owner.len(), place) {
+        return Err(Refusal::BadSize);
     }
-    33
+    let n = received.min(256 * blocks::block_count(owner, place));
+    let s = scan_file(disk, owner, place, n, 18);
+    scan::verdict_of(s, n, announced)
 }
 
 // What the header of a file says, of sizes that fit.
-fn header_at(disk: &[u8], owner: &[u16], place: u16, received: usize, want: u16) -> Header
+fn header_at(
+    disk: &[u8],
+    owner: &[u16],
+    place: u16,
+    received: usize,
+    want: u16,
+) -> Result<Header, Refusal>
     requires { (length owner.now ≤ 4096) × (256 * length owner.now ≤ length disk.now) × (place < 256) }
-    ensures { result ≡ header_of want (file_at disk.now owner.now place received) }
+    ensures { numbered result ≡ header_of want (file_at disk.now owner.now place received) }
 {
     scan::header_of(scan_header(disk, owner, place, received, want))
 }
 
 // What the header of the file at a place says, with the place of the first item with an id. Only the header's bytes are looked at.
-pub fn read_header(disk: &[u8], owner: &[u16], place: u16, received: usize, want: u16) -> Header
-    ensures { result ≡ header_at disk.now owner.now place received want }
+#[tactic(auto, using(blocks::proofs::Answers::disk_fits_law), unfolding(crate::specs::Answers::header_at))]
+pub fn read_header(
+    disk: &[u8],
+    owner: &[u16],
+    place: u16,
+    received: usize,
+    want: u16,
+) -> Result<Header, Refusal>
+    ensures { numbered result ≡ header_at disk.now owner.now place received want }
 {
-    if sizes_fit(disk.len(), owner.len(), place) {
-        return header_at(disk, owner, place, received, want);
+    if !sizes_fit(disk.len(), owner.len(), place) {
+        return Err(Refusal::BadSize);
     }
-    refused_with(33)
+    header_at(disk, owner, place, received, want)
 }
 
-// A header of which nothing is known but the refusal.
-fn refused_with(n: u8) -> Header
-    ensures { result ≡ refused_with n }
+// The sum of the header of a file whose items are not refused.
+fn sum_at(disk: &[u8], owner: &[u16], place: u16, received: usize) -> u16
+    requires { (length owner.now ≤ 4096) × (256 * length owner.now ≤ length disk.now) × (place < 256) × (check_items (file_at disk.now owner.now place received) ≡ 0) }
+    ensures { result ≡ header_sum (file_at disk.now owner.now place received) }
 {
-    let place = scan::Place {
-        found: false,
-        at: 0,
-        size: 0,
-    };
-    Header {
-        refusal: n,
-        size: 0,
-        sum: 0,
-        destinations: 0,
-        place: place,
-    }
+    scan::header_sum(scan_header(disk, owner, place, received, 10))
 }
 
 // ---- setting the server's fields
 
-// Writes a row of the fields at its place in a file, across the border of two blocks too.
+// Writes a row of the fields at its place in a file, across the border of two blocks too. Where its blocks lack the bytes nothing is written,
+// and the contract says so; so the refusal says nothing more, here and at the sum.
 fn write_row(disk: &mut [u8], owner: &[u16], place: u16, row: FieldRow)
     requires { row.size ≤ length row.bytes }
     ensures { disk.new ≡ write_disk disk.old owner.now place row.at (take row.size row.bytes) }
 {
-    let bytes = row.bytes;
-    let size = row.size;
-    blocks::write(disk, owner, place, row.at, &bytes[0..size]);
+    // where the place has no such bytes, nothing is written
+    let _ = blocks::write(disk, owner, place, row.at, &row.bytes[..row.size]);
 }
 
 // Writes a 16-bit number.
 fn write_sum(disk: &mut [u8], owner: &[u16], place: u16, at: usize, n: u16)
     ensures { disk.new ≡ write_disk disk.old owner.now place at (two n) }
 {
-    let bytes = [(n % 256) as u8, (n / 256 % 256) as u8];
-    blocks::write(disk, owner, place, at, &bytes);
+    // where the place has no such bytes, nothing is written
+    let _ = blocks::write(disk, owner, place, at, &n.to_le_bytes());
 }
 
 // Writes the rows of the fields, one by one, in a file whose items are not refused and whose upload_time is at byte `at`.
@@ -176,10 +171,8 @@ fn write_rows(
     requires { Settable disk.old owner.now place received at }
     ensures { disk.new ≡ stored (place + 1) owner.now disk.old 0 (with_fields (server_set number time) (file_at disk.old owner.now place received)) }
 {
-    let mut k = 0;
-    while k < fields::ROWS {
+    for k in 0..fields::ROWS {
         write_row(disk, owner, place, fields::row_at(k, number, time, at));
-        k += 1;
     }
 }
 
@@ -197,11 +190,12 @@ fn write_fields(
     ensures { disk.new ≡ stored (place + 1) owner.now disk.old 0 (fields_set number time (file_at disk.old owner.now place received)) }
 {
     write_rows(disk, owner, place, received, at, number, time);
-    let sum = header_at(disk, owner, place, received, 10).sum;
+    let sum = sum_at(disk, owner, place, received);
     write_sum(disk, owner, place, 63, sum);
 }
 
-// Sets file_number, file_name, last_modified_time, upload_time and header_checksum of the file at a place: 0; or a refusal, and nothing written.
+// Sets file_number, file_name, last_modified_time, upload_time and header_checksum of the file at a place; or a refusal, and nothing written.
+#[tactic(auto, using(blocks::proofs::Answers::disk_fits_law, crate::proofs::Setting::refused_sizes, crate::proofs::Setting::refused_length))]
 pub fn set_fields(
     disk: &mut [u8],
     owner: &[u16],
@@ -209,23 +203,19 @@ pub fn set_fields(
     received: usize,
     number: u32,
     time: u32,
-) -> u8
-    ensures value { result ≡ set_number disk.old owner.now place received }
+) -> Result<(), Refusal>
+    ensures value { number_of result ≡ set_number disk.old owner.now place received }
     ensures disk_after { disk.new ≡ set_disk disk.old owner.now place received number time }
 {
-    if sizes_fit(disk.len(), owner.len(), place) {
-        if 256 * blocks::block_count(owner, place) < received {
-            return 35;
-        }
-        let header = header_at(disk, owner, place, received, 18);
-        if header.refusal == 0 {
-            let at = header.place.at;
-            write_fields(disk, owner, place, received, at, number, time);
-            return 0;
-        }
-        return header.refusal;
+    if !sizes_fit(disk.len(), owner.len(), place) {
+        return Err(Refusal::BadSize);
     }
-    33
+    if 256 * blocks::block_count(owner, place) < received {
+        return Err(Refusal::Unsound);
+    }
+    let header = header_at(disk, owner, place, received, 18)?;
+    write_fields(disk, owner, place, received, header.place.at, number, time);
+    Ok(())
 }
 
 // ---- the items of a header, one by one, through a cursor over the file's blocks
@@ -243,16 +233,12 @@ fn moved(owner: &[u16], place: u16, cursor: Cursor, at: usize) -> Cursor
     requires { (length owner.now ≤ 4096) × Stands owner.now place cursor.index cursor.block at }
     ensures { (result.index ≡ at / 256) × (result.block ≡ nth (place + 1) owner.now (at / 256)) }
 {
-    let mut index = cursor.index;
+    let index = at / 256;
     let mut block = cursor.block;
-    while index < at / 256 {
+    for _passed in cursor.index..index {
         block = blocks::next_block(owner, place, block + 1);
-        index += 1;
     }
-    Cursor {
-        index: index,
-        block: block,
-    }
+    Cursor { index, block }
 }
 
 // Byte `at` of the file of n bytes.
@@ -305,11 +291,9 @@ fn fetch(
     ensures { out.new ≡ take (length out.old) (drop at (file_at disk.now owner.now place n)) }
 {
     let mut here = cursor;
-    let mut i = 0;
-    while i < out.len() {
+    for (i, b) in out.iter_mut().enumerate() {
         here = moved(owner, place, here, at + i);
-        out[i] = byte_at(disk, owner, place, n, here, at + i);
-        i += 1;
+        *b = byte_at(disk, owner, place, n, here, at + i);
     }
 }
 
@@ -383,6 +367,7 @@ fn settle_items(
 {
     let mut here = cursor;
     let mut at: usize = 0;
+    // a `loop`: each turn goes on behind the item that it read, and a `for` would need a bound that the items do not have
     loop {
         let h = head_at(disk, owner, place, n, here, 2 + at);
         match h {
@@ -446,7 +431,7 @@ fn settle_file(
     requires { (length owner.now ≤ 4096) × (256 * length owner.now ≤ length disk.now) × (place < 256) }
     ensures { truths.new ≡ settled_by (fields_of (file_at disk.now owner.now place received)) (relations_by eq.now steps.now) truths.old }
 {
-    let n = least(received, 256 * blocks::block_count(owner, place));
+    let n = received.min(256 * blocks::block_count(owner, place));
     let first = Cursor {
         index: 0,
         block: blocks::next_block(owner, place, 0),
@@ -464,22 +449,23 @@ pub fn truth(
     owner: &[u16],
     place: u16,
     received: usize,
-) -> Truth
-    ensures { result ≡ truth_by eq.now steps.now disk.now owner.now place received }
+) -> Result<bool, Refusal>
+    ensures { numbered result ≡ truth_by eq.now steps.now disk.now owner.now place received }
 {
     if 256 < eq.len() {
-        return Truth::Refused(33);
+        return Err(Refusal::BadSize);
     }
     if sizes_fit(disk.len(), owner.len(), place) {
         let mut truths = [0u8; 64];
         settle_file(eq, steps, disk, owner, place, received, &mut truths);
         return outcome(steps, &truths);
     }
-    Truth::Refused(33)
+    Err(Refusal::BadSize)
 }
 
-// Settles the marks of the equation's relations by the header of the file at a place, which is read once: 0. Where the sizes are outside the
+// Settles the marks of the equation's relations by the header of the file at a place, which is read once. Where the sizes are outside the
 // table the marks stay.
+#[tactic(auto, using(blocks::proofs::Answers::disk_fits_law), unfolding(crate::specs::Settled::settle_number, crate::specs::Settled::settled_at))]
 pub fn settle_at(
     eq: &[u8],
     steps: &[u16],
@@ -488,13 +474,13 @@ pub fn settle_at(
     place: u16,
     received: usize,
     truths: &mut [u8],
-) -> u8
-    ensures value { result ≡ settle_number disk.now owner.now place }
+) -> Result<(), Refusal>
+    ensures value { number_of result ≡ settle_number disk.now owner.now place }
     ensures truths_after { truths.new ≡ settled_at eq.now steps.now disk.now owner.now place received truths.old }
 {
-    if sizes_fit(disk.len(), owner.len(), place) {
-        settle_file(eq, steps, disk, owner, place, received, truths);
-        return 0;
+    if !sizes_fit(disk.len(), owner.len(), place) {
+        return Err(Refusal::BadSize);
     }
-    33
+    settle_file(eq, steps, disk, owner, place, received, truths);
+    Ok(())
 }

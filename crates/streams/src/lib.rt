@@ -24,6 +24,7 @@ pub fn write_all<W: Write>(writer: &mut W, text: &[u8]) -> bool
     ensures { Writes (W.contents writer.old) (W.contents writer.new) text.now result }
 {
     let mut done = 0;
+    // a `while`: each turn goes on behind the bytes that the write took
     while done < text.len() {
         match writer.write(&text[done..]) {
             Ok(0) => return false,

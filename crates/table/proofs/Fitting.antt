@@ -202,14 +202,20 @@ module _ (v : ℕ) (xs : List ℕ) (p : ℕ) where
   unfolding among
   among_end h = rw (drop_of_length-le xs h)
 
--- a value was found before, or is found now
-pub or_found : (b x : Bool) → cond b true (cond true true x) ≡ true
-or_found true x = refl
-or_found false x = refl
-
 pub or_none : (b : Bool) → cond b true false ≡ b
 or_none true = refl
 or_none false = refl
+
+-- a value was found before, or is found now, or stands among the rest
+pub among_more : (v : ℕ) (xs : List ℕ) (p : ℕ) (all found found' t : Bool) → p < length xs → (v ≡ 0 → ⊥) → eqb v (get_or xs p 0) ≡ t
+    → found' ≡ cond t true found → all ≡ cond found true (among v (drop p xs)) → all ≡ cond found' true (among v (drop (p + 1) xs))
+among_more v xs p all found found' t h n e f i =
+    i ∙ ap (λ (x : Bool). cond found true x) (among_next v xs p t h n e) ∙ go t found (among v (drop (p + 1) xs)) ∙ ap (λ (x : Bool). cond x true (among v (drop (p + 1) xs))) (sym f)
+  where
+    go : (t b x : Bool) → cond b true (cond t true x) ≡ cond (cond t true b) true x
+    go true true x = refl
+    go true false x = refl
+    go false b x = refl
 
 module _ (xs : List ℕ) (p : ℕ) where
   pub apart_next : (t : Bool) → p < length xs → among (get_or xs p 0) (drop (p + 1) xs) ≡ t → apart (drop p xs) ≡ cond t false (apart (drop (p + 1) xs))

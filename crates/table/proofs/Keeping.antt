@@ -11,7 +11,7 @@ use borrow.Author.Tests.{eqb-false, ne_eqb, ltb-true, ltb-false}
 use Rattle.table.specs.declared.File.{File}
 use Rattle.table.specs.declared.Key.{Key}
 use Rattle.table.specs.declared.Key.TheVariants.{Number, Time}
-use Rattle.table.specs.Table.{no_file, file_at, uploaded, key_of, keys, numbers, times}
+use Rattle.table.specs.Table.{no_file, file_at, uploaded, key_of, keys, numbers}
 use Rattle.table.specs.Given.{blocks_for}
 use Rattle.table.specs.Order.{in_order}
 use Rattle.table.specs.Fit.{FileFits, Fits, Distinct, Sound}

@@ -10,8 +10,7 @@ use lib.Seq.{drop-cons, get_or-set_same, get_or-set_other}
 use lib.Dec.{eqb, ltb}
 use borrow.Author.Tests.{eqb-true, eqb-false, eq-eqb, ne_eqb, ltb-true, ltb-false, lt-ltb, le-ltb}
 use Rattle.table.specs.declared.File.{File}
-use Rattle.table.specs.declared.Found.{Found}
-use Rattle.table.specs.declared.Found.TheVariants.{Nothing, At}
+use Rattle.std.proofs.Common.{Option, Some, None}
 use Rattle.table.specs.declared.Key.TheVariants.{Time}
 use Rattle.table.specs.Table.{no_file, file_at, uploaded, times, first_with}
 use Rattle.table.specs.Order.{lesser, least_above, next_above, next_complete, and_then, places_above, in_order, Rising}
@@ -111,7 +110,7 @@ least_is after (t ∷ ts) = least_more after t ts (least_above after ts) (least_
 
 -- ---- the next place
 
-pub next_zero : (after : ℕ) (ts : List ℕ) → least_above after ts ≡ 0 → Nothing ≡ next_above after ts
+pub next_zero : (after : ℕ) (ts : List ℕ) → least_above after ts ≡ 0 → None ≡ next_above after ts
 unfolding next_above
 next_zero after ts e = rw (eq-eqb (least_above after ts) 0 e)
 
@@ -126,14 +125,14 @@ pub record NextIs (after : ℕ) (ts : List ℕ) (p : ℕ) : Type 0 where
   pub lowest : (q : ℕ) → q < p → get_or ts q 0 ≡ get_or ts p 0 → ⊥
 
 module _ (after : ℕ) (ts : List ℕ) where
-  pub next_found : (p : ℕ) → next_above after ts ≡ At p → NextIs after ts p
+  pub next_found : (p : ℕ) → next_above after ts ≡ Some p → NextIs after ts p
   unfolding next_above
   next_found p e = go (eqb (least_above after ts) 0) refl e
     where
       i : Least after ts (least_above after ts)
       i = least_is after ts
 
-      go : (x : Bool) → eqb (least_above after ts) 0 ≡ x → cond x Nothing (first_with (least_above after ts) ts) ≡ At p → NextIs after ts p
+      go : (x : Bool) → eqb (least_above after ts) 0 ≡ x → cond x None (first_with (least_above after ts) ts) ≡ Some p → NextIs after ts p
       go true x e = absurd (let z : ◌≡◌ {A = ℕ} 0 1 = cc in omega arith)
       go false x e =
           let l = first_found (least_above after ts) ts p e in
@@ -143,14 +142,14 @@ module _ (after : ℕ) (ts : List ℕ) where
             lowest = λ q h s. l.none q h (s ∙ l.has);
           }
 
-  pub next_none : next_above after ts ≡ Nothing → (p : ℕ) → get_or ts p 0 ≤ after
+  pub next_none : next_above after ts ≡ None → (p : ℕ) → get_or ts p 0 ≤ after
   unfolding next_above
   next_none e = go (eqb (least_above after ts) 0) refl e
     where
       i : Least after ts (least_above after ts)
       i = least_is after ts
 
-      go : (x : Bool) → eqb (least_above after ts) 0 ≡ x → cond x Nothing (first_with (least_above after ts) ts) ≡ Nothing
+      go : (x : Bool) → eqb (least_above after ts) 0 ≡ x → cond x None (first_with (least_above after ts) ts) ≡ None
           → (p : ℕ) → get_or ts p 0 ≤ after
       go true x e p = i.none (eqb-true (least_above after ts) 0 x) p
       go false x e p =
@@ -158,7 +157,7 @@ module _ (after : ℕ) (ts : List ℕ) where
           let w = i.place n in
           absurd (first_none (least_above after ts) ts e w.0 (within ts w.0 (λ z. n (sym w.1 ∙ z))) w.1)
 
-  pub next_is : (p : ℕ) → NextIs after ts p → next_above after ts ≡ At p
+  pub next_is : (p : ℕ) → NextIs after ts p → next_above after ts ≡ Some p
   unfolding next_above
   next_is p n = go (ne_eqb (least_above after ts) 0 some) same
     where
@@ -176,7 +175,7 @@ module _ (after : ℕ) (ts : List ℕ) where
           omega (arith, i.least p n.above, n.least w.0 b, w.1)
 
       go : eqb (least_above after ts) 0 ≡ false → get_or ts p 0 ≡ least_above after ts
-          → cond (eqb (least_above after ts) 0) Nothing (first_with (least_above after ts) ts) ≡ At p
+          → cond (eqb (least_above after ts) 0) None (first_with (least_above after ts) ts) ≡ Some p
       go x s =
           rw x
           (first_lowest (least_above after ts) ts p
@@ -186,12 +185,12 @@ module _ (after : ℕ) (ts : List ℕ) where
             none = λ q h e. n.lowest q h (e ∙ sym s);
           }))
 
-  pub next_absent : ((p : ℕ) → get_or ts p 0 ≤ after) → next_above after ts ≡ Nothing
+  pub next_absent : ((p : ℕ) → get_or ts p 0 ≤ after) → next_above after ts ≡ None
   next_absent h = go (next_above after ts) refl
     where
-      go : (r : Found) → next_above after ts ≡ r → next_above after ts ≡ Nothing
-      go Nothing e = e
-      go (At p) e = absurd (omega (arith, (next_found p e).above, h p))
+      go : (r : Option ℕ) → next_above after ts ≡ r → next_above after ts ≡ None
+      go None e = e
+      go (Some p) e = absurd (omega (arith, (next_found p e).above, h p))
 
 -- ---- the order
 
@@ -234,12 +233,12 @@ empty_cons : (x : ℕ) (xs : List ℕ) → [] ≡ x ∷ xs → ⊥
 empty_cons x xs e = let z : ◌≡◌ {A = ℕ} 0 1 = cc in omega arith
 
 module _ (ts : List ℕ) where
-  pub places_none : (n after : ℕ) → next_above after ts ≡ Nothing → places_above n after ts ≡ []
+  pub places_none : (n after : ℕ) → next_above after ts ≡ None → places_above n after ts ≡ []
   unfolding places_above
   places_none zero after e = refl
   places_none (suc n) after e = rw e
 
-  pub places_next : (n after p : ℕ) → next_above after ts ≡ At p → places_above (suc n) after ts ≡ p ∷ places_above n (get_or ts p 0) ts
+  pub places_next : (n after p : ℕ) → next_above after ts ≡ Some p → places_above (suc n) after ts ≡ p ∷ places_above n (get_or ts p 0) ts
   unfolding places_above
   places_next n after p e = rw e
 
@@ -248,10 +247,10 @@ module _ (ts : List ℕ) where
   places_rise zero after = tt
   places_rise (suc n) after = go (next_above after ts) refl (places_rise n)
     where
-      go : (r : Found) → next_above after ts ≡ r → ((b : ℕ) → Rising b ts (places_above n b ts))
+      go : (r : Option ℕ) → next_above after ts ≡ r → ((b : ℕ) → Rising b ts (places_above n b ts))
           → Rising after ts (and_then r (λ p. places_above n (get_or ts p 0) ts))
-      go Nothing e ih = tt
-      go (At p) e ih = ((next_found after ts p e).above, ih (get_or ts p 0))
+      go None e ih = tt
+      go (Some p) e ih = ((next_found after ts p e).above, ih (get_or ts p 0))
 
   places_empty : (n m after : ℕ) → count_above after ts ≤ 0 → places_above n after ts ≡ places_above m after ts
   places_empty n m after h =
@@ -265,11 +264,11 @@ module _ (ts : List ℕ) where
   places_same (suc n) zero after h k = places_empty (suc n) 0 after k
   places_same (suc n) (suc m) after h k = go (next_above after ts) refl (places_same n m)
     where
-      go : (r : Found) → next_above after ts ≡ r
+      go : (r : Option ℕ) → next_above after ts ≡ r
           → ((b : ℕ) → count_above b ts ≤ n → count_above b ts ≤ m → places_above n b ts ≡ places_above m b ts)
           → places_above (suc n) after ts ≡ places_above (suc m) after ts
-      go Nothing e ih = places_none (suc n) after e ∙ sym (places_none (suc m) after e)
-      go (At p) e ih =
+      go None e ih = places_none (suc n) after e ∙ sym (places_none (suc m) after e)
+      go (Some p) e ih =
           let l = count_less after ts p (next_found after ts p e).above in
           rw (places_next n after p e, places_next m after p e, ih (get_or ts p 0) (omega arith) (omega arith))
 
@@ -289,11 +288,11 @@ module _ (ts : List ℕ) where
   places_all d zero after p h k = absurd (omega (arith, count_less after ts p k))
   places_all d (suc n) after p h k = go (next_above after ts) refl (places_all d n)
     where
-      go : (r : Found) → next_above after ts ≡ r
+      go : (r : Option ℕ) → next_above after ts ≡ r
           → ((b q : ℕ) → count_above b ts ≤ n → b < get_or ts q 0 → Memᴰ q (places_above n b ts))
           → Memᴰ p (places_above (suc n) after ts)
-      go Nothing e ih = absurd (omega (arith, next_none after ts e p))
-      go (At q) e ih =
+      go None e ih = absurd (omega (arith, next_none after ts e p))
+      go (Some q) e ih =
           let i = next_found after ts q e in
           let l = count_less after ts q i.above in
           rw (places_next n after q e)
@@ -311,21 +310,21 @@ module _ (ts : List ℕ) where
   places_tail xs zero after p ys h e = absurd (places_tail_zero xs p ys after e)
   places_tail xs (suc n) after p ys h e = go xs e (next_above after ts) refl (λ zs. places_tail zs n)
     where
-      go : (xs : List ℕ) → places_above (suc n) after ts ≡ xs ++ p ∷ ys → (r : Found) → next_above after ts ≡ r
+      go : (xs : List ℕ) → places_above (suc n) after ts ≡ xs ++ p ∷ ys → (r : Option ℕ) → next_above after ts ≡ r
           → ((zs : List ℕ) (b p : ℕ) (ys : List ℕ) → count_above b ts ≤ n → places_above n b ts ≡ zs ++ p ∷ ys
           → (m : ℕ) → count_above (get_or ts p 0) ts ≤ m → places_above m (get_or ts p 0) ts ≡ ys)
           → (m : ℕ) → count_above (get_or ts p 0) ts ≤ m → places_above m (get_or ts p 0) ts ≡ ys
-      go [] e Nothing w ih m k = absurd (let z : ◌≡◌ {A = List ℕ} [] (p ∷ ys) = sym (places_none (suc n) after w) ∙ e in empty_cons p ys z)
-      go (x ∷ xs) e Nothing w ih m k =
+      go [] e None w ih m k = absurd (let z : ◌≡◌ {A = List ℕ} [] (p ∷ ys) = sym (places_none (suc n) after w) ∙ e in empty_cons p ys z)
+      go (x ∷ xs) e None w ih m k =
           absurd (let z : ◌≡◌ {A = List ℕ} [] (x ∷ xs ++ p ∷ ys) = sym (places_none (suc n) after w) ∙ e in empty_cons x (xs ++ p ∷ ys) z)
-      go [] e (At q) w ih m k =
+      go [] e (Some q) w ih m k =
           let l = count_less after ts q (next_found after ts q w).above in
           let z : q ∷ places_above n (get_or ts q 0) ts ≡ p ∷ ys = sym (places_next n after q w) ∙ e in
           let s : q ≡ p = cc in
           let t : places_above n (get_or ts q 0) ts ≡ ys = cc in
           let u : get_or ts q 0 ≡ get_or ts p 0 = ap (λ (i : ℕ). get_or ts i 0) s in
           places_same m n (get_or ts p 0) k (rw u at (let v : count_above (get_or ts q 0) ts ≤ n = omega arith in v)) ∙ (rw u at t)
-      go (x ∷ xs) e (At q) w ih m k =
+      go (x ∷ xs) e (Some q) w ih m k =
           let l = count_less after ts q (next_found after ts q w).above in
           let z : q ∷ places_above n (get_or ts q 0) ts ≡ x ∷ xs ++ p ∷ ys = sym (places_next n after q w) ∙ e in
           let t : places_above n (get_or ts q 0) ts ≡ xs ++ p ∷ ys = cc in
@@ -341,7 +340,7 @@ module _ (ts : List ℕ) (p m : ℕ) (h : p < length ts) (free : get_or ts p 0 �
   at_other : (k : ℕ) → (k ≡ p → ⊥) → get_or (set ts p m) k 0 ≡ get_or ts k 0
   at_other k n = get_or-set_other ts p k m 0 n
 
-  next_last : (after : ℕ) → after < m → next_above after ts ≡ Nothing → next_above after (set ts p m) ≡ At p
+  next_last : (after : ℕ) → after < m → next_above after ts ≡ None → next_above after (set ts p m) ≡ Some p
   next_last after l e =
       next_is after (set ts p m) p
       (record {
@@ -351,7 +350,7 @@ module _ (ts : List ℕ) (p m : ℕ) (h : p < length ts) (free : get_or ts p 0 �
         lowest = λ q k s. let b = later q in let c = at_other q (λ z. omega arith) in omega (arith, at_p);
       })
 
-  next_before : (after q : ℕ) → next_above after ts ≡ At q → (q ≡ p → ⊥) × (next_above after (set ts p m) ≡ At q)
+  next_before : (after q : ℕ) → next_above after ts ≡ Some q → (q ≡ p → ⊥) × (next_above after (set ts p m) ≡ Some q)
   next_before after q e = (apart, next_is after (set ts p m) q is)
     where
       i : NextIs after ts q
@@ -378,14 +377,14 @@ module _ (ts : List ℕ) (p m : ℕ) (h : p < length ts) (free : get_or ts p 0 �
   places_last zero after l k = absurd (omega (arith, count_less after (set ts p m) p (let b : after < get_or (set ts p m) p 0 = omega (arith, at_p) in b)))
   places_last (suc n) after l k = go (next_above after ts) refl (places_last n)
     where
-      go : (r : Found) → next_above after ts ≡ r
+      go : (r : Option ℕ) → next_above after ts ≡ r
           → ((b : ℕ) → b < m → count_above b (set ts p m) ≤ n → places_above n b (set ts p m) ≡ places_above n b ts ++ p ∷ [])
           → places_above (suc n) after (set ts p m) ≡ places_above (suc n) after ts ++ p ∷ []
-      go Nothing e ih =
+      go None e ih =
           let none = next_absent (get_or (set ts p m) p 0) (set ts p m)
           (λ q. by_equal q p (λ s. rw s (omega arith)) (λ s. let b = later q in omega (arith, at_other q s, at_p))) in
           rw (places_next (set ts p m) n after p (next_last after l e), places_none (set ts p m) n (get_or (set ts p m) p 0) none, places_none ts (suc n) after e)
-      go (At q) e ih =
+      go (Some q) e ih =
           let b = next_before after q e in
           let f = count_less after (set ts p m) q (next_found after (set ts p m) q b.1).above in
           let s = at_other q b.0 in
@@ -463,12 +462,12 @@ module _ (after : ℕ) (fs : List File) where
 pub in_order_empty : (after n : ℕ) → in_order after (replicate n no_file) ≡ []
 in_order_empty after n = in_order_none after (replicate n no_file) (λ p. rw (empty_at n p) (omega arith))
 
--- the next complete file is Nothing exactly where none is above, and else one with the least upload time above
+-- the next complete file is None exactly where none is above, and else one with the least upload time above
 module _ (fs : List File) (after : ℕ) where
-  pub complete_none : next_complete fs after ≡ Nothing → (p : ℕ) → uploaded (file_at fs p) ≤ after
+  pub complete_none : next_complete fs after ≡ None → (p : ℕ) → uploaded (file_at fs p) ≤ after
   complete_none e p = rw (key_at Time fs p) at (next_none after (times fs) e p)
 
-  pub complete_found : (p : ℕ) → next_complete fs after ≡ At p
+  pub complete_found : (p : ℕ) → next_complete fs after ≡ Some p
       → (after < uploaded (file_at fs p)) × ((q : ℕ) → after < uploaded (file_at fs q) → uploaded (file_at fs p) ≤ uploaded (file_at fs q))
   complete_found p e =
       let i = next_found after (times fs) p e in (
@@ -477,7 +476,7 @@ module _ (fs : List File) (after : ℕ) where
       )
 
   -- the order begins with the next complete file and goes on above its upload time
-  pub in_order_next : (p : ℕ) → next_complete fs after ≡ At p → in_order after fs ≡ p ∷ in_order (uploaded (file_at fs p)) fs
+  pub in_order_next : (p : ℕ) → next_complete fs after ≡ Some p → in_order after fs ≡ p ∷ in_order (uploaded (file_at fs p)) fs
   in_order_next p e =
       let i = next_found after (times fs) p e in
       let c = count_less after (times fs) p i.above in

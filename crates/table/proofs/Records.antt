@@ -2,19 +2,17 @@
 use mathlib.Core.Path.{◌≡◌, refl, sym, ap, ◌∙◌}
 use mathlib.Core.Bool.{Bool, true, false, cond, not, ◌&&◌}
 use mathlib.Core.List.{List, [], ◌∷◌, ◌++◌}
-use Prim.Native.Nat.{ℕ, zero, suc, ◌+◌, ◌-◌, ◌*◌, ◌/◌, ◌≤◌, ◌<◌}
+use Prim.Native.Nat.{ℕ, zero, suc, ◌+◌, ◌*◌, ◌/◌, ◌≤◌, ◌<◌}
 use native.Mathlib.Omega.{arith}
 use native.Mathlib.Numerals.{add-one}
-use lib.ListN.{length, replicate, get_or, set, take, drop, length-map, get_or-map, get_or-eq_default}
-use lib.Seq.{drop-cons, drop-length, take_all, take-suc, take-suc-set, sets, length-sets, set_out, get_or-set_same, get_or-set_other, map-set_same}
+use lib.ListN.{length, replicate, get_or, set, take, drop, length-map, get_or-map, get_or-eq_default, drop_of_length-le}
+use lib.Seq.{drop-cons, take_all, take-suc, take-suc-set, sets, length-sets, set_out, get_or-set_same, get_or-set_other, map-set_same}
 use lib.Dec.{ltb, eqb}
 use borrow.Author.Tests.{ltb-true, ltb-false, lt-ltb, le-ltb, eqb-false, eq-eqb, ne_eqb}
 use Rattle.table.specs.declared.File.{File}
 use Rattle.table.specs.declared.Key.{Key}
 use Rattle.table.specs.declared.Key.TheVariants.{Number, Time}
-use Rattle.table.specs.declared.Kind.{Kind}
-use Rattle.table.specs.declared.Kind.TheVariants.{Partial, Complete}
-use Rattle.table.specs.Table.{no_file, words, files, file_at, put_table, uploaded, key_of, keys, is_complete, is_kind, count_of}
+use Rattle.table.specs.Table.{no_file, words, files, file_at, put_table, uploaded, key_of, keys, is_complete, count_of}
 
 pub length_files : (table : List ℕ) → length (files table) ≡ length table / 4
 unfolding files
@@ -133,17 +131,14 @@ module _ (test : File → Bool) (fs : List File) where
   unfolding count_of
   count_step p h = rw (add-one, drop-cons fs p no_file h, count_of)
 
-  -- with the record before place p counted too
-  pub count_next : (p n one : ℕ) → 0 < p → p ≤ length fs → n ≡ count_of test (drop p fs) → one ≡ cond (test (file_at fs (p - 1))) 1 0
-      → n + one ≡ count_of test (drop (p - 1) fs)
-  count_next p n one h k e o =
-      let i : p - 1 + 1 ≡ p = omega arith in
-      let s = count_step (p - 1) (omega arith) in
-      omega (arith, s, e, o, ap (λ (j : ℕ). count_of test (drop j fs)) i)
+  -- with the record at place p counted too
+  pub count_next : (p n m : ℕ) (t : Bool) → p < length fs → test (file_at fs p) ≡ t → m ≡ n + cond t 1 0
+      → n + count_of test (drop p fs) ≡ count_of test fs → m + count_of test (drop (p + 1) fs) ≡ count_of test fs
+  count_next p n m t h e o i = let s = rw e at (count_step p h) in omega (arith, s, o, i)
 
-  pub count_end : count_of test (drop (length fs) fs) ≡ 0
+  pub count_end : (p : ℕ) → length fs ≤ p → count_of test (drop p fs) ≡ 0
   unfolding count_of
-  count_end = rw (drop-length fs)
+  count_end p h = rw (drop_of_length-le fs h)
 
 pub count_bound : (test : File → Bool) (fs : List File) → count_of test fs ≤ length fs
 unfolding count_of
@@ -153,11 +148,6 @@ count_bound test (f ∷ fs) = go (test f) (count_bound test fs)
     go : (t : Bool) → count_of test fs ≤ length fs → cond t 1 0 + count_of test fs ≤ suc (length fs)
     go true h = omega arith
     go false h = omega arith
-
--- a record of no file is of no kind
-pub no_kind : (kind : Kind) (f : File) → f.number ≡ 0 → ◌≡◌ {A = ℕ} 0 (cond (is_kind kind f) 1 0)
-no_kind Partial f e = rw (eq-eqb f.number 0 e)
-no_kind Complete f e = rw (eq-eqb f.number 0 e)
 
 -- ---- files
 

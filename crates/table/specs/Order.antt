@@ -1,8 +1,6 @@
 -- The complete files in order of upload time. The times are those at each place, 0 where there is no complete file.
-use Rattle.std.specs.Prelude.{ℕ, zero, suc, ◌<◌, cond, List, [], ◌∷◌, length, get_or, eqb, ltb}
+use Rattle.std.specs.Prelude.{ℕ, zero, suc, ◌<◌, cond, List, [], ◌∷◌, length, get_or, eqb, ltb, Option, Some, None}
 use Rattle.table.specs.declared.File.{File}
-use Rattle.table.specs.declared.Found.{Found}
-use Rattle.table.specs.declared.Found.TheVariants.{Nothing, At}
 use Rattle.table.specs.Table.{first_with, times}
 
 -- the lesser of a time and the least of others, which is 0 where there are none
@@ -15,16 +13,16 @@ least_above after [] = 0
 least_above after (t ∷ ts) = cond (ltb after t) (lesser t (least_above after ts)) (least_above after ts)
 
 -- the place with the least time above `after`, the lowest where two have it
-unfoldable pub next_above : ℕ → List ℕ → Found
-next_above after ts = cond (eqb (least_above after ts) 0) Nothing (first_with (least_above after ts) ts)
+unfoldable pub next_above : ℕ → List ℕ → Option ℕ
+next_above after ts = cond (eqb (least_above after ts) 0) None (first_with (least_above after ts) ts)
 
-abbrev pub next_complete : List File → ℕ → Found
+abbrev pub next_complete : List File → ℕ → Option ℕ
 next_complete fs after = next_above after (times fs)
 
 -- a place that was found and what comes after it
-abbrev pub and_then : Found → (ℕ → List ℕ) → List ℕ
-and_then Nothing rest = []
-and_then (At place) rest = place ∷ rest place
+abbrev pub and_then : Option ℕ → (ℕ → List ℕ) → List ℕ
+and_then None rest = []
+and_then (Some place) rest = place ∷ rest place
 
 -- the places from the next one above `after` on, each the next above the time of the one before; at most n of them
 unfoldable pub places_above : ℕ → ℕ → List ℕ → List ℕ

@@ -1,14 +1,12 @@
 -- The file table: one record for each file place, four words a record, and what is found in it.
 -- All but `files`, `words` and `put_table` speak of the list of records and do not know how a record is stored.
-use Rattle.std.specs.Prelude.{ℕ, suc, ◌+◌, ◌*◌, ◌/◌, Bool, cond, not, ◌&&◌, List, [], ◌∷◌, map, length, get_or, eqb, ltb}
+use Rattle.std.specs.Prelude.{ℕ, suc, ◌+◌, ◌*◌, ◌/◌, Bool, cond, not, ◌&&◌, List, [], ◌∷◌, map, length, get_or, eqb, ltb, Option, Some, None}
 use Rattle.std.proofs.lemmas.List.Edits.{sets}
 use Rattle.table.specs.declared.File.{File}
 use Rattle.table.specs.declared.Key.{Key}
 use Rattle.table.specs.declared.Key.TheVariants.{Number, Time}
 use Rattle.table.specs.declared.Kind.{Kind}
 use Rattle.table.specs.declared.Kind.TheVariants.{Partial, Complete}
-use Rattle.table.specs.declared.Found.{Found}
-use Rattle.table.specs.declared.Found.TheVariants.{Nothing, At}
 
 -- ---- records
 
@@ -83,26 +81,26 @@ count_of test (f ∷ fs) = cond (test f) 1 0 + count_of test fs
 -- ---- finding
 
 -- the lowest place whose value is v, the places being counted from p
-unfoldable pub first_from : ℕ → ℕ → List ℕ → Found
-first_from p v [] = Nothing
-first_from p v (x ∷ xs) = cond (eqb x v) (At p) (first_from (suc p) v xs)
+unfoldable pub first_from : ℕ → ℕ → List ℕ → Option ℕ
+first_from p v [] = None
+first_from p v (x ∷ xs) = cond (eqb x v) (Some p) (first_from (suc p) v xs)
 
-abbrev pub first_with : ℕ → List ℕ → Found
+abbrev pub first_with : ℕ → List ℕ → Option ℕ
 first_with v xs = first_from 0 v xs
 
 -- the place of the file with a number; 0 is no file's number
-abbrev pub find_of : List File → ℕ → Found
-find_of fs number = cond (eqb number 0) Nothing (first_with number (numbers fs))
+abbrev pub find_of : List File → ℕ → Option ℕ
+find_of fs number = cond (eqb number 0) None (first_with number (numbers fs))
 
 -- the lowest place with no file
-abbrev pub free_of : List File → Found
+abbrev pub free_of : List File → Option ℕ
 free_of fs = first_with 0 (numbers fs)
 
 -- the refusal for a place not found: 4 "no such file", 13 "no free file place"
-abbrev pub find_number : Found → ℕ
-find_number Nothing = 4
-find_number (At place) = 0
+abbrev pub find_number : Option ℕ → ℕ
+find_number None = 4
+find_number (Some place) = 0
 
-abbrev pub free_number : Found → ℕ
-free_number Nothing = 13
-free_number (At place) = 0
+abbrev pub free_number : Option ℕ → ℕ
+free_number None = 13
+free_number (Some place) = 0

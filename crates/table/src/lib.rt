@@ -10,10 +10,13 @@
 #![tactic(auto)]
 
 ghost use Rattle.std.specs.Prelude.{◌≡◌, true, cond, ◌+◌, ◌/◌, ◌≤◌, ◌<◌, length, get_or, take, drop, eqb, ltb};
+ghost use Rattle.refusal.specs.Refusal.{number_of};
 ghost use Rattle.table.specs.Table.{files, file_at, put_number, put_table, is_complete, is_partial, is_kind, uploaded, key_of, keys, times, count_of, first_with, find_of, free_of};
 ghost use Rattle.table.specs.Given.{next_number, upload_time, blocks_for};
 ghost use Rattle.table.specs.Order.{lesser, least_above, next_complete};
 ghost use Rattle.table.specs.Fit.{file_fits, record_fits, records_fit, among, apart, distinct_of};
+
+use refusal::Refusal;
 
 // The record of a file place.
 #[derive(Clone, Copy)]
@@ -22,20 +25,6 @@ pub struct File {
     pub size: u32,
     pub received: u32,
     pub time: u32,
-}
-
-// A place, or none.
-#[derive(Clone, Copy)]
-pub enum Found {
-    Nothing,
-    At(usize),
-}
-
-// A number or a time that is given, or none: they are used up.
-#[derive(Clone, Copy)]
-pub enum Given {
-    UsedUp,
-    Next(u32),
 }
 
 // ---- records
@@ -76,20 +65,20 @@ pub fn get(table: &[u32], place: usize) -> File
     }
 }
 
-// Stores a record at a place: 0, or 33 past the last place, where nothing changes.
-pub fn put(table: &mut [u32], place: usize, file: File) -> u8
-    ensures value { result ≡ put_number table.old place }
+// Stores a record at a place; refused by 33 past the last place, where nothing changes.
+pub fn put(table: &mut [u32], place: usize, file: File) -> Result<(), Refusal>
+    ensures value { number_of result ≡ put_number table.old place }
     ensures table_after { table.new ≡ put_table table.old place file }
 {
-    if place < table.len() / 4 {
-        let at = 4 * place;
-        table[at] = file.number;
-        table[at + 1] = file.size;
-        table[at + 2] = file.received;
-        table[at + 3] = file.time;
-        return 0;
+    if table.len() / 4 <= place {
+        return Err(Refusal::BadSize);
     }
-    33
+    let at = 4 * place;
+    table[at] = file.number;
+    table[at + 1] = file.size;
+    table[at + 2] = file.received;
+    table[at + 3] = file.time;
+    Ok(())
 }
 
 // The upload time of a complete file, 0 for any other record.
@@ -118,32 +107,29 @@ fn key_of(file: File, key: Key) -> u32
 }
 
 // The lowest place with this number or time; 0 is the number of a place with no file.
-fn first_with(table: &[u32], key: Key, value: u32) -> Found
+fn first_with(table: &[u32], key: Key, value: u32) -> Option<usize>
     ensures { result ≡ first_with value (keys key (files table.now)) }
 {
-    let n = places(table);
-    let mut at = 0;
-    while at < n {
+    for at in 0..places(table) {
         if key_of(get(table, at), key) == value {
-            return Found::At(at);
+            return Some(at);
         }
-        at += 1;
     }
-    Found::Nothing
+    None
 }
 
 // The place of the file with this number: the lowest, where two have it.
-pub fn find(table: &[u32], number: u32) -> Found
+pub fn find(table: &[u32], number: u32) -> Option<usize>
     ensures { result ≡ find_of (files table.now) number }
 {
     if number == 0 {
-        return Found::Nothing;
+        return None;
     }
     first_with(table, Key::Number, number)
 }
 
 // The lowest place with no file.
-pub fn free_place(table: &[u32]) -> Found
+pub fn free_place(table: &[u32]) -> Option<usize>
     ensures { result ≡ free_of (files table.now) }
 {
     first_with(table, Key::Number, 0)
@@ -157,27 +143,25 @@ enum Kind {
     Complete,
 }
 
-// 1 for a file of the kind, 0 for any other record.
-fn one_of_kind(file: File, kind: Kind) -> usize
-    ensures { result ≡ cond (is_kind kind file) 1 0 }
+// Whether a record is that of a file of the kind.
+fn is_kind(file: File, kind: Kind) -> bool
+    ensures { result ≡ is_kind kind file }
 {
-    if file.number == 0 {
-        return 0;
-    }
-    match kind {
-        Kind::Partial => if file.time == 0 { 1 } else { 0 },
-        Kind::Complete => if file.time == 0 { 0 } else { 1 },
-    }
+    file.number != 0
+        && match kind {
+            Kind::Partial => file.time == 0,
+            Kind::Complete => file.time != 0,
+        }
 }
 
 fn count_kind(table: &[u32], kind: Kind) -> usize
     ensures { result ≡ count_of (is_kind kind) (files table.now) }
 {
-    let mut at = places(table);
     let mut n: usize = 0;
-    while 0 < at {
-        at -= 1;
-        n += one_of_kind(get(table, at), kind);
+    for at in 0..places(table) {
+        if is_kind(get(table, at), kind) {
+            n += 1;
+        }
     }
     n
 }
@@ -208,29 +192,27 @@ fn lesser_above(after: u32, time: u32, least: u32) -> u32
     if least == 0 {
         return time;
     }
-    if least < time { least } else { time }
+    least.min(time)
 }
 
 // The least upload time above `after`, 0 where there is none.
 fn least_above(table: &[u32], after: u32) -> u32
     ensures { result ≡ least_above after (times (files table.now)) }
 {
-    let mut at = places(table);
     let mut least: u32 = 0;
-    while 0 < at {
-        at -= 1;
+    for at in (0..places(table)).rev() {
         least = lesser_above(after, upload_time_of(get(table, at)), least);
     }
     least
 }
 
 // Of the complete files with an upload time above `after` the one with the least: from 0 on, the complete files oldest first.
-pub fn next_complete(table: &[u32], after: u32) -> Found
+pub fn next_complete(table: &[u32], after: u32) -> Option<usize>
     ensures { result ≡ next_complete (files table.now) after }
 {
     let least = least_above(table, after);
     if least == 0 {
-        return Found::Nothing;
+        return None;
     }
     first_with(table, Key::Time, least)
 }
@@ -244,27 +226,19 @@ pub fn blocks_for(size: u32) -> usize
     (size as usize + 255) / 256
 }
 
-// The file number after the last one given.
-pub fn next_number(last: u32) -> Given
+// The file number after the last one given, none where all are used up.
+pub fn next_number(last: u32) -> Option<u32>
     ensures { result ≡ next_number last }
 {
-    if last == 4294967295 {
-        return Given::UsedUp;
-    }
-    Given::Next(last + 1)
+    last.checked_add(1)
 }
 
-// The upload time after the last one given: the clock, where that is later than it.
-pub fn upload_time(clock: u32, last: u32) -> Given
+// The upload time after the last one given: the clock, where that is later than it; none where all are used up.
+pub fn upload_time(clock: u32, last: u32) -> Option<u32>
     ensures { result ≡ upload_time clock last }
 {
-    if last == 4294967295 {
-        return Given::UsedUp;
-    }
-    if clock < last + 1 {
-        return Given::Next(last + 1);
-    }
-    Given::Next(clock)
+    let next = last.checked_add(1)?;
+    Some(clock.max(next))
 }
 
 // ---- the facts of refusal 35
@@ -274,34 +248,21 @@ fn held_at(counts: &[usize], place: usize) -> usize
     requires { place < 4611686018427387904 }
     ensures { result ≡ get_or counts.now (place + 1) 0 }
 {
-    let at = place + 1;
-    if at < counts.len() {
-        return counts[at];
-    }
-    0
+    counts.get(place + 1).copied().unwrap_or(0)
 }
 
+#[tactic(auto, unfolding(crate::specs::Fit::file_fits))]
 fn file_fits(file: File, last: u32, latest: u32, held: usize) -> bool
     ensures { result ≡ file_fits last latest held file }
 {
-    if last < file.number {
-        return false;
-    }
-    if file.size < file.received {
-        return false;
-    }
-    if held != blocks_for(file.size) {
-        return false;
-    }
-    if latest < file.time {
-        return false;
-    }
-    if file.time == 0 {
-        return true;
-    }
-    file.received == file.size
+    file.number <= last
+        && file.received <= file.size
+        && held == blocks_for(file.size)
+        && file.time <= latest
+        && (file.time == 0 || file.received == file.size)
 }
 
+#[tactic(auto, unfolding(crate::specs::Fit::record_fits))]
 fn record_fits(file: File, last: u32, latest: u32, held: usize) -> bool
     ensures { result ≡ record_fits last latest held file }
 {
@@ -315,12 +276,8 @@ fn record_fits(file: File, last: u32, latest: u32, held: usize) -> bool
 pub fn records_fit(table: &[u32], last: u32, latest: u32, counts: &[usize]) -> bool
     ensures { result ≡ records_fit last latest counts.now (files table.now) }
 {
-    let n = places(table);
-    let mut at = 0;
-    while at < n {
-        if record_fits(get(table, at), last, latest, held_at(counts, at)) {
-            at += 1;
-        } else {
+    for at in 0..places(table) {
+        if !record_fits(get(table, at), last, latest, held_at(counts, at)) {
             return false;
         }
     }
@@ -332,12 +289,9 @@ fn keys_of(table: &[u32], key: Key) -> [u32; 256]
     requires { length (files table.now) ≤ 256 }
     ensures { (length result ≡ 256) × (take (length (files table.now)) result ≡ keys key (files table.now)) }
 {
-    let n = places(table);
     let mut values = [0u32; 256];
-    let mut at = 0;
-    while at < n {
+    for at in 0..places(table) {
         values[at] = key_of(record_at(table, at), key);
-        at += 1;
     }
     values
 }
@@ -352,13 +306,9 @@ fn stands_later(values: &[u32], at: usize) -> bool
         return false;
     }
     let mut found = false;
-    let mut k = at + 1;
-    while k < values.len() {
-        if value == values[k] {
+    for later in &values[at + 1..] {
+        if *later == value {
             found = true;
-            k += 1;
-        } else {
-            k += 1;
         }
     }
     found
@@ -375,16 +325,12 @@ fn lower(value: u32, low: u32) -> u32
 fn all_apart(values: &[u32]) -> bool
     ensures { result ≡ apart values.now }
 {
-    let mut at = values.len();
     let mut low: u32 = 4294967295;
-    while 0 < at {
-        at -= 1;
+    for at in (0..values.len()).rev() {
         if values[at] < low {
             low = lower(values[at], low);
-        } else {
-            if stands_later(values, at) {
-                return false;
-            }
+        } else if stands_later(values, at) {
+            return false;
         }
     }
     true
@@ -394,10 +340,8 @@ fn all_apart(values: &[u32]) -> bool
 fn rise(table: &[u32], key: Key) -> bool
     ensures { result ≡ true → apart (keys key (files table.now)) ≡ true }
 {
-    let mut at = places(table);
     let mut low: u32 = 4294967295;
-    while 0 < at {
-        at -= 1;
+    for at in (0..places(table)).rev() {
         let value = key_of(get(table, at), key);
         if low <= value {
             return false;
@@ -415,20 +359,13 @@ fn keys_apart(table: &[u32], key: Key) -> bool
     if rise(table, key) {
         return true;
     }
-    let n = places(table);
-    let values = keys_of(table, key);
-    all_apart(&values[..n])
+    all_apart(&keys_of(table, key)[..places(table)])
 }
 
 // Whether no two of at most 256 places have the same file number, and no two complete files the same upload time.
+#[tactic(auto, unfolding(crate::specs::Fit::distinct_of))]
 pub fn distinct(table: &[u32]) -> bool
     ensures { result ≡ distinct_of (files table.now) }
 {
-    if 256 < places(table) {
-        return false;
-    }
-    if keys_apart(table, Key::Number) {
-        return keys_apart(table, Key::Time);
-    }
-    false
+    places(table) <= 256 && keys_apart(table, Key::Number) && keys_apart(table, Key::Time)
 }

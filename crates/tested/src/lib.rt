@@ -11,6 +11,7 @@ use server::check::Lengths;
 use server::{Done, Server};
 
 // The facts of 35, of the store and of the sessions, in slices that have room for them.
+#[tactic(auto, unfolding(server::specs::Check::sound_parts))]
 fn facts_hold(
     server: Server,
     map: &[u64],
@@ -27,18 +28,15 @@ fn facts_hold(
     let w = (b + 63) / 64;
     let x = 4 * server.files;
     let last = server.last;
-    if files::sound(&map[..w], &owner[..b], &table[..x], last.number, last.time) {
-        let links = server.links;
-        return links::links_sound(
-            links,
+    files::sound(&map[..w], &owner[..b], &table[..x], last.number, last.time)
+        && links::links_sound(
+            server.links,
             server.sessions,
             server.most,
             &table[..x],
             selected,
             held,
-        );
-    }
-    false
+        )
 }
 
 // Whether a state is none that 35 refuses; not where its sizes or lengths are refused by 33.
@@ -55,17 +53,14 @@ pub fn is_sound(
         (sound_parts server map.now owner.now table.now selected.now held.now) false }
 {
     let n = Lengths {
-        disk: disk,
+        disk,
         map: map.len(),
         owner: owner.len(),
         table: table.len(),
         selected: selected.len(),
         held: held.len(),
     };
-    if server::check::fits_all(server, n) {
-        return facts_hold(server, map, owner, table, selected, held);
-    }
-    false
+    server::check::fits_all(server, n) && facts_hold(server, map, owner, table, selected, held)
 }
 
 // Takes bytes of a session's link, up to the end of one packet, and answers it.

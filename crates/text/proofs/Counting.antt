@@ -1,15 +1,16 @@
 -- The comparisons of the match are at most the product of both lengths, so there are none where either is empty, and the count does not stop
 -- where both have at most 255 bytes; and what each step of the match counts. Assumes nothing.
-use mathlib.Core.Path.{◌≡◌, refl, sym, ap, ◌∙◌, subst}
+use mathlib.Core.Path.{◌≡◌, refl, sym, ap, ◌∙◌}
 use mathlib.Core.Bool.{Bool, true, false, cond, true≢false}
 use mathlib.Core.List.{List, [], ◌∷◌}
-use Prim.Native.Nat.{ℕ, zero, suc, ◌+◌, ◌-◌, ◌*◌, ◌≤◌, ◌<◌}
+use mathlib.Core.Logic.{◌⊎◌, inl, inr}
+use Prim.Native.Nat.{ℕ, zero, suc, ◌+◌, ◌-◌, ◌*◌, ◌≤◌}
 use native.Mathlib.Omega.{arith}
 use native.Mathlib.Numerals.{add-one}
 use native.Mathlib.Nat.{add-suc, add_assoc, add-mul, mul-le-mul, mul-le-mul_left, le-mul_of_pos_right}
 use lib.Dec.{leb, eqb}
-use lib.ListN.{length, get_or, take, drop, length-drop, drop_of_length-le}
-use lib.Seq.{take_all, drop-cons, get_or-drop, drop-drop}
+use lib.ListN.{length, take, drop, length-drop, drop_of_length-le}
+use lib.Seq.{take_all, get_or-drop, drop-drop}
 use borrow.Author.Tests.{leb-true, leb-false, le-leb}
 use Rattle.text.specs.Steps.{plain, fitting, star_at}
 use Rattle.text.specs.Comparisons.{compared, both_end, tried, behind, comparisons, up_to64}
@@ -37,29 +38,18 @@ unfolding compared
 none_compared [] = refl
 none_compared (p ∷ ps) = refl
 
-compared_none : (ts : List ℕ) → compared [] ts ≡ 0
+pub compared_ends : (ps ts : List ℕ) → (ps ≡ []) ⊎ (ts ≡ []) → compared ps ts ≡ 0
 unfolding compared
-compared_none ts = refl
+compared_ends ps ts (inl e) = rw e refl
+compared_ends ps ts (inr e) = rw e (none_compared ps)
 
-pub compared_ends : (ps ts : List ℕ) (k : ℕ) → compared ps ts ≡ k + compared (drop k ps) (drop k ts) → length ts ≤ k → k ≡ compared ps ts
-compared_ends ps ts k e h = let z = ap (compared (drop k ps)) (drop_of_length-le ts h) ∙ none_compared (drop k ps) in omega arith
-
-pub compared_ends_2 : (ps ts : List ℕ) (k : ℕ) → compared ps ts ≡ k + compared (drop k ps) (drop k ts) → length ps ≤ k → k ≡ compared ps ts
-compared_ends_2 ps ts k e h =
-    let z = ap (λ (l : List ℕ). compared l (drop k ts)) (drop_of_length-le ps h) ∙ compared_none (drop k ts) in omega arith
-
-compared_at : (ps ts : List ℕ) (k : ℕ) → k < length ps → k < length ts
-    → compared (drop k ps) (drop k ts) ≡ suc (cond (plain (get_or ps k 0) (get_or ts k 0)) (compared (drop (suc k) ps) (drop (suc k) ts)) 0)
+pub compared_stops : (ps ts qs us : List ℕ) (p t : ℕ) → ps ≡ p ∷ qs → ts ≡ t ∷ us → plain p t ≡ false → compared ps ts ≡ 1
 unfolding compared
-compared_at ps ts k h i = rw (drop-cons ps k 0 h, drop-cons ts k 0 i)
+compared_stops ps ts qs us p t e h f = rw (e, h, f)
 
-pub compared_stops : (ps ts : List ℕ) (k : ℕ) → compared ps ts ≡ k + compared (drop k ps) (drop k ts) → k < length ps → k < length ts
-    → plain (get_or ps k 0) (get_or ts k 0) ≡ false → k + 1 ≡ compared ps ts
-compared_stops ps ts k e h i f = let z = rw f at (compared_at ps ts k h i) in omega arith
-
-pub compared_goes : (ps ts : List ℕ) (k : ℕ) → compared ps ts ≡ k + compared (drop k ps) (drop k ts) → k < length ps → k < length ts
-    → plain (get_or ps k 0) (get_or ts k 0) ≡ true → compared ps ts ≡ k + 1 + compared (drop (k + 1) ps) (drop (k + 1) ts)
-compared_goes ps ts k e h i f = let z = rw f at (compared_at ps ts k h i) in rw (add-one k) (omega arith)
+pub compared_goes : (ps ts qs us : List ℕ) (p t : ℕ) → ps ≡ p ∷ qs → ts ≡ t ∷ us → plain p t ≡ true → compared ps ts ≡ suc (compared qs us)
+unfolding compared
+compared_goes ps ts qs us p t e h f = rw (e, h, f)
 
 -- ---- behind a star
 

@@ -3,11 +3,12 @@
 use mathlib.Core.Path.{◌≡◌, refl, sym, ap, ◌∙◌}
 use mathlib.Core.Bool.{Bool, true, false, ◌&&◌, ◌||◌, cond, true≢false}
 use mathlib.Core.List.{List, [], ◌∷◌}
+use mathlib.Core.Logic.{◌⊎◌, inl, inr}
 use Prim.Native.Nat.{ℕ, zero, suc, ◌+◌, ◌-◌, ◌≤◌, ◌<◌}
 use native.Mathlib.Omega.{arith}
 use lib.Dec.{eqb, eqb-zero-suc, eqb-suc-suc}
-use lib.ListN.{length, get_or, take, drop, length-drop, drop_of_length-le}
-use lib.Seq.{take_all, drop-cons, get_or-drop, drop-drop}
+use lib.ListN.{length, take, drop, length-drop, drop_of_length-le}
+use lib.Seq.{take_all, get_or-drop, drop-drop}
 use native.Mathlib.Numerals.{add-one}
 use native.Mathlib.Nat.{add-suc}
 use borrow.Author.Tests.{eqb-true, eq-eqb}
@@ -143,33 +144,19 @@ greedy ps ts s =
 
 -- ---- a run, by its place
 
-run_nil : (ps : List ℕ) → fitting ps [] ≡ 0
+pub run_ends : (ps ts : List ℕ) → (ps ≡ []) ⊎ (ts ≡ []) → fitting ps ts ≡ 0
 unfolding fitting
-run_nil [] = refl
-run_nil (p ∷ ps) = refl
+run_ends ps ts (inl e) = rw e refl
+run_ends [] ts (inr e) = refl
+run_ends (p ∷ ps) ts (inr e) = rw e refl
 
-pub run_ends : (ps ts : List ℕ) (k : ℕ) → fitting ps ts ≡ k + fitting (drop k ps) (drop k ts) → length ts ≤ k → k ≡ fitting ps ts
-run_ends ps ts k e h = let z = ap (fitting (drop k ps)) (drop_of_length-le ts h) ∙ run_nil (drop k ps) in omega arith
-
-nil_run : (ts : List ℕ) → fitting [] ts ≡ 0
+pub run_stops : (ps ts qs us : List ℕ) (p t : ℕ) → ps ≡ p ∷ qs → ts ≡ t ∷ us → plain p t ≡ false → fitting ps ts ≡ 0
 unfolding fitting
-nil_run ts = refl
+run_stops ps ts qs us p t e h f = rw (e, h, f)
 
-pub run_ends_2 : (ps ts : List ℕ) (k : ℕ) → fitting ps ts ≡ k + fitting (drop k ps) (drop k ts) → length ps ≤ k → k ≡ fitting ps ts
-run_ends_2 ps ts k e h = let z = ap (λ (l : List ℕ). fitting l (drop k ts)) (drop_of_length-le ps h) ∙ nil_run (drop k ts) in omega arith
-
-run_at : (ps ts : List ℕ) (k : ℕ) → k < length ps → k < length ts
-    → fitting (drop k ps) (drop k ts) ≡ cond (plain (get_or ps k 0) (get_or ts k 0)) (suc (fitting (drop (suc k) ps) (drop (suc k) ts))) 0
+pub run_goes : (ps ts qs us : List ℕ) (p t : ℕ) → ps ≡ p ∷ qs → ts ≡ t ∷ us → plain p t ≡ true → fitting ps ts ≡ suc (fitting qs us)
 unfolding fitting
-run_at ps ts k h i = rw (drop-cons ps k 0 h, drop-cons ts k 0 i)
-
-pub run_stops : (ps ts : List ℕ) (k : ℕ) → fitting ps ts ≡ k + fitting (drop k ps) (drop k ts) → k < length ps → k < length ts
-    → plain (get_or ps k 0) (get_or ts k 0) ≡ false → k ≡ fitting ps ts
-run_stops ps ts k e h i f = let z = rw f at (run_at ps ts k h i) in omega arith
-
-pub run_goes : (ps ts : List ℕ) (k : ℕ) → fitting ps ts ≡ k + fitting (drop k ps) (drop k ts) → k < length ps → k < length ts
-    → plain (get_or ps k 0) (get_or ts k 0) ≡ true → fitting ps ts ≡ k + 1 + fitting (drop (k + 1) ps) (drop (k + 1) ts)
-run_goes ps ts k e h i f = let z = rw f at (run_at ps ts k h i) in rw (add-one k) (omega arith)
+run_goes ps ts qs us p t e h f = rw (e, h, f)
 
 pub run_le : (ps ts : List ℕ) → (fitting ps ts ≤ length ps) × (fitting ps ts ≤ length ts)
 unfolding fitting

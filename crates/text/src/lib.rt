@@ -12,28 +12,26 @@ ghost use Rattle.text.specs.Steps.{plain, fitting, star_at};
 ghost use Rattle.text.specs.Comparisons.{compared, tried, behind, comparisons, up_to64};
 
 // A byte, an ASCII letter lowered.
+#[tactic(auto, unfolding(crate::specs::Match::lower))]
 fn lowered(b: u8) -> u8
     ensures { result ≡ lower b }
 {
-    if 65 <= b {
-        if b <= 90 {
-            return b + 32;
-        }
+    match b {
+        b'A'..=b'Z' => b + 32,
+        _ => b,
     }
-    b
 }
 
 // A pattern byte other than `*` fits a text byte.
+#[tactic(auto, unfolding(crate::specs::Steps::plain, crate::specs::Match::fits))]
 fn fit(p: u8, t: u8) -> bool
     ensures { result ≡ plain p t }
 {
-    if p == 42 {
-        return false;
+    match p {
+        b'*' => false,
+        b'?' => true,
+        _ => lowered(p) == lowered(t),
     }
-    if p == 63 {
-        return true;
-    }
-    lowered(p) == lowered(t)
 }
 
 // What a run found: how many pattern bytes fit, and how many comparisons of a pattern byte with a text byte it took.
@@ -55,57 +53,40 @@ fn compare(pattern: &[u8], text: &[u8]) -> Run
     ensures fitting_value { result.fitting ≡ fitting pattern.now text.now }
     ensures compared_value { result.compared ≡ compared pattern.now text.now }
 {
-    let mut k = 0;
-    let mut n: u64 = 0;
-    while k < pattern.len() {
-        if text.len() <= k {
-            return Run {
-                fitting: k,
-                compared: n,
-            };
+    let mut run = Run {
+        fitting: 0,
+        compared: 0,
+    };
+    for (p, t) in pattern.iter().zip(text) {
+        run.compared += 1;
+        if !fit(*p, *t) {
+            return run;
         }
-        n += 1;
-        if fit(pattern[k], text[k]) {
-            k += 1;
-        } else {
-            return Run {
-                fitting: k,
-                compared: n,
-            };
-        }
+        run.fitting += 1;
     }
-    Run {
-        fitting: k,
-        compared: n,
-    }
+    run
 }
 
 // The sum of two counts, or the largest number of 64 bits where it is above that.
+#[tactic(auto, unfolding(crate::specs::Comparisons::up_to64))]
 fn count_sum(a: u64, b: u64) -> u64
     ensures { result ≡ up_to64 (a + b) }
 {
-    if 18446744073709551615 - a < b {
-        return 18446744073709551615;
-    }
-    a + b
+    a.checked_add(b).unwrap_or(u64::MAX)
 }
 
 // A `*` stands at a place of the pattern.
 fn star(pattern: &[u8], p: usize) -> bool
     ensures { result ≡ star_at pattern.now p }
 {
-    if p < pattern.len() {
-        pattern[p] == 42
-    } else {
-        false
-    }
+    pattern.get(p) == Some(&b'*')
 }
 
 // The places p and t are the ends of a pattern and of a text.
 fn ended(p: usize, pattern: usize, t: usize, text: usize) -> bool
     ensures { result ≡ cond (eqb p pattern) (eqb t text) false }
 {
-    if p == pattern { t == text } else { false }
+    p == pattern && t == text
 }
 
 // What follows a `*`: the pattern matches some tail of the text. The comparisons are counted on from `before`.
@@ -116,6 +97,7 @@ fn after_star(pattern: &[u8], text: &[u8], before: u64) -> Counted
     let mut back = 0;
     let mut mark = 0;
     let mut n = before;
+    // a `loop`: each turn goes on behind the next star or one byte on in the text, so that no one list of places bounds the turns
     loop {
         let run = compare(&pattern[back..], &text[mark..]);
         n = count_sum(n, run.compared);

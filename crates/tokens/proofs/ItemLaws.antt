@@ -1,9 +1,9 @@
 -- The name that is found at a place is the one that the machine reads there; where none is, the machine stops where the search says. Assumes nothing.
+use Rattle.std.proofs.Common.{Result, Ok, Err}
 use mathlib.Core.Path.{◌≡◌, refl, sym, ap, ◌∙◌}
 use mathlib.Core.Bool.{Bool, true, false, cond}
 use mathlib.Core.List.{List, [], ◌∷◌, ◌++◌, map, append_assoc}
-use mathlib.Core.Option.{none, some}
-use Prim.Native.Nat.{ℕ, suc, ◌+◌, ◌-◌, ◌≤◌, ◌<◌}
+use Prim.Native.Nat.{ℕ, suc, ◌+◌, ◌≤◌, ◌<◌}
 use native.Mathlib.Omega.{arith}
 use lib.Dec.{ltb, eqb}
 use lib.ListN.{length, get_or, take, drop, take-append-drop, length-drop}
@@ -11,7 +11,6 @@ use lib.Seq.{drop-drop, length-take-le, take-suc, get_or-drop, split_at}
 use borrow.Author.Tests.{ltb-true, ltb-false, eqb-true, eqb-false, eq-eqb, ne_eqb}
 use Rattle.packet.specs.Names.{bytes_of}
 use Rattle.text.specs.Match.{lower}
-use Rattle.lines.specs.Commands.{same}
 use Rattle.names.specs.Kinds.{is_blank}
 use Rattle.names.specs.Names.{items, small, starts_name}
 use Rattle.names.specs.Rows.{shared, found_in, found}
@@ -27,8 +26,6 @@ use Rattle.grammar.proofs.Steps.{Reach, then, one}
 use Rattle.grammar.proofs.Relations.{Acts, want_acts, inside_acts, letters_run, next_letter, lower_high}
 use Rattle.tokens.specs.Tokens.{hash_from, named_at, item_at}
 use Rattle.tokens.specs.Places.{Goes}
-use Rattle.tokens.specs.declared.items.Item.{Item}
-use Rattle.tokens.specs.declared.items.Item.TheVariants as item-read
 use Rattle.tokens.proofs.Places as places
 use Rattle.tokens.proofs.TokenLaws.{HashRead, hash_read}
 
@@ -39,9 +36,9 @@ pub record ItemIs (text : List ℕ) (at id e : ℕ) : Type 0 where
   pub within : e ≤ length text
   pub runs : (l : Level) (ls : List Level) → Goes text (want l ls) at (inside (item id) l ls) e
 
-abbrev pub ItemRead : List ℕ → ℕ → Item → Type 0
-ItemRead text at (item-read.Is id e) = ItemIs text at id e
-ItemRead text at (item-read.Wrong p) = (l : Level) (ls : List Level) → from (want l ls) at text ≡ refused p reason.Item
+abbrev pub ItemRead : List ℕ → ℕ → Result (ℕ × ℕ) ℕ → Type 0
+ItemRead text at (Ok (id, e)) = ItemIs text at id e
+ItemRead text at (Err p) = (l : Level) (ls : List Level) → from (want l ls) at text ≡ refused p reason.Item
 
 -- ---- the machine
 
@@ -164,7 +161,7 @@ module _ (text : List ℕ) (at : ℕ) (within : at ≤ length text) (blank : is_
         by true z = unknown_later (ltb-true 0 n z) cs w s m
         by false z = unknown_first (omega (arith, ltb-false 0 n z))
 
-  pub name_unknown : (n : ℕ) → found (drop at text) ≡ Unknown n → ItemRead text at (item-read.Wrong (at + n))
+  pub name_unknown : (n : ℕ) → found (drop at text) ≡ Unknown n → ItemRead text at (Err (at + n))
   name_unknown n e l ls =
       let u = found_unknown items 0 (drop at text) n names.all_listed (no_letter refl) e in
       unknown_from l ls n u u.best
@@ -184,14 +181,14 @@ unfolding found_in shared items small bytes_of lower
 nothing_found = refl
 
 module _ (text : List ℕ) (at : ℕ) where
-  pub item_end : length text ≤ at → item-read.Wrong at ≡ item_at text at
+  pub item_end : length text ≤ at → Err at ≡ item_at text at
   unfolding item_at named_at
   item_end h =
       let z : at + 0 ≡ at = omega arith in
       rw (places.no_rest text at h, places.end_byte text at (places.no_rest text at h), nothing_found, z)
 
   module _ (b : ℕ) (hb : b ≡ get_or text at 0) where
-    pub item_hash : b ≡ 35 → (r : Item) → r ≡ hash_from 4 0 (at + 1) (drop (at + 1) text) → r ≡ item_at text at
+    pub item_hash : b ≡ 35 → (r : Result (ℕ × ℕ) ℕ) → r ≡ hash_from 4 0 (at + 1) (drop (at + 1) text) → r ≡ item_at text at
     unfolding item_at
     item_hash h r e = e ∙ rw (eq-eqb (get_or text at 0) 35 (sym hb ∙ h))
 
@@ -200,11 +197,11 @@ module _ (text : List ℕ) (at : ℕ) where
       unfolding item_at
       named = rw (ne_eqb (get_or text at 0) 35 (λ z. h (hb ∙ z)), ← hr, ← e)
 
-      pub item_known : (id n : ℕ) → f ≡ Known id n → item-read.Is id (at + n) ≡ item_at text at
+      pub item_known : (id n : ℕ) → f ≡ Known id n → Ok (id, at + n) ≡ item_at text at
       unfolding named_at
       item_known id n k = sym (named ∙ rw k)
 
-      pub item_unknown : (n : ℕ) → f ≡ Unknown n → item-read.Wrong (at + n) ≡ item_at text at
+      pub item_unknown : (n : ℕ) → f ≡ Unknown n → Err (at + n) ≡ item_at text at
       unfolding named_at
       item_unknown n k = sym (named ∙ rw k)
 
@@ -219,14 +216,14 @@ module _ (text : List ℕ) (at : ℕ) where
     unknown_in n k = unknown_within text at within n (ap found (sym hr) ∙ sym e ∙ k)
 
 module _ (text : List ℕ) (at : ℕ) (within : at ≤ length text) (blank : is_blank (get_or text at 0) ≡ false) (no_open : get_or text at 0 ≡ 40 → ⊥) where
-  hash_item : get_or text at 0 ≡ 35 → (r : Item) → HashRead text (at + 1) r → ItemRead text at r
-  hash_item h (item-read.Is id e) k =
+  hash_item : get_or text at 0 ≡ 35 → (r : Result (ℕ × ℕ) ℕ) → HashRead text (at + 1) r → ItemRead text at r
+  hash_item h (Ok (id, e)) k =
       record {
         forward = omega (arith, k.0);
         within = k.1;
         runs = λ l ls. places.goes text at 35 (want l ls) (inside (hash 0 0) l ls) h (omega arith) (steps.want_hash l ls) ∙ k.2 l ls;
       }
-  hash_item h (item-read.Wrong p) k = λ l ls.
+  hash_item h (Err p) k = λ l ls.
       places.goes text at 35 (want l ls) (inside (hash 0 0) l ls) h (omega arith) (steps.want_hash l ls) ∙ k l ls
 
   named_item : (get_or text at 0 ≡ 35 → ⊥) → (f : Found) → found (drop at text) ≡ f → ItemRead text at (named_at at f)

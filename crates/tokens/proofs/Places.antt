@@ -17,7 +17,6 @@ use Rattle.grammar.specs.Machine.{Phase, order, constant, digits, on, whole, sto
 use Rattle.grammar.specs.Machine.{refused, ended_in, ending, moved, run, from}
 use Rattle.grammar.specs.declared.Comparison.{Comparison}
 use Rattle.grammar.specs.declared.Reason.{Reason}
-use Rattle.grammar.specs.declared.Reason.TheVariants as reason
 use Rattle.grammar.proofs.Steps as steps
 use Rattle.tokens.specs.Places.{Goes, GoesIn, StopsIn, behind, Skipped}
 use Rattle.tokens.specs.Tokens.{blanks_in, past_blanks}

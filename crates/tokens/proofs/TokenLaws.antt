@@ -1,4 +1,5 @@
 -- The readers of single tokens: what they find at a place is what the machine does there. Assumes nothing.
+use Rattle.std.proofs.Common.{Result, Ok, Err}
 use mathlib.Core.Path.{◌≡◌, refl, sym, subst, ◌∙◌}
 use mathlib.Core.Bool.{Bool, true, false, cond}
 use mathlib.Core.List.{List, [], ◌∷◌, ◌++◌}
@@ -22,19 +23,10 @@ use Rattle.grammar.specs.declared.Reason.{Reason}
 use Rattle.grammar.specs.declared.Reason.TheVariants as reason
 use Rattle.grammar.proofs.Steps as steps
 use Rattle.grammar.proofs.Bytes.{digit_width, width_good}
-use Rattle.tokens.specs.Tokens.{hash_from, order_at, second_at, sign_at, amount_from, sized_at, number_of, sized_from, number_at}
+use Rattle.tokens.specs.Tokens.{hash_from, order_at, second_at, sign_at, amount_from, sized_at, wrong_at, number_of, sized_from, number_at}
 use Rattle.tokens.specs.Tokens.{added_at, code_at, escape_at, character_at}
 use Rattle.tokens.specs.Places.{Goes, GoesIn, StopsIn, behind}
-use Rattle.tokens.specs.declared.items.Item.{Item}
-use Rattle.tokens.specs.declared.items.Item.TheVariants as item-read
-use Rattle.tokens.specs.declared.amounts.Amount.{Amount}
-use Rattle.tokens.specs.declared.amounts.Amount.TheVariants as amount
-use Rattle.tokens.specs.declared.signs.Sign.{Sign}
-use Rattle.tokens.specs.declared.signs.Sign.TheVariants as sign
-use Rattle.tokens.specs.declared.amounts.Size.{Size}
-use Rattle.tokens.specs.declared.amounts.Size.TheVariants as size
-use Rattle.tokens.specs.declared.amounts.Number.{Number}
-use Rattle.tokens.specs.declared.amounts.Number.TheVariants as number
+use Rattle.tokens.specs.declared.Wrong.{Wrong}
 use Rattle.tokens.specs.declared.strings.Character.{Character}
 use Rattle.tokens.specs.declared.strings.Character.TheVariants as character
 use Rattle.tokens.proofs.Places as places
@@ -96,33 +88,33 @@ module _ (text : List ℕ) (at n v : ℕ) (h : Hashing text at n v) (b d : ℕ) 
         same = sym g ∙ h.same;
       }
 
-  pub hashing_wrong : 16 ≤ d → item-read.Wrong (at + n) ≡ hash_from 4 0 at (drop at text)
+  pub hashing_wrong : 16 ≤ d → Err (at + n) ≡ hash_from 4 0 at (drop at text)
   hashing_wrong i = wrong ∙ h.same
     where
       m : 4 - n ≡ suc (4 - (n + 1))
       m = omega arith
 
-      by : (t : Bool) → ltb (at + n) (length text) ≡ t → item-read.Wrong (at + n) ≡ hash_from (suc (4 - (n + 1))) v (at + n) (drop (at + n) text)
+      by : (t : Bool) → ltb (at + n) (length text) ≡ t → Err (at + n) ≡ hash_from (suc (4 - (n + 1))) v (at + n) (drop (at + n) text)
       by true z = unfold hash_from in rw (places.rest_of text (at + n) b (sym hb) (ltb-true (at + n) (length text) z), no_hex i)
       by false z = unfold hash_from in rw (places.no_rest text (at + n) (ltb-false (at + n) (length text) z))
 
-      wrong : item-read.Wrong (at + n) ≡ hash_from (4 - n) v (at + n) (drop (at + n) text)
+      wrong : Err (at + n) ≡ hash_from (4 - n) v (at + n) (drop (at + n) text)
       wrong = rw m (by (ltb (at + n) (length text)) refl)
 
-pub hashing_done : (text : List ℕ) (at n v : ℕ) → Hashing text at n v → 4 ≤ n → item-read.Is v (at + n) ≡ hash_from 4 0 at (drop at text)
+pub hashing_done : (text : List ℕ) (at n v : ℕ) → Hashing text at n v → 4 ≤ n → Ok (v, at + n) ≡ hash_from 4 0 at (drop at text)
 unfolding hash_from
 hashing_done text at n v h i = let z : 4 - n ≡ 0 = omega arith in (rw z at h.same)
 
 -- the machine behind "#" and k digits of the value v, where m + 1 digits more are wanted
-HashGoes : List ℕ → ℕ → ℕ → ℕ → ℕ → Item → Type 0
-HashGoes text m k v at (item-read.Is id e) = (at + suc m ≡ e) × (e ≤ length text) × GoesIn text (hash k v) at (item id) e
-HashGoes text m k v at (item-read.Wrong p) = StopsIn text (hash k v) at p reason.Item
+HashGoes : List ℕ → ℕ → ℕ → ℕ → ℕ → Result (ℕ × ℕ) ℕ → Type 0
+HashGoes text m k v at (Ok (id, e)) = (at + suc m ≡ e) × (e ≤ length text) × GoesIn text (hash k v) at (item id) e
+HashGoes text m k v at (Err p) = StopsIn text (hash k v) at p reason.Item
 
 hash_later : (text : List ℕ) (m k v at w : ℕ) → at < length text → GoesIn text (hash k v) at (hash (suc k) w) (at + 1)
-    → (r : Item) → HashGoes text m (suc k) w (at + 1) r → HashGoes text (suc m) k v at r
+    → (r : Result (ℕ × ℕ) ℕ) → HashGoes text m (suc k) w (at + 1) r → HashGoes text (suc m) k v at r
 unfolding HashGoes
-hash_later text m k v at w i g (item-read.Is id e) h = (omega (arith, h.0), h.1, λ l ls. g l ls ∙ h.2 l ls)
-hash_later text m k v at w i g (item-read.Wrong p) h = λ l ls. g l ls ∙ h l ls
+hash_later text m k v at w i g (Ok (id, e)) h = (omega (arith, h.0), h.1, λ l ls. g l ls ∙ h.2 l ls)
+hash_later text m k v at w i g (Err p) h = λ l ls. g l ls ∙ h l ls
 
 hash_goes : (text : List ℕ) (m k v : ℕ) (bs : List ℕ) (at : ℕ) → k + suc m ≡ 4 → drop at text ≡ bs → HashGoes text m k v at (hash_from (suc m) v at bs)
 unfolding hash_from HashGoes
@@ -152,20 +144,20 @@ hash_goes text m k v (b ∷ bs) at h e = by (places.next text at b bs e) (λ m j
         (rw (← add-one at) (ih m (omega arith) n.rest))
 
     by : places.Next text at b bs → Later → (t : Bool) → is_hex_digit b ≡ t → HashGoes text m k v at
-        (cond t (hash_from m (16 * v + hex_of b) (suc at) bs) (item-read.Wrong at))
+        (cond t (hash_from m (16 * v + hex_of b) (suc at) bs) (Err at))
     by n ih true z = more n ih z m h
     by n ih false z = places.part_wrong text at (hash k v) reason.Item (rw n.byte (unfold part_of in rw z))
 
-abbrev pub HashRead : List ℕ → ℕ → Item → Type 0
-HashRead text at (item-read.Is id e) = (at + 4 ≡ e) × (e ≤ length text) × GoesIn text (hash 0 0) at (item id) e
-HashRead text at (item-read.Wrong p) = StopsIn text (hash 0 0) at p reason.Item
+abbrev pub HashRead : List ℕ → ℕ → Result (ℕ × ℕ) ℕ → Type 0
+HashRead text at (Ok (id, e)) = (at + 4 ≡ e) × (e ≤ length text) × GoesIn text (hash 0 0) at (item id) e
+HashRead text at (Err p) = StopsIn text (hash 0 0) at p reason.Item
 
 pub hash_read : (text : List ℕ) (at : ℕ) → HashRead text at (hash_from 4 0 at (drop at text))
 hash_read text at = by (hash_from 4 0 at (drop at text)) (hash_goes text 3 0 0 (drop at text) at refl refl)
   where
-    by : (r : Item) → HashGoes text 3 0 0 at r → HashRead text at r
-    by (item-read.Is id e) h = unfold HashGoes in h
-    by (item-read.Wrong p) h = unfold HashGoes in h
+    by : (r : Result (ℕ × ℕ) ℕ) → HashGoes text 3 0 0 at r → HashRead text at r
+    by (Ok (id, e)) h = unfold HashGoes in h
+    by (Err p) h = unfold HashGoes in h
 
 -- ---- operators
 
@@ -174,16 +166,16 @@ pub record SignIs (text : List ℕ) (at : ℕ) (c : Comparison) (e : ℕ) : Type
   pub within : e ≤ length text
   pub runs : (id : ℕ) → GoesIn text (item id) at (constant id c) e
 
-abbrev pub SignRead : List ℕ → ℕ → Sign → Type 0
-SignRead text at (sign.Is c e) = SignIs text at c e
-SignRead text at (sign.Wrong p) = (id : ℕ) → StopsIn text (item id) at p reason.Operator
+abbrev pub SignRead : List ℕ → ℕ → Result (Comparison × ℕ) ℕ → Type 0
+SignRead text at (Ok (c, e)) = SignIs text at c e
+SignRead text at (Err p) = (id : ℕ) → StopsIn text (item id) at p reason.Operator
 
 module _ (text : List ℕ) (at b : ℕ) (hb : get_or text at 0 ≡ b) (high : 0 < b) where
   inside_text : at + 1 ≤ length text
   inside_text = omega (arith, places.byte_in text at b hb high)
 
   order_read : (c : Comparison) → ((id : ℕ) → part_of (item id) b ≡ on (order id c)) → (t : Bool) → eqb (get_or text (at + 1) 0) 61 ≡ t
-      → SignRead text at (cond t (sign.Is (or_equal c) (at + 1 + 1)) (sign.Is c (at + 1)))
+      → SignRead text at (cond t (Ok (or_equal c, at + 1 + 1)) (Ok (c, at + 1)))
   order_read c h true z =
       let y : get_or text (at + 1) 0 ≡ 61 = eqb-true (get_or text (at + 1) 0) 61 z in
       record {
@@ -201,7 +193,7 @@ module _ (text : List ℕ) (at b : ℕ) (hb : get_or text at 0 ≡ b) (high : 0 
       }
 
   second_read : (c : Comparison) → ((id : ℕ) → part_of (item id) b ≡ on (half id c)) → (t : Bool) → eqb (get_or text (at + 1) 0) 61 ≡ t
-      → SignRead text at (cond t (sign.Is c (at + 1 + 1)) (sign.Wrong (at + 1)))
+      → SignRead text at (cond t (Ok (c, at + 1 + 1)) (Err (at + 1)))
   second_read c h true z =
       let y : get_or text (at + 1) 0 ≡ 61 = eqb-true (get_or text (at + 1) 0) 61 z in
       record {
@@ -220,32 +212,32 @@ unfolding sign_at order_at second_at or_equal
 sign_read text at blank = by1 (eqb (get_or text at 0) 60) refl
   where
     by4 : eqb (get_or text at 0) 60 ≡ false → eqb (get_or text at 0) 62 ≡ false → eqb (get_or text at 0) 61 ≡ false → (t : Bool) → eqb (get_or text at 0) 33 ≡ t
-        → SignRead text at (cond t (cond (eqb (get_or text (at + 1) 0) 61) (sign.Is NotEqual (at + 1 + 1)) (sign.Wrong (at + 1))) (sign.Wrong at))
+        → SignRead text at (cond t (cond (eqb (get_or text (at + 1) 0) 61) (Ok (NotEqual, at + 1 + 1)) (Err (at + 1))) (Err at))
     by4 x y z true e =
         second_read text at 33 (eqb-true (get_or text at 0) 33 e) (omega arith) NotEqual (λ id. unfold part_of is_blank in refl)
         (eqb (get_or text (at + 1) 0) 61) refl
     by4 x y z false e = λ id l ls. places.part_wrong text at (item id) reason.Operator (unfold part_of in rw (blank, x, y, z, e)) l ls
 
     by3 : eqb (get_or text at 0) 60 ≡ false → eqb (get_or text at 0) 62 ≡ false → (t : Bool) → eqb (get_or text at 0) 61 ≡ t
-        → SignRead text at (cond t (cond (eqb (get_or text (at + 1) 0) 61) (sign.Is Equal (at + 1 + 1)) (sign.Wrong (at + 1)))
-        (cond (eqb (get_or text at 0) 33) (cond (eqb (get_or text (at + 1) 0) 61) (sign.Is NotEqual (at + 1 + 1)) (sign.Wrong (at + 1))) (sign.Wrong at)))
+        → SignRead text at (cond t (cond (eqb (get_or text (at + 1) 0) 61) (Ok (Equal, at + 1 + 1)) (Err (at + 1)))
+        (cond (eqb (get_or text at 0) 33) (cond (eqb (get_or text (at + 1) 0) 61) (Ok (NotEqual, at + 1 + 1)) (Err (at + 1))) (Err at)))
     by3 x y true e =
         second_read text at 61 (eqb-true (get_or text at 0) 61 e) (omega arith) Equal (λ id. unfold part_of is_blank in refl) (eqb (get_or text (at + 1) 0) 61) refl
     by3 x y false e = by4 x y e (eqb (get_or text at 0) 33) refl
 
     by2 : eqb (get_or text at 0) 60 ≡ false → (t : Bool) → eqb (get_or text at 0) 62 ≡ t
-        → SignRead text at (cond t (cond (eqb (get_or text (at + 1) 0) 61) (sign.Is GreaterOrEqual (at + 1 + 1)) (sign.Is Greater (at + 1)))
-        (cond (eqb (get_or text at 0) 61) (cond (eqb (get_or text (at + 1) 0) 61) (sign.Is Equal (at + 1 + 1)) (sign.Wrong (at + 1)))
-        (cond (eqb (get_or text at 0) 33) (cond (eqb (get_or text (at + 1) 0) 61) (sign.Is NotEqual (at + 1 + 1)) (sign.Wrong (at + 1))) (sign.Wrong at))))
+        → SignRead text at (cond t (cond (eqb (get_or text (at + 1) 0) 61) (Ok (GreaterOrEqual, at + 1 + 1)) (Ok (Greater, at + 1)))
+        (cond (eqb (get_or text at 0) 61) (cond (eqb (get_or text (at + 1) 0) 61) (Ok (Equal, at + 1 + 1)) (Err (at + 1)))
+        (cond (eqb (get_or text at 0) 33) (cond (eqb (get_or text (at + 1) 0) 61) (Ok (NotEqual, at + 1 + 1)) (Err (at + 1))) (Err at))))
     by2 x true e =
         order_read text at 62 (eqb-true (get_or text at 0) 62 e) (omega arith) Greater (λ id. unfold part_of is_blank in refl) (eqb (get_or text (at + 1) 0) 61) refl
     by2 x false e = by3 x e (eqb (get_or text at 0) 61) refl
 
     by1 : (t : Bool) → eqb (get_or text at 0) 60 ≡ t
-        → SignRead text at (cond t (cond (eqb (get_or text (at + 1) 0) 61) (sign.Is LessOrEqual (at + 1 + 1)) (sign.Is Less (at + 1)))
-        (cond (eqb (get_or text at 0) 62) (cond (eqb (get_or text (at + 1) 0) 61) (sign.Is GreaterOrEqual (at + 1 + 1)) (sign.Is Greater (at + 1)))
-        (cond (eqb (get_or text at 0) 61) (cond (eqb (get_or text (at + 1) 0) 61) (sign.Is Equal (at + 1 + 1)) (sign.Wrong (at + 1)))
-        (cond (eqb (get_or text at 0) 33) (cond (eqb (get_or text (at + 1) 0) 61) (sign.Is NotEqual (at + 1 + 1)) (sign.Wrong (at + 1))) (sign.Wrong at)))))
+        → SignRead text at (cond t (cond (eqb (get_or text (at + 1) 0) 61) (Ok (LessOrEqual, at + 1 + 1)) (Ok (Less, at + 1)))
+        (cond (eqb (get_or text at 0) 62) (cond (eqb (get_or text (at + 1) 0) 61) (Ok (GreaterOrEqual, at + 1 + 1)) (Ok (Greater, at + 1)))
+        (cond (eqb (get_or text at 0) 61) (cond (eqb (get_or text (at + 1) 0) 61) (Ok (Equal, at + 1 + 1)) (Err (at + 1)))
+        (cond (eqb (get_or text at 0) 33) (cond (eqb (get_or text (at + 1) 0) 61) (Ok (NotEqual, at + 1 + 1)) (Err (at + 1))) (Err at)))))
     by1 true e =
         order_read text at 60 (eqb-true (get_or text at 0) 60 e) (omega arith) Less (λ id. unfold part_of is_blank in refl) (eqb (get_or text (at + 1) 0) 61) refl
     by1 false e = by2 e (eqb (get_or text at 0) 62) refl
@@ -274,14 +266,14 @@ module _ (text : List ℕ) (at first : ℕ) where
           rw (places.rest_of text e b (sym hb) counting_in, d, le-leb (10 * v + (b - 48)) 4294967295 h, add-one e) in
           record { within = omega (arith, counting_in); small = omega arith; same = sym g ∙ r.same }
 
-      pub counting_large : 4294967295 < 10 * v + (b - 48) → amount.Large e ≡ amount_from first at (drop at text)
+      pub counting_large : 4294967295 < 10 * v + (b - 48) → Err e ≡ amount_from first at (drop at text)
       unfolding amount_from
       counting_large h = rw (places.rest_of text e b (sym hb) counting_in, d, lt-leb (10 * v + (b - 48)) 4294967295 h) at r.same
 
-    pub counting_done : digit b ≡ false → amount.Is v e ≡ amount_from first at (drop at text)
+    pub counting_done : digit b ≡ false → Ok (v, e) ≡ amount_from first at (drop at text)
     counting_done d = by (ltb e (length text)) refl ∙ r.same
       where
-        by : (t : Bool) → ltb e (length text) ≡ t → amount.Is v e ≡ amount_from v e (drop e text)
+        by : (t : Bool) → ltb e (length text) ≡ t → Ok (v, e) ≡ amount_from v e (drop e text)
         by true z = unfold amount_from in rw (places.rest_of text e b (sym hb) (ltb-true e (length text) z), d)
         by false z = unfold amount_from in rw (places.no_rest text e (ltb-false e (length text) z))
 
@@ -291,15 +283,15 @@ pub record AmountIs (text : List ℕ) (at first v e : ℕ) : Type 0 where
   pub stops : digit (get_or text e 0) ≡ false
   pub runs : (id : ℕ) (c : Comparison) → GoesIn text (digits id c first) at (digits id c v) e
 
-abbrev pub AmountRead : List ℕ → ℕ → ℕ → Amount → Type 0
-AmountRead text at first (amount.Is v e) = AmountIs text at first v e
-AmountRead text at first (amount.Large p) = (id : ℕ) (c : Comparison) → StopsIn text (digits id c first) at p reason.Large
+abbrev pub AmountRead : List ℕ → ℕ → ℕ → Result (ℕ × ℕ) ℕ → Type 0
+AmountRead text at first (Ok (v, e)) = AmountIs text at first v e
+AmountRead text at first (Err p) = (id : ℕ) (c : Comparison) → StopsIn text (digits id c first) at p reason.Large
 
 amount_later : (text : List ℕ) (at v w : ℕ) → ((id : ℕ) (c : Comparison) → GoesIn text (digits id c v) at (digits id c w) (at + 1))
-    → (r : Amount) → AmountRead text (at + 1) w r → AmountRead text at v r
-amount_later text at v w g (amount.Is x e) h =
+    → (r : Result (ℕ × ℕ) ℕ) → AmountRead text (at + 1) w r → AmountRead text at v r
+amount_later text at v w g (Ok (x, e)) h =
     record { forward = omega (arith, h.forward); within = h.within; stops = h.stops; runs = λ id c l ls. g id c l ls ∙ h.runs id c l ls }
-amount_later text at v w g (amount.Large p) h = λ id c l ls. g id c l ls ∙ h id c l ls
+amount_later text at v w g (Err p) h = λ id c l ls. g id c l ls ∙ h id c l ls
 
 pub amount_read : (text : List ℕ) (bs : List ℕ) (v at : ℕ) → drop at text ≡ bs → at ≤ length text → AmountRead text at v (amount_from v at bs)
 unfolding amount_from
@@ -312,7 +304,7 @@ amount_read text (b ∷ bs) v at e h =
     Later = drop (at + 1) text ≡ bs → at + 1 ≤ length text → AmountRead text (at + 1) (10 * v + (b - 48)) (amount_from (10 * v + (b - 48)) (at + 1) bs)
 
     more : places.Next text at b bs → Later → digit b ≡ true → (t : Bool) → leb (10 * v + (b - 48)) 4294967295 ≡ t
-        → AmountRead text at v (cond t (amount_from (10 * v + (b - 48)) (suc at) bs) (amount.Large at))
+        → AmountRead text at v (cond t (amount_from (10 * v + (b - 48)) (suc at) bs) (Err at))
     more n ih d true z =
         amount_later text at v (10 * v + (b - 48)) (λ id c. places.part_goes text at (digits id c v) (digits id c (10 * v + (b - 48))) b n.byte
         (omega (arith, tests.digit_least b d)) (steps.digit_more id c v b d (leb-true (10 * v + (b - 48)) 4294967295 z)))
@@ -321,8 +313,8 @@ amount_read text (b ∷ bs) v at e h =
         (rw n.byte (steps.digit_large id c v b d (leb-false (10 * v + (b - 48)) 4294967295 z)))
 
     by : places.Next text at b bs → Later → (t : Bool) → digit b ≡ t
-        → AmountRead text at v (cond t (cond (leb (10 * v + (b - 48)) 4294967295) (amount_from (10 * v + (b - 48)) (suc at) bs) (amount.Large at))
-        (amount.Is v at))
+        → AmountRead text at v (cond t (cond (leb (10 * v + (b - 48)) 4294967295) (amount_from (10 * v + (b - 48)) (suc at) bs) (Err at))
+        (Ok (v, at)))
     by n ih true d = more n ih d (leb (10 * v + (b - 48)) 4294967295) refl
     by n ih false d = record { forward = omega arith; within = h; stops = rw n.byte d; runs = λ id c l ls. refl }
 
@@ -346,16 +338,16 @@ pub record SizeIs (text : List ℕ) (at id v w e : ℕ) : Type 0 where
   pub good : width w ≡ true
   pub runs : (c : Comparison) (l : Level) (ls : List Level) → Goes text (inside (digits id c v) l ls) at (behind l ls (number_relation id c w v)) e
 
-abbrev pub SizeRead : List ℕ → ℕ → ℕ → ℕ → Size → Type 0
-SizeRead text at id v (size.Is w e) = SizeIs text at id v w e
-SizeRead text at id v (size.Wrong p) = (c : Comparison) → StopsIn text (digits id c v) at p reason.Width
+abbrev pub SizeRead : List ℕ → ℕ → ℕ → ℕ → Result (ℕ × ℕ) ℕ → Type 0
+SizeRead text at id v (Ok (w, e)) = SizeIs text at id v w e
+SizeRead text at id v (Err p) = (c : Comparison) → StopsIn text (digits id c v) at p reason.Width
 
 pub size_read : (text : List ℕ) (at id v : ℕ) → at ≤ length text → digit (get_or text at 0) ≡ false → SizeRead text at id v (sized_at text at id v)
 unfolding sized_at
 size_read text at id v within h = by (eqb (get_or text at 0) 58) refl
   where
     colon-read : get_or text at 0 ≡ 58 → (t : Bool) → is_width (get_or text (at + 1) 0) v ≡ t
-        → SizeRead text at id v (cond t (size.Is (get_or text (at + 1) 0 - 48) (at + 2)) (size.Wrong (at + 1)))
+        → SizeRead text at id v (cond t (Ok (get_or text (at + 1) 0 - 48, at + 2)) (Err (at + 1)))
     colon-read e true z =
         let y : at + 1 + 1 ≡ at + 2 = omega arith in
         let u : 0 < get_or text (at + 1) 0 = omega (arith, width_least (get_or text (at + 1) 0) v z) in
@@ -372,8 +364,8 @@ size_read text at id v within h = by (eqb (get_or text at 0) 58) refl
         ∙ places.part_wrong text (at + 1) (colon id c v) reason.Width (unfold part_of in rw z) l ls
 
     by : (t : Bool) → eqb (get_or text at 0) 58 ≡ t
-        → SizeRead text at id v (cond t (cond (is_width (get_or text (at + 1) 0) v) (size.Is (get_or text (at + 1) 0 - 48) (at + 2)) (size.Wrong (at + 1)))
-        (size.Is (width_of id v) at))
+        → SizeRead text at id v (cond t (cond (is_width (get_or text (at + 1) 0) v) (Ok (get_or text (at + 1) 0 - 48, at + 2)) (Err (at + 1)))
+        (Ok (width_of id v, at)))
     by true e = colon-read (eqb-true (get_or text at 0) 58 e) (is_width (get_or text (at + 1) 0) v) refl
     by false e =
         record {
@@ -391,9 +383,9 @@ pub record NumberIs (text : List ℕ) (at id v w e : ℕ) : Type 0 where
   pub good : width w ≡ true
   pub runs : (c : Comparison) (l : Level) (ls : List Level) → Goes text (inside (constant id c) l ls) at (behind l ls (number_relation id c w v)) e
 
-abbrev pub NumberRead : List ℕ → ℕ → ℕ → Number → Type 0
-NumberRead text at id (number.Is v w e) = NumberIs text at id v w e
-NumberRead text at id (number.Wrong p why) = (c : Comparison) → StopsIn text (constant id c) at p why
+abbrev pub NumberRead : List ℕ → ℕ → ℕ → Result (ℕ × ℕ × ℕ) Wrong → Type 0
+NumberRead text at id (Ok (v, w, e)) = NumberIs text at id v w e
+NumberRead text at id (Err w) = (c : Comparison) → StopsIn text (constant id c) at w.at w.reason
 
 module _ (text : List ℕ) (at id : ℕ) (d : digit (get_or text at 0) ≡ true) where
   high : 0 < get_or text at 0
@@ -406,21 +398,21 @@ module _ (text : List ℕ) (at id : ℕ) (d : digit (get_or text at 0) ≡ true)
   to_digits c =
       places.part_goes text at (constant id c) (digits id c (get_or text at 0 - 48)) (get_or text at 0) refl high (steps.wants_digit id c (get_or text at 0) d)
 
-  by_size : (v e : ℕ) → AmountIs text (at + 1) (get_or text at 0 - 48) v e → (s : Size) → SizeRead text e id v s → NumberRead text at id (number_of v s)
+  by_size : (v e : ℕ) → AmountIs text (at + 1) (get_or text at 0 - 48) v e → (s : Result (ℕ × ℕ) ℕ) → SizeRead text e id v s → NumberRead text at id (number_of v s)
   unfolding number_of
-  by_size v e a (size.Is w q) h =
+  by_size v e a (Ok (w, q)) h =
       record {
         forward = omega (arith, a.forward, h.forward);
         within = h.within;
         good = h.good;
         runs = λ c l ls. to_digits c l ls ∙ a.runs id c l ls ∙ h.runs c l ls;
       }
-  by_size v e a (size.Wrong p) h = λ c l ls. to_digits c l ls ∙ a.runs id c l ls ∙ h c l ls
+  by_size v e a (Err p) h = λ c l ls. to_digits c l ls ∙ a.runs id c l ls ∙ h c l ls
 
-  by_amount : (r : Amount) → AmountRead text (at + 1) (get_or text at 0 - 48) r → NumberRead text at id (sized_from text id r)
+  by_amount : (r : Result (ℕ × ℕ) ℕ) → AmountRead text (at + 1) (get_or text at 0 - 48) r → NumberRead text at id (sized_from text id r)
   unfolding sized_from
-  by_amount (amount.Is v e) a = by_size v e a (sized_at text e id v) (size_read text e id v a.within a.stops)
-  by_amount (amount.Large p) a = λ c l ls. to_digits c l ls ∙ a id c l ls
+  by_amount (Ok (v, e)) a = by_size v e a (sized_at text e id v) (size_read text e id v a.within a.stops)
+  by_amount (Err p) a = λ c l ls. to_digits c l ls ∙ a id c l ls
 
   pub number_read : NumberRead text at id (number_at text at id)
   unfolding number_at
@@ -430,36 +422,36 @@ module _ (text : List ℕ) (at id : ℕ) (d : digit (get_or text at 0) ≡ true)
 
 -- the code, at its returns
 module _ (text : List ℕ) (at id b : ℕ) (hb : b ≡ get_or text at 0) where
-  pub number_none : digit b ≡ false → number.Wrong at reason.Constant ≡ number_at text at id
+  pub number_none : digit b ≡ false → Err (wrong_at at reason.Constant) ≡ number_at text at id
   unfolding number_at
   number_none d = rw (← hb, d)
 
-  module _ (d : digit b ≡ true) (r : Amount) (ha : r ≡ amount_from (b - 48) (at + 1) (drop (at + 1) text)) where
+  module _ (d : digit b ≡ true) (r : Result (ℕ × ℕ) ℕ) (ha : r ≡ amount_from (b - 48) (at + 1) (drop (at + 1) text)) where
     by_digits : number_at text at id ≡ sized_from text id r
     unfolding number_at
     by_digits = rw (← hb, d, ← ha)
 
-    pub number_large : (p : ℕ) → r ≡ amount.Large p → number.Wrong p reason.Large ≡ number_at text at id
+    pub number_large : (p : ℕ) → r ≡ Err p → Err (wrong_at p reason.Large) ≡ number_at text at id
     unfolding sized_from
     number_large p z = sym (by_digits ∙ rw z)
 
-    module _ (v e : ℕ) (z : r ≡ amount.Is v e) where
+    module _ (v e : ℕ) (z : r ≡ Ok (v, e)) where
       pub amount_in : e ≤ length text
       amount_in =
           let h = digit_in text at id (rw (← hb) d) in
           let a = amount_read text (drop (at + 1) text) (b - 48) (at + 1) refl h in
-          (subst (λ (x : Amount). AmountRead text (at + 1) (b - 48) x) (sym ha ∙ z) a).within
+          (subst (λ (x : Result (ℕ × ℕ) ℕ). AmountRead text (at + 1) (b - 48) x) (sym ha ∙ z) a).within
 
-      module _ (s : Size) (hs : s ≡ sized_at text e id v) where
+      module _ (s : Result (ℕ × ℕ) ℕ) (hs : s ≡ sized_at text e id v) where
         by_width : number_at text at id ≡ number_of v s
         unfolding sized_from
         by_width = by_digits ∙ rw (z, hs)
 
-        pub number_width : (p : ℕ) → s ≡ size.Wrong p → number.Wrong p reason.Width ≡ number_at text at id
+        pub number_width : (p : ℕ) → s ≡ Err p → Err (wrong_at p reason.Width) ≡ number_at text at id
         unfolding number_of
         number_width p y = sym (by_width ∙ rw y)
 
-        pub number_is : (w q : ℕ) → s ≡ size.Is w q → number.Is v w q ≡ number_at text at id
+        pub number_is : (w q : ℕ) → s ≡ Ok (w, q) → Ok (v, w, q) ≡ number_at text at id
         unfolding number_of
         number_is w q y = sym (by_width ∙ rw y)
 

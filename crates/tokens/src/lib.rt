@@ -7,3 +7,12 @@ pub mod amounts;
 pub mod items;
 pub mod signs;
 pub mod strings;
+
+use grammar::Reason;
+
+// The first wrong place of a text, and why it is wrong.
+#[derive(Clone, Copy)]
+pub struct Wrong {
+    pub at: usize,
+    pub reason: Reason,
+}

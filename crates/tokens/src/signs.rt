@@ -6,37 +6,35 @@ ghost use Rattle.tokens.specs.Tokens.{order_at, second_at, sign_at};
 use grammar::Comparison;
 use names::bytes::byte_of;
 
-// An operator and the place behind it, or the first wrong place.
-#[derive(Clone, Copy)]
-pub enum Sign {
-    Is(Comparison, usize),
-    Wrong(usize),
-}
-
 // "<" or ">", and what stands behind it.
-fn order_at(text: &[u8], at: usize, alone: Comparison, equal: Comparison) -> Sign
+fn order_at(
+    text: &[u8],
+    at: usize,
+    alone: Comparison,
+    equal: Comparison,
+) -> Result<(Comparison, usize), usize>
     requires { at ≤ length text.now }
     ensures { result ≡ order_at text.now at alone equal }
 {
     if byte_of(text, at) == 61 {
-        return Sign::Is(equal, at + 1);
+        return Ok((equal, at + 1));
     }
-    Sign::Is(alone, at)
+    Ok((alone, at))
 }
 
 // The second byte of "==" or "!=".
-fn second_at(text: &[u8], at: usize, c: Comparison) -> Sign
+fn second_at(text: &[u8], at: usize, c: Comparison) -> Result<(Comparison, usize), usize>
     requires { at ≤ length text.now }
     ensures { result ≡ second_at text.now at c }
 {
     if byte_of(text, at) == 61 {
-        return Sign::Is(c, at + 1);
+        return Ok((c, at + 1));
     }
-    Sign::Wrong(at)
+    Err(at)
 }
 
-// The operator at a place.
-pub fn sign_at(text: &[u8], at: usize) -> Sign
+// The operator at a place and the place behind it, or the first wrong place.
+pub fn sign_at(text: &[u8], at: usize) -> Result<(Comparison, usize), usize>
     ensures { result ≡ sign_at text.now at }
 {
     let b = byte_of(text, at);
@@ -57,7 +55,7 @@ pub fn sign_at(text: &[u8], at: usize) -> Sign
     if b == 33 {
         return second_at(text, at + 1, Comparison::NotEqual);
     }
-    Sign::Wrong(at)
+    Err(at)
 }
 
 // The number of an operator.
@@ -75,15 +73,9 @@ pub fn operator_number(c: Comparison) -> u8
 }
 
 // A string may stand behind an operator.
+#[tactic(auto, unfolding(grammar::specs::Meaning::is_equality))]
 pub fn is_equality(c: Comparison) -> bool
     ensures { result ≡ is_equality c }
 {
-    match c {
-        Comparison::Equal => true,
-        Comparison::Greater => false,
-        Comparison::Less => false,
-        Comparison::NotEqual => true,
-        Comparison::GreaterOrEqual => false,
-        Comparison::LessOrEqual => false,
-    }
+    matches!(c, Comparison::Equal | Comparison::NotEqual)
 }

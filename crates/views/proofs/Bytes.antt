@@ -13,6 +13,7 @@ use Rattle.numbers.specs.Numbers.{number}
 use Rattle.packet.specs.Frame.{padded}
 use Rattle.header.specs.Header.{check_items, header_of}
 use Rattle.header.specs.declared.scan.Header.{Header}
+use Rattle.std.proofs.Common.{Result}
 use Rattle.blocks.specs.Owners.{blocks}
 use Rattle.blocks.specs.Contents.{held}
 use Rattle.blocks.specs.Answers.{window_number, read_out}
@@ -21,7 +22,7 @@ use Rattle.blocks.proofs.Held.{length_held}
 use Rattle.blocks.proofs.Laws.{read_gives}
 use Rattle.table.specs.declared.File.{File}
 use Rattle.table.specs.Table.{files}
-use Rattle.files.specs.Completion.{destinations_at}
+use Rattle.files.specs.Completion.{destinations_said, destinations_at}
 use Rattle.files.proofs.Soundness.{file_fits_law, file_room, disk_is, place_most}
 use Rattle.files.proofs.Completed.{destinations_is}
 use Rattle.links.proofs.Facts.{CompleteAt}
@@ -73,7 +74,7 @@ module _ (sv : Server) (l : Lent) (f : Facts sv l) (q : ℕ) (file : (files_of s
       q file
       ∙ go (eqb (check_items (files_of sv l q).bytes) 0) _ _
     where
-      go : (t : Bool) (x y : Header) → (cond t x y).destinations ≡ cond t x.destinations y.destinations
+      go : (t : Bool) (x y : Result Header ℕ) → destinations_said (cond t x y) ≡ cond t (destinations_said x) (destinations_said y)
       go true x y = refl
       go false x y = refl
 

@@ -15,8 +15,7 @@ use Rattle.blocks.proofs.Bits.{sum_to, count_ext}
 use Rattle.blocks.proofs.Owners.{held_sum}
 use Rattle.blocks.proofs.Agreement.{free_and_held}
 use Rattle.table.specs.declared.File as table
-use Rattle.table.specs.declared.Found.{Found}
-use Rattle.table.specs.declared.Found.TheVariants.{Nothing, At}
+use Rattle.std.proofs.Common.{Option, Some, None}
 use Rattle.table.specs.Table.{files, numbers, file_at, find_of, free_of}
 use Rattle.table.specs.Given.{blocks_for}
 use Rattle.table.specs.Fit.{Distinct}
@@ -40,9 +39,9 @@ use Rattle.views.proofs.Sums.{sum_moves, sum_zero, sum_ones, sum_below}
 
 module _ (fs : List table.File) (one : Distinct (numbers fs)) (w : table.File → ℕ) where
   -- of the file that is found
-  abbrev pub weigh : Found → ℕ
-  weigh Nothing = 0
-  weigh (At q) = w (file_at fs q)
+  abbrev pub weigh : Option ℕ → ℕ
+  weigh None = 0
+  weigh (Some q) = w (file_at fs q)
 
   -- of the numbers 1 to n
   unfoldable pub total : ℕ → ℕ
@@ -63,12 +62,12 @@ module _ (fs : List table.File) (one : Distinct (numbers fs)) (w : table.File �
   sum_next : (n : ℕ) → sum_to (length fs) (within (suc n)) ≡ sum_to (length fs) (within n) + weigh (find_of fs (suc n))
   sum_next n = go (find_of fs (suc n)) refl
     where
-      go : (r : Found) → find_of fs (suc n) ≡ r → sum_to (length fs) (within (suc n)) ≡ sum_to (length fs) (within n) + weigh r
-      go Nothing e =
+      go : (r : Option ℕ) → find_of fs (suc n) ≡ r → sum_to (length fs) (within (suc n)) ≡ sum_to (length fs) (within n) + weigh r
+      go None e =
           let k = count_ext (length fs) (within (suc n)) (within n)
           (λ q h. within_next n q (λ z. find_none fs (suc n) e (λ y. omega arith) q z)) in
           omega arith
-      go (At p) e =
+      go (Some p) e =
           let is = find_number_law fs (suc n) p e in
           let m = sum_moves (length fs) (within n) (within (suc n)) p (find_place fs (suc n) p e) (λ q ne. within_next n q (λ z. ne (apart p q is z))) in
           let a : within n p ≡ 0 = rw (is, le-leb 1 (suc n) (omega arith), lt-leb (suc n) n (omega arith)) in
@@ -79,7 +78,7 @@ module _ (fs : List table.File) (one : Distinct (numbers fs)) (w : table.File �
           apart p q x y =
               let a = find_own fs one q (λ z. omega arith) in
               let b = find_own fs one p (λ z. omega arith) in
-              let c : At q ≡ At p = sym a ∙ ap (find_of fs) (y ∙ sym x) ∙ b in
+              let c : Some q ≡ Some p = sym a ∙ ap (find_of fs) (y ∙ sym x) ∙ b in
               cc
 
   pub total_is : (n : ℕ) → total n ≡ sum_to (length fs) (within n)
@@ -118,9 +117,9 @@ module _ (sv : Server) (l : Lent) (g : Good sv l) where
   reserved_total (suc n) =
       reserved_append (listed n (numbered sv l)) (entry (numbered sv l (suc n))) ∙ ap₂ ◌+◌ (reserved_total n) (go (find_of fs (suc n)))
     where
-      go : (r : Found) → reserved (entry (file_in (files_of sv l) r)) ≡ weigh fs one (λ f. blocks_for f.size) r
-      go Nothing = refl
-      go (At q) = omega arith
+      go : (r : Option ℕ) → reserved (entry (file_in (files_of sv l) r)) ≡ weigh fs one (λ f. blocks_for f.size) r
+      go None = refl
+      go (Some q) = omega arith
 
   length_total : (n : ℕ) → length (listed n (numbered sv l)) ≡ total fs one (λ f. 1) n
   unfolding listed total entry
@@ -128,9 +127,9 @@ module _ (sv : Server) (l : Lent) (g : Good sv l) where
   length_total (suc n) =
       length-append (listed n (numbered sv l)) (entry (numbered sv l (suc n))) ∙ ap₂ ◌+◌ (length_total n) (go (find_of fs (suc n)))
     where
-      go : (r : Found) → length (entry (file_in (files_of sv l) r)) ≡ weigh fs one (λ f. 1) r
-      go Nothing = refl
-      go (At q) = refl
+      go : (r : Option ℕ) → length (entry (file_in (files_of sv l) r)) ≡ weigh fs one (λ f. 1) r
+      go None = refl
+      go (Some q) = refl
 
   known : (q : ℕ) → (file_at fs q).number ≤ sv.last.number
   known q = number_le sv.last.number sv.last.time _ fs (facts sv l g).store.files q
@@ -180,13 +179,13 @@ module _ (sv : Server) (l : Lent) (g : Good sv l) where
       (λ z. let e = within_file fs one (λ f. 1) sv.last.number q (known q) z in omega arith)
 
   -- no place is free
-  pub places_full : free_of fs ≡ Nothing → ltb (length (view sv l).files) sv.files ≡ false
+  pub places_full : free_of fs ≡ None → ltb (length (view sv l).files) sv.files ≡ false
   places_full e =
       let k = sum_ones (length fs) (within fs one (λ f. 1) sv.last.number)
       (λ q h. within_file fs one (λ f. 1) sv.last.number q (known q) (free_none fs e q h)) in
       le-ltb (length (view sv l).files) sv.files (omega (arith, counted, size_fs))
 
-  pub places_left : (p : ℕ) → free_of fs ≡ At p → ltb (length (view sv l).files) sv.files ≡ true
+  pub places_left : (p : ℕ) → free_of fs ≡ Some p → ltb (length (view sv l).files) sv.files ≡ true
   places_left p e =
       let f = free_place fs p e in
       let k = sum_below (length fs) (within fs one (λ f. 1) sv.last.number) at_most p f.0 (within_free fs one (λ f. 1) sv.last.number p f.1) in

@@ -12,8 +12,8 @@ use Rattle.session.specs.declared.state.Downlink.TheVariants as down
 use Rattle.session.specs.declared.state.Listed.{Listed}
 use Rattle.session.specs.declared.state.Listed.TheVariants as listed
 use Rattle.table.specs.declared.File as table
-use Rattle.table.specs.declared.Found.{Found}
-use Rattle.table.specs.declared.Found.TheVariants.{At}
+use Rattle.std.proofs.Common.{Some}
+use Rattle.std.specs.Prelude as std
 use Rattle.table.specs.Table.{files, numbers, find_of}
 use Rattle.table.specs.Fit.{Distinct}
 use Rattle.table.proofs.Finding.{find_own}
@@ -57,14 +57,14 @@ module _ (m : Mem) (once : Distinct (numbers (files m.table))) (selected : List 
 
   found_names : (l : Listed) → One l → found_in l next fs selected ≡ map (find_of fs) (names_of (files_in m) selected next l)
   unfolding found_in
-  found_names (listed.One place) one = ap (λ (x : Found). x ∷ []) (sym (find_own fs once place (one place refl).number))
+  found_names (listed.One place) one = ap (λ (x : std.Option ℕ). x ∷ []) (sym (find_own fs once place (one place refl).number))
   found_names (listed.Selected first) one = refl
 
   -- ---- the entries
 
   module _ (last : Last) (st : Stored m last) (long : Bool) where
     placed_entry : (place : ℕ) → CompleteAt fs place
-        → listing.entry_in long m.disk m.owner fs (At place) ≡ entry_in long (file_in (files_in m) (At place))
+        → listing.entry_in long m.disk m.owner fs (Some place) ≡ entry_in long (file_in (files_in m) (Some place))
     unfolding listing.entry_in entry_at
     placed_entry place c =
         rw (disk_is m.disk m.owner st.sizes place
@@ -73,7 +73,7 @@ module _ (m : Mem) (once : Distinct (numbers (files m.table))) (selected : List 
     entry_is : (n : ℕ) → Selectable fs n → listing.entry_in long m.disk m.owner fs (find_of fs n) ≡ entry_by m long n
     entry_is n h =
         ap (listing.entry_in long m.disk m.owner fs) h.found ∙ placed_entry h.place h.complete
-        ∙ ap (λ (x : Found). entry_in long (file_in (files_in m) x)) (sym h.found)
+        ∙ ap (λ (x : std.Option ℕ). entry_in long (file_in (files_in m) x)) (sym h.found)
 
     all_entries : (ns : List ℕ) → AllNamed fs ns
         → map (listing.entry_in long m.disk m.owner fs) (map (find_of fs) ns) ≡ map (entry_by m long) ns

@@ -4,8 +4,8 @@ use mathlib.Core.List.{List, [], ◌∷◌, ◌++◌}
 use mathlib.Core.Option.{Option, none, some}
 use Prim.Native.Nat.{ℕ, suc, ◌+◌}
 use native.Mathlib.Omega.{arith}
-use Rattle.table.specs.declared.Found.{Found}
-use Rattle.table.specs.declared.Found.TheVariants.{Nothing, At}
+use Rattle.std.proofs.Common.{Some, None}
+use Rattle.std.specs.Prelude as std
 use Rattle.table.specs.Table.{files, numbers, find_of}
 use Rattle.table.specs.Fit.{Distinct}
 use Rattle.table.proofs.Finding.{by_equal, find_number_law, find_none, find_absent, find_own}
@@ -31,9 +31,9 @@ clash e = let z : ◌≡◌ {A = ℕ} 0 1 = cc in omega arith
 pub by_own : (m : Mem) → Own (by_number m)
 by_own m n f e = go (find_of (files m.table) n) refl e
   where
-    go : (r : Found) → find_of (files m.table) n ≡ r → file_in (files_in m) r ≡ some f → f.number ≡ n
-    go Nothing q h = absurd (clash h)
-    go (At p) q h =
+    go : (r : std.Option ℕ) → find_of (files m.table) n ≡ r → file_in (files_in m) r ≡ some f → f.number ≡ n
+    go None q h = absurd (clash h)
+    go (Some p) q h =
         let z : file_of (files_in m p) ≡ f = cc in
         ap (λ (x : File). x.number) (sym z) ∙ find_number_law (files m.table) n p q
 
@@ -57,9 +57,9 @@ module _ (m m' : Mem) (one : Distinct (numbers (files m.table))) (two : Distinct
   pub elsewhere : (k : ℕ) → ((record_at m.table p).number ≡ k → ⊥) → ((record_at m'.table p).number ≡ k → ⊥) → by_number m' k ≡ by_number m k
   elsewhere k a b = by_equal k 0 (λ z. subst (λ (x : ℕ). by_number m' x ≡ by_number m x) (sym z) refl) (λ z. go z (find_of (files m.table) k) refl)
     where
-      go : (k ≡ 0 → ⊥) → (r : Found) → find_of (files m.table) k ≡ r → by_number m' k ≡ file_in (files_in m) r
-      go z Nothing e = absent k z (λ q ne h. find_none (files m.table) k e z q h) b
-      go z (At q) e =
+      go : (k ≡ 0 → ⊥) → (r : std.Option ℕ) → find_of (files m.table) k ≡ r → by_number m' k ≡ file_in (files_in m) r
+      go z None e = absent k z (λ q ne h. find_none (files m.table) k e z q h) b
+      go z (Some q) e =
           let n = find_number_law (files m.table) k q e in
           let ne : q ≡ p → ⊥ = λ s. a (ap (λ (x : ℕ). (record_at m.table x).number) (sym s) ∙ n) in
           let n' = same_number q ne ∙ n in
@@ -93,7 +93,7 @@ module _ (m m' : Mem) (one : Distinct (numbers (files m.table))) (two : Distinct
         own_place q h =
             let a = find_own (files m.table) one q (λ z. file (sym h ∙ z)) in
             let b = find_own (files m.table) one p file in
-            let c : At q ≡ At p = sym a ∙ ap (find_of (files m.table)) h ∙ b in
+            let c : Some q ≡ Some p = sym a ∙ ap (find_of (files m.table)) h ∙ b in
             cc
 
   -- a new file, whose number is above all

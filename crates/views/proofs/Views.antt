@@ -11,8 +11,8 @@ use lib.ListN.{length, set}
 use lib.Seq.{get_or-set_same, get_or-set_other, set-get_or}
 use Rattle.session.specs.declared.state.Session.{Session}
 use Rattle.session.specs.State.{closed_session}
-use Rattle.table.specs.declared.Found.{Found}
-use Rattle.table.specs.declared.Found.TheVariants.{Nothing, At}
+use Rattle.std.proofs.Common.{Some, None}
+use Rattle.std.specs.Prelude as std
 use Rattle.table.specs.Table.{files, find_of}
 use Rattle.table.proofs.Finding.{find_found, find_number_law, find_absent, find_own}
 use Rattle.table.proofs.Keeping.{number_le}
@@ -37,9 +37,9 @@ clash e = let z : ◌≡◌ {A = ℕ} 0 1 = cc in omega arith
 
 -- ---- files
 
-own_in : (sv : Server) (l : Lent) (n : ℕ) (r : Found) → find_of (files (table_part sv l)) n ≡ r → (f : File) → file_in (files_of sv l) r ≡ some f → f.number ≡ n
-own_in sv l n Nothing e f h = absurd (clash h)
-own_in sv l n (At p) e f h =
+own_in : (sv : Server) (l : Lent) (n : ℕ) (r : std.Option ℕ) → find_of (files (table_part sv l)) n ≡ r → (f : File) → file_in (files_of sv l) r ≡ some f → f.number ≡ n
+own_in sv l n None e f h = absurd (clash h)
+own_in sv l n (Some p) e f h =
     let z : file_of (files_of sv l p) ≡ f = cc in
     ap (λ (g : File). g.number) (sym z) ∙ find_number_law (files (table_part sv l)) n p e
 
@@ -77,9 +77,9 @@ module _ (sv : Server) (l : Lent) (g : Good sv l) where
   pub placed_at : (n : ℕ) (f : File) → find n (view sv l).files ≡ some f → Placed f
   placed_at n f e = go (find_of (files (table_part sv l)) n) refl (sym (find_view n) ∙ e)
     where
-      go : (r : Found) → find_of (files (table_part sv l)) n ≡ r → file_in (files_of sv l) r ≡ some f → Placed f
-      go Nothing q h = absurd (clash h)
-      go (At p) q h =
+      go : (r : std.Option ℕ) → find_of (files (table_part sv l)) n ≡ r → file_in (files_of sv l) r ≡ some f → Placed f
+      go None q h = absurd (clash h)
+      go (Some p) q h =
           record {
             place = p;
             live = λ z. (find_found (files (table_part sv l)) n p q).0 (sym (find_number_law (files (table_part sv l)) n p q) ∙ z);

@@ -1,5 +1,5 @@
 -- What a state of the server stands for in the machine of crates/model. Assumes nothing.
-use Rattle.std.specs.Prelude.{Bool, true, cond, List, [], ◌∷◌, ◌++◌, map, ℕ, zero, suc, ◌+◌, ◌*◌, ◌-◌, length, take, drop}
+use Rattle.std.specs.Prelude.{Bool, true, cond, List, [], ◌∷◌, ◌++◌, map, ℕ, zero, suc, ◌+◌, ◌*◌, ◌-◌, length, take, drop, Some, None}
 use Rattle.std.proofs.Math.Option.{Option, none, some}
 use Rattle.header.specs.Entries.{running_on}
 use Rattle.session.specs.declared.state.Session.{Session}
@@ -9,8 +9,7 @@ use Rattle.session.specs.declared.state.Downlink.{Downlink}
 use Rattle.session.specs.declared.state.Downlink.TheVariants as down
 use Rattle.session.specs.declared.state.Listed.{Listed}
 use Rattle.session.specs.declared.state.Listed.TheVariants.{One, Selected}
-use Rattle.table.specs.declared.Found.{Found}
-use Rattle.table.specs.declared.Found.TheVariants.{Nothing, At}
+use Rattle.std.specs.Prelude as std
 use Rattle.table.specs.Table.{files, find_of}
 use Rattle.files.specs.View.{View}
 use Rattle.server.specs.declared.Server.{Server}
@@ -27,9 +26,9 @@ use Rattle.model.specs.Downlink.{entry_in}
 abbrev pub file_of : View → File
 file_of v = file v.file.number v.file.size v.bytes v.file.time
 
-abbrev pub file_in : Files → Found → Option File
-file_in F Nothing = none
-file_in F (At place) = some (file_of (F place))
+abbrev pub file_in : Files → std.Option ℕ → Option File
+file_in F None = none
+file_in F (Some place) = some (file_of (F place))
 
 abbrev pub numbered : Server → Lent → ℕ → Option File
 numbered sv l n = file_in (files_of sv l) (find_of (files (table_part sv l)) n)

@@ -10,8 +10,8 @@ use lib.ListN.{length, drop}
 use borrow.Author.Tests.{leb-true, le-leb, lt-leb, eq-eqb, ne_eqb, le-ltb}
 use Rattle.equation.specs.Tree.{Tree, parse, truth_on}
 use Rattle.equation.specs.Answer.{refusal, validity_of}
-use Rattle.table.specs.declared.Found.{Found}
-use Rattle.table.specs.declared.Found.TheVariants.{Nothing, At}
+use Rattle.std.proofs.Common.{Some, None}
+use Rattle.std.specs.Prelude as std
 use Rattle.table.specs.Table.{files, find_of}
 use Rattle.why.specs.declared.Explained.{Explained}
 use Rattle.why.specs.Sizes.{Store}
@@ -92,26 +92,26 @@ module _ (eq : List ℕ) (t : Tree) (disk owner table : List ℕ) (most : ℕ) (
 
   -- ---- on the file at a place
 
-  pub place_partial : time_at table place ≡ 0 → whys (refused_by 11) named ≡ found_why eq t disk owner table most named (At place)
+  pub place_partial : time_at table place ≡ 0 → whys (refused_by 11) named ≡ found_why eq t disk owner table most named (Some place)
   unfolding found_why
   place_partial e = rw (eq-eqb (time_at table place) 0 e)
 
-  pub place_complete : (time_at table place ≡ 0 → ⊥) → file_why eq t disk owner table most named place ≡ found_why eq t disk owner table most named (At place)
+  pub place_complete : (time_at table place ≡ 0 → ⊥) → file_why eq t disk owner table most named place ≡ found_why eq t disk owner table most named (Some place)
   unfolding found_why
   place_complete h = rw (ne_eqb (time_at table place) 0 h)
 
 -- ---- on the file of a number
 
 module _ (eq : List ℕ) (number : ℕ) (disk owner table : List ℕ) (most : ℕ) (named : List ℕ) where
-  pub number_tree : (t : Tree) (found : Found) → parse eq ≡ some t → found ≡ find_of (files table) number
+  pub number_tree : (t : Tree) (found : std.Option ℕ) → parse eq ≡ some t → found ≡ find_of (files table) number
       → found_why eq t disk owner table most named found ≡ tree_why eq (parse eq) number disk owner table most named
   unfolding tree_why
   number_tree t found e f = rw (e, f)
 
-  pub number_none : (t : Tree) → parse eq ≡ some t → Nothing ≡ find_of (files table) number
+  pub number_none : (t : Tree) → parse eq ≡ some t → None ≡ find_of (files table) number
       → whys (refused_by 4) named ≡ tree_why eq (parse eq) number disk owner table most named
   unfolding found_why
-  number_none t e f = number_tree t Nothing e f
+  number_none t e f = number_tree t None e f
 
   -- ---- the whole
 

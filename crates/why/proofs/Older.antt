@@ -10,7 +10,7 @@ use borrow.Author.Tests.{le-ltb, lt-ltb}
 use Rattle.equation.specs.Answer.{selects}
 use Rattle.table.specs.declared.File.{File}
 use Rattle.table.specs.declared.Key.TheVariants.{Time}
-use Rattle.table.specs.declared.Found.TheVariants.{Nothing, At}
+use Rattle.std.proofs.Common.{Some, None}
 use Rattle.table.specs.Table.{files, times, uploaded}
 use Rattle.table.specs.Order.{next_complete, in_order}
 use Rattle.table.proofs.Records.{key_at, length_files}
@@ -56,11 +56,11 @@ module _ (eq disk owner table : List ℕ) (time : ℕ) where
     done : passing test (in_order after fs) ≡ [] → count ≡ older_of eq disk owner table time
     done e = omega (arith, ap length e, inv.counted)
 
-    pub count_none : next_complete fs after ≡ Nothing → count ≡ older_of eq disk owner table time
+    pub count_none : next_complete fs after ≡ None → count ≡ older_of eq disk owner table time
     unfolding passing
     count_none e = done (ap (passing test) (in_order_none after fs (complete_none fs after e)))
 
-    module _ (p : ℕ) (found : next_complete fs after ≡ At p) where
+    module _ (p : ℕ) (found : next_complete fs after ≡ Some p) where
       pub next_time : after < time_at table p
       next_time = (complete_found fs after p found).0
 

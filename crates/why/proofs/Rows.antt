@@ -1,59 +1,22 @@
 -- The row of reasons: numbers that move down in it, two parts that become one, and its first numbers copied.
-use mathlib.Core.Path.{◌≡◌, refl, sym, ap, ◌∙◌}
+use mathlib.Core.Path.{◌≡◌, sym, ap, ◌∙◌}
 use mathlib.Core.Bool.{Bool, true, false}
 use mathlib.Core.List.{List, [], ◌∷◌, ◌++◌, append_assoc}
-use Prim.Native.Nat.{ℕ, zero, suc, ◌+◌, ◌-◌, ◌≤◌, ◌<◌}
+use Prim.Native.Nat.{ℕ, zero, suc, ◌+◌, ◌-◌, ◌≤◌}
 use native.Mathlib.Omega.{arith}
-use native.Mathlib.Numerals.{add-one}
-use native.Mathlib.Nat.{zero-add}
-use lib.ListN.{length, get_or, set, take, drop, take-append-drop, length-set, length-append, length-drop}
-use lib.Seq.{sets, sets-eq, paste-suc, drop-cons, take_at, take-nil, take-take, length-take-le, drop-set-lt, length-sets}
+use lib.ListN.{length, take, drop, take-append-drop, length-append, length-drop}
+use lib.Seq.{sets, sets-eq, paste, take_at, take-nil, take-take, length-take-le, length-sets}
 use Rattle.why.specs.Run.{joined_row}
 
 -- ---- copying
 
-pub copy_step : (d s : List ℕ) (j : ℕ) → j < length d → j < length s → set (take j s ++ drop j d) j (get_or s j 0) ≡ take (j + 1) s ++ drop (j + 1) d
-copy_step d s j hd hs = rw (add-one j) (simp zero-add at (paste-suc d 0 s j 0 (omega arith) hs))
-
--- ---- moving down
-
--- the numbers from place i on go to place j on; those before are moved
-pub record Moving (row₀ row : List ℕ) (to from end i j : ℕ) : Type 0 where
-  pub low : to ≤ from
-  pub here : i + to ≡ j + from
-  pub begun : from ≤ i
-  pub within : i ≤ end
-  pub room : end ≤ length row₀
-  pub size : length row ≡ length row₀
-  pub left : sets row j (take (end - i) (drop i row)) ≡ sets row₀ to (take (end - from) (drop from row₀))
-
-pub move_start : (row : List ℕ) (to from end : ℕ) → to ≤ from → from ≤ end → end ≤ length row → Moving row row to from end from to
-move_start row to from end a b c =
-    record { low = a; here = omega arith; begun = omega arith; within = b; room = c; size = refl; left = refl }
-
-module _ (row₀ row : List ℕ) (to from end i j : ℕ) (inv : Moving row₀ row to from end i j) where
-  pub move_step : i < end → Moving row₀ (set row j (get_or row i 0)) to from end (i + 1) (j + 1)
-  move_step h =
-      let l : i < length row = omega (arith, inv.size, inv.room) in
-      let k : end - i ≡ suc (end - (i + 1)) = omega arith in
-      let e : take (end - i) (drop i row) ≡ get_or row i 0 ∷ take (end - (i + 1)) (drop (suc i) row) =
-      ap (λ (n : ℕ). take n (drop i row)) k ∙ ap (take (suc (end - (i + 1)))) (drop-cons row i 0 l) in
-      let d : drop (suc i) (set row j (get_or row i 0)) ≡ drop (suc i) row =
-      drop-set-lt (suc i) row j (get_or row i 0) (omega (arith, inv.here, inv.low)) in
-      record {
-        low = inv.low;
-        here = omega (arith, inv.here);
-        begun = omega (arith, inv.begun);
-        within = omega arith;
-        room = inv.room;
-        size = length-set row j (get_or row i 0) ∙ inv.size;
-        left = rw (add-one j, add-one i, d) (rw (add-one i) at (sym (ap (sets row j) e) ∙ inv.left));
-      }
-
-  pub move_done : end ≤ i → row ≡ sets row₀ to (take (end - from) (drop from row₀))
-  move_done h =
-      let z : end - i ≡ 0 = omega arith in
-      sym (ap (λ (n : ℕ). sets row j (take n (drop i row))) z) ∙ inv.left
+-- what a part of a row is moved down to, as std says it
+pub moved : (row : List ℕ) (to from end : ℕ) → to ≤ from → from ≤ end → end ≤ length row
+    → paste row to (drop from row) (end - from) ≡ sets row to (take (end - from) (drop from row))
+moved row to from end a b c =
+    let n : length (take (end - from) (drop from row)) ≡ end - from =
+    length-take-le (end - from) (drop from row) (omega (arith, length-drop from row)) in
+    sym (sets-eq (take (end - from) (drop from row)) row to (omega (arith, n)) ∙ rw n)
 
 -- ---- two parts become one
 

@@ -1,13 +1,12 @@
 -- What `why` answers, and what it leaves in the numbers lent to it. Refusals in the order of document 02, A5, "8, then 4, then 11", with
 -- document 01's 33 for sizes first and for too few numbers lent last. Assumes nothing.
-use Rattle.std.specs.Prelude.{Bool, false, ◌&&◌, cond, List, [], ◌++◌, ℕ, ◌*◌, ◌/◌, ltb, leb, eqb, length, drop}
+use Rattle.std.specs.Prelude.{Bool, false, ◌&&◌, cond, List, [], ◌++◌, ℕ, ◌*◌, ◌/◌, ltb, leb, eqb, length, drop, Some, None}
 use Rattle.std.proofs.Math.Option.{Option, none, some}
 use Rattle.header.specs.Items.{Field, fields_of}
 use Rattle.equation.specs.Holds.{holds}
 use Rattle.equation.specs.Tree.{Tree, parse, truth_on}
 use Rattle.equation.specs.Answer.{selects}
-use Rattle.table.specs.declared.Found.{Found}
-use Rattle.table.specs.declared.Found.TheVariants.{Nothing, At}
+use Rattle.std.specs.Prelude as std
 use Rattle.table.specs.Table.{files, uploaded, find_of}
 use Rattle.table.specs.Order.{in_order}
 use Rattle.files.specs.View.{record_at, bytes_at}
@@ -73,9 +72,9 @@ file_why eq t disk owner table most named place =
     (reasons_on (items_at disk owner table place) t) named
 
 -- 4, "no such file"; 11, a file that is not complete
-unfoldable pub found_why : List ℕ → Tree → List ℕ → List ℕ → List ℕ → ℕ → List ℕ → Found → Whys
-found_why eq t disk owner table most named Nothing = whys (refused_by 4) named
-found_why eq t disk owner table most named (At place) =
+unfoldable pub found_why : List ℕ → Tree → List ℕ → List ℕ → List ℕ → ℕ → List ℕ → std.Option ℕ → Whys
+found_why eq t disk owner table most named None = whys (refused_by 4) named
+found_why eq t disk owner table most named (Some place) =
     cond (eqb (time_at table place) 0) (whys (refused_by 11) named) (file_why eq t disk owner table most named place)
 
 -- 8, "equation refused"

@@ -10,7 +10,7 @@
 // No function asks anything of its caller. A refusal is a number of document 01's table and leaves everything as it was.
 #![tactic(auto)]
 
-ghost use Rattle.std.specs.Prelude.{◌≡◌, ◌+◌, ◌/◌, ◌≤◌, ◌<◌, cond, ◌++◌, length, take, drop};
+ghost use Rattle.std.specs.Prelude.{◌≡◌, ◌+◌, ◌/◌, ◌≤◌, ◌<◌, cond, ◌++◌, length, take, drop, Some};
 ghost use Rattle.std.proofs.Math.Option.{some};
 ghost use Rattle.header.specs.Items.{fields_of};
 ghost use Rattle.equation.specs.Tree.{Tree, parse};
@@ -18,14 +18,12 @@ ghost use Rattle.equation.specs.Marks.{settled_by};
 ghost use Rattle.equation.specs.Parsed.{relations_by};
 ghost use Rattle.equation.specs.Answer.{selects};
 ghost use Rattle.stored.specs.Answers.{file_at};
-ghost use Rattle.table.specs.declared.Found.TheVariants.{At};
 ghost use Rattle.why.specs.Answer.{whys, refused_by, sizes_fit, older_of, told, file_why, found_why, tree_why, why_of};
 ghost use Rattle.why.specs.Run.{result_on, Tells};
 ghost use Rattle.why.specs.Sizes.{Store, Ready};
 
 use crate::reasons::{Decided, decide};
-use equation::evaluation::{Truth, outcome};
-use table::Found;
+use equation::evaluation::{outcome, parse};
 
 mod reasons;
 
@@ -97,7 +95,8 @@ fn settle_file(
     requires { Store disk.now owner.now × (place < 256) }
     ensures { truths.new ≡ settled_by (fields_of (file_at disk.now owner.now place received)) (relations_by eq.now steps.now) truths.old }
 {
-    stored::settle_at(
+    // where the sizes are refused, the marks stay as they are
+    let _ = stored::settle_at(
         eq,
         steps,
         disk,
@@ -108,19 +107,14 @@ fn settle_file(
     );
 }
 
-// Whether the equation is true on the file at a place; the steps are the equation's.
+// Whether the equation is true on the file at a place; the steps are the equation's, so it is not refused.
 fn meets(eq: &[u8], steps: &[u16], disk: &[u8], owner: &[u16], place: usize, received: u32) -> bool
     requires { Ready eq.now steps.now × Store disk.now owner.now × (place < 256) }
     ensures { result ≡ selects eq.now (fields_of (file_at disk.now owner.now place received)) }
 {
     let mut truths = [0u8; 511];
     settle_file(eq, steps, disk, owner, place, received, &mut truths);
-    let truth = outcome(steps, &truths);
-    match truth {
-        Truth::No => false,
-        Truth::Yes => true,
-        Truth::Refused(_) => false,
-    }
+    outcome(steps, &truths).unwrap_or(false)
 }
 
 // ---- the older files
@@ -130,10 +124,7 @@ fn counted(count: usize, met: bool) -> usize
     requires { count < 256 }
     ensures { result ≡ cond met (count + 1) count }
 {
-    if met {
-        return count + 1;
-    }
-    count
+    if met { count + 1 } else { count }
 }
 
 // How many complete files that are older than a time match. They are gone through oldest first, and each header is read once.
@@ -150,11 +141,12 @@ fn count_older(
 {
     let mut count: usize = 0;
     let mut after: u32 = 0;
+    // a `loop`: each turn goes on behind the file that it found, in the order of the upload times
     loop {
         let next = table::next_complete(table, after);
         match next {
-            Found::Nothing => return count,
-            Found::At(place) => {
+            None => return count,
+            Some(place) => {
                 let file = table::get(table, place);
                 after = table::upload_time_of(file);
                 if time <= after {
@@ -188,18 +180,6 @@ fn tell(matched: bool, older: usize, most: usize, count: usize) -> Explained
         beyond: false,
         older: 0,
         count,
-    }
-}
-
-// Copies the first m numbers of a row.
-fn copy(row: &[u16], m: usize, named: &mut [u16])
-    requires { (m ≤ length row.now) × (m ≤ length named.old) }
-    ensures { named.new ≡ take m row.now ++ drop m named.old }
-{
-    let mut i = 0;
-    while i < m {
-        named[i] = row[i];
-        i += 1;
     }
 }
 
@@ -261,7 +241,7 @@ fn why_file(
     if named.len() < count {
         return refused_by(33);
     }
-    copy(&row, count, named);
+    named[..count].copy_from_slice(&row[..count]);
     let matched = decided.matched;
     let time = table::upload_time_of(file);
     let older = older_where(matched, eq, steps, disk, owner, table, time);
@@ -280,7 +260,7 @@ fn why_place(
     place: usize,
 ) -> Explained
     requires { Ready eq.now steps.now × Store disk.now owner.now × (length table.now / 4 ≤ 256) }
-    ensures { (t : Tree) → parse eq.now ≡ some t → whys result named.new ≡ found_why eq.now t disk.now owner.now table.now most named.old (At place) }
+    ensures { (t : Tree) → parse eq.now ≡ some t → whys result named.new ≡ found_why eq.now t disk.now owner.now table.now most named.old (Some place) }
 {
     if table::upload_time_of(table::get(table, place)) == 0 {
         return refused_by(11);
@@ -304,8 +284,8 @@ fn why_number(
 {
     let found = table::find(table, number);
     match found {
-        Found::Nothing => refused_by(4),
-        Found::At(place) => why_place(eq, steps, disk, owner, table, most, named, place),
+        None => refused_by(4),
+        Some(place) => why_place(eq, steps, disk, owner, table, most, named, place),
     }
 }
 
@@ -323,14 +303,12 @@ pub fn why(
 ) -> Explained
     ensures { whys result named.new ≡ why_of eq.now number disk.now owner.now table.now most named.old }
 {
-    if sizes_fit(eq.len(), disk.len(), owner.len(), table.len(), most) {
-        let mut steps = [0u16; 2047];
-        let parsed = equation::evaluation::parse(eq, &mut steps);
-        if parsed.refused == 0 {
-            let n = parsed.count;
-            return why_number(eq, &steps[0..n], number, disk, owner, table, most, named);
-        }
-        return refused_by(parsed.refused);
+    if !sizes_fit(eq.len(), disk.len(), owner.len(), table.len(), most) {
+        return refused_by(33);
     }
-    refused_by(33)
+    let mut steps = [0u16; 2047];
+    match parse(eq, &mut steps) {
+        Ok(n) => why_number(eq, &steps[..n], number, disk, owner, table, most, named),
+        Err(refusal) => refused_by(u8::from(refusal)),
+    }
 }

@@ -27,11 +27,7 @@ fn nothing() -> Decided
 fn settles_it(all: bool, truth: bool) -> bool
     ensures { result ≡ settles all truth }
 {
-    if all {
-        if truth { false } else { true }
-    } else {
-        truth
-    }
+    all != truth
 }
 
 // The truth of the first operand, or of the second.
@@ -39,20 +35,6 @@ fn pick(first: bool, a: bool, b: bool) -> bool
     ensures { result ≡ cond first a b }
 {
     if first { a } else { b }
-}
-
-// The numbers from place `from` up to `end` move down to place `to`.
-fn move_down(row: &mut [u16], to: usize, from: usize, end: usize)
-    requires { (to ≤ from) × (from ≤ end) × (end ≤ length row.old) }
-    ensures { row.new ≡ sets row.old to (take (end - from) (drop from row.old)) }
-{
-    let mut i = from;
-    let mut j = to;
-    while i < end {
-        row[j] = row[i];
-        i += 1;
-        j += 1;
-    }
 }
 
 // Joins the reasons of the last two results, which begin at `first` and at `second` and end at `end`, and answers where they end now.
@@ -65,7 +47,7 @@ fn join(row: &mut [u16], first: usize, second: usize, end: usize, p: bool, q: bo
         return second;
     }
     if q {
-        move_down(row, first, second, end);
+        row.copy_within(second..end, first);
         return first + (end - second);
     }
     end
@@ -78,13 +60,11 @@ pub(crate) fn decide(steps: &[u16], truths: &[u8], row: &mut [u16]) -> Decided
 {
     let mut bits = [false; 100];
     let mut from = [0usize; 100];
-    let mut d: usize = 0;
-    let mut n: usize = 0;
-    let mut i: usize = 0;
+    let mut d = 0;
+    let mut n = 0;
     let mut k: usize = 0;
-    while i < steps.len() {
-        let s = steps[i];
-        i += 1;
+    for step in steps {
+        let s = *step;
         if s < 2048 {
             if 100 <= d {
                 return nothing();
@@ -96,10 +76,7 @@ pub(crate) fn decide(steps: &[u16], truths: &[u8], row: &mut [u16]) -> Decided
             n += 1;
             d += 1;
         } else {
-            if 2049 < s {
-                return nothing();
-            }
-            if d < 2 {
+            if 2049 < s || d < 2 {
                 return nothing();
             }
             let j = d - 2;

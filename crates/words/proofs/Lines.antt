@@ -1,6 +1,8 @@
 -- No reply is longer than 8,192 bytes. Assumes nothing.
+use Rattle.std.proofs.Common.{None, Some}
+use Rattle.std.proofs.Common as std
 use native.Mathlib.Omega.{arith}
-use mathlib.Core.Path.{◌≡◌, refl, sym, ◌∙◌, ap}
+use mathlib.Core.Path.{◌≡◌, refl}
 use mathlib.Core.Bool.{Bool, true, false, cond}
 use mathlib.Core.List.{List}
 use mathlib.Core.Option.{Option, none, some}
@@ -9,36 +11,33 @@ use lib.Dec.{eqb, ltb, leb}
 use lib.ListN.{length, drop, get_or, length-drop}
 use borrow.Author.Tests.{leb-true}
 use Rattle.packet.specs.Names.{bytes_of}
-use Rattle.lines.specs.declared.numeral.Digits.{Digits}
-use Rattle.lines.specs.declared.numeral.Digits.TheVariants as decimal
 use Rattle.lines.specs.Numerals.{digits, value_from, decimal_by, decimal_at, is_hex, bytes_in}
 use Rattle.names.specs.Names.{begins_with}
-use Rattle.grammar.specs.Machine.{outcome_of}
-use Rattle.words.specs.Why.{told_by, why_line, paper_told, hex_told, tabbed, text_reply, hex_reply, reply_by, ask_in, why_reply}
+use Rattle.words.specs.Why.{told_by, why_line, hex_told, tabbed, text_reply, hex_reply, reply_by, ask_in, why_reply}
 use Rattle.words.proofs.Room.{why_fits, paper_fits}
 
 -- ---- a number that was read has 32 bits
 
-Within : Digits → Type 0
-Within decimal.Bad = Unit {0}
-Within (decimal.Value v next) = v < 4294967296
+Within : std.Option (ℕ × ℕ) → Type 0
+Within None = Unit {0}
+Within (Some (v, next)) = v < 4294967296
 
 within_decimal : (line : List ℕ) (at : ℕ) → Within (decimal_at line at)
 unfolding Within decimal_at decimal_by
 within_decimal line at = by (ltb 0 (length (digits (drop at line)))) (leb (value_from 0 (digits (drop at line))) 4294967295) refl
   where
     by : (s t : Bool) → leb (value_from 0 (digits (drop at line))) 4294967295 ≡ t
-        → Within (cond s (cond t (decimal.Value (value_from 0 (digits (drop at line))) (at + length (digits (drop at line)))) decimal.Bad) decimal.Bad)
+        → Within (cond s (cond t (Some (value_from 0 (digits (drop at line)), at + length (digits (drop at line)))) None) None)
     by true true e = omega (arith, leb-true (value_from 0 (digits (drop at line))) 4294967295 e)
     by true false e = tt
     by false t e = tt
 
-within_tabbed : (d : Digits) (line : List ℕ) → Within d → Within (tabbed d line)
+within_tabbed : (d : std.Option (ℕ × ℕ)) (line : List ℕ) → Within d → Within (tabbed d line)
 unfolding Within tabbed
-within_tabbed decimal.Bad line h = tt
-within_tabbed (decimal.Value v next) line h = by (eqb (get_or line next 0) 9)
+within_tabbed None line h = tt
+within_tabbed (Some (v, next)) line h = by (eqb (get_or line next 0) 9)
   where
-    by : (t : Bool) → Within (cond t (decimal.Value v (next + 1)) decimal.Bad)
+    by : (t : Bool) → Within (cond t (Some (v, next + 1)) None)
     by true = h
     by false = tt
 
@@ -53,15 +52,15 @@ short_cond true a b h i = h
 short_cond false a b h i = i
 
 module _ (disk owner table : List ℕ) (most : ℕ) (line : List ℕ) (h : length line < 9223372036854775808) where
-  short_text : (d : Digits) → Within d → Short (text_reply (ask_in disk owner table most) line d)
+  short_text : (d : std.Option (ℕ × ℕ)) → Within d → Short (text_reply (ask_in disk owner table most) line d)
   unfolding Short Within text_reply
-  short_text decimal.Bad w = tt
-  short_text (decimal.Value number at) w = paper_fits disk owner table most number w (drop at line) (omega (arith, h, length-drop at line))
+  short_text None w = tt
+  short_text (Some (number, at)) w = paper_fits disk owner table most number w (drop at line) (omega (arith, h, length-drop at line))
 
-  short_hex : (d : Digits) → Within d → Short (hex_reply (ask_in disk owner table most) line d)
+  short_hex : (d : std.Option (ℕ × ℕ)) → Within d → Short (hex_reply (ask_in disk owner table most) line d)
   unfolding Short Within hex_reply hex_told
-  short_hex decimal.Bad w = tt
-  short_hex (decimal.Value number at) w =
+  short_hex None w = tt
+  short_hex (Some (number, at)) w =
       short_cond (is_hex (drop at line)) _ none
       (short_cond (leb (length (bytes_in (drop at line))) 65536)
       (some (why_line number (told_by (ask_in disk owner table most number (bytes_in (drop at line)))))) none

@@ -1,9 +1,11 @@
 -- The replies to lines, by the cases of the code. Assumes nothing.
+use Rattle.std.proofs.Common.{None, Some}
+use Rattle.std.proofs.Common as std
 use native.Mathlib.Omega.{arith}
 use mathlib.Core.Path.{◌≡◌, refl, sym, ◌∙◌, ap}
 use mathlib.Core.Bool.{Bool, true, false, cond}
-use mathlib.Core.List.{List, [], ◌∷◌, ◌++◌}
-use mathlib.Core.Option.{Option, none, some}
+use mathlib.Core.List.{List, ◌++◌}
+use mathlib.Core.Option.{none, some}
 use Prim.Native.Nat.{ℕ, ◌+◌, ◌≤◌, ◌<◌}
 use lib.Dec.{eqb, ltb, leb}
 use lib.ListN.{length, take, drop, get_or, replicate, length-append, length-replicate, get_or-eq_default}
@@ -11,10 +13,6 @@ use lib.Seq.{take_at}
 use borrow.Author.Tests.{eqb-true, ltb-true, ltb-false}
 use Rattle.packet.specs.Names.{bytes_of}
 use Rattle.lines.specs.Numerals.{decimal_at, is_hex, bytes_in, HexRead, hex_read, hex_in}
-use Rattle.lines.specs.declared.numeral.Digits.{Digits}
-use Rattle.lines.specs.declared.numeral.Digits.TheVariants as decimal
-use Rattle.lines.specs.declared.numeral.Pairs.{Pairs}
-use Rattle.lines.specs.declared.numeral.Pairs.TheVariants as pairs
 use Rattle.lines.specs.Lines.{printed, printed_in}
 use Rattle.names.specs.Names.{begins_with}
 use Rattle.grammar.specs.Formula.{postfix}
@@ -22,9 +20,7 @@ use Rattle.grammar.specs.Machine.{Outcome, accepted, refused, outcome_of}
 use Rattle.paper.specs.Answer as paper
 use Rattle.paper.specs.declared.Answer.{Answer}
 use Rattle.paper.specs.declared.Answer.TheVariants as answer
-use Rattle.replies.specs.Reply.{said_of, Replies, replies, lined, replied}
-use Rattle.replies.specs.declared.Reply as reply_of_law
-use Rattle.replies.specs.declared.Reply.TheVariants as reply
+use Rattle.replies.specs.Reply.{said_of, replies, lined, replied}
 use Rattle.replies.proofs.ReplyLaws.{print_line}
 use Rattle.why.specs.Answer.{Whys}
 use Rattle.words.specs.Pieces.{Pushed}
@@ -74,37 +70,37 @@ some_byte line k e = by (ltb k (length line)) refl
     by true f = ltb-true k (length line) f
     by false f = absurd (omega (arith, e, get_or-eq_default line 0 {n = k} (ltb-false k (length line) f)))
 
-place : Digits → ℕ
-place decimal.Bad = 0
-place (decimal.Value v next) = next
+place : std.Option (ℕ × ℕ) → ℕ
+place None = 0
+place (Some (v, next)) = next
 
-pub tab_within : (d : Digits) (line : List ℕ) (v k : ℕ) → tabbed d line ≡ decimal.Value v k → k ≤ length line
+pub tab_within : (d : std.Option (ℕ × ℕ)) (line : List ℕ) (v k : ℕ) → tabbed d line ≡ Some (v, k) → k ≤ length line
 unfolding tabbed place
-tab_within decimal.Bad line v k e = omega (arith, ap place e)
-tab_within (decimal.Value w next) line v k e = by (eqb (get_or line next 0) 9) refl e
+tab_within None line v k e = omega (arith, ap place e)
+tab_within (Some (w, next)) line v k e = by (eqb (get_or line next 0) 9) refl e
   where
-    by : (t : Bool) → eqb (get_or line next 0) 9 ≡ t → cond t (decimal.Value w (next + 1)) decimal.Bad ≡ decimal.Value v k → k ≤ length line
+    by : (t : Bool) → eqb (get_or line next 0) 9 ≡ t → cond {A = std.Option (ℕ × ℕ)} t (Some (w, next + 1)) None ≡ Some (v, k) → k ≤ length line
     by true f g = omega (arith, ap place g, some_byte line next (eqb-true (get_or line next 0) 9 f))
     by false f g = omega (arith, ap place g)
 
 -- ---- the replies
 
-module _ (ask : Asking) (line text : List ℕ) (d : Digits) where
-  pub text_bad : d ≡ decimal.Bad → replies reply.Unreadable text ≡ replied (text_reply ask line d) text
+module _ (ask : Asking) (line text : List ℕ) (d : std.Option (ℕ × ℕ)) where
+  pub text_bad : d ≡ None → replies None text ≡ replied (text_reply ask line d) text
   unfolding text_reply replied
   text_bad e = rw e
 
-  pub text_value : (number at : ℕ) → d ≡ decimal.Value number at → (rest later : List ℕ) (r : ℕ) → rest ≡ drop at line
+  pub text_value : (number at : ℕ) → d ≡ Some (number, at) → (rest later : List ℕ) (r : ℕ) → rest ≡ drop at line
       → printed r later ≡ printed_in (why_line number (paper_told (ask number) (outcome_of rest))) text
-      → replies (reply.Line r) later ≡ replied (text_reply ask line d) text
+      → replies (Some r) later ≡ replied (text_reply ask line d) text
   unfolding text_reply replied
   text_value number at e rest later r f g = rw (e, ← f) (ap lined g)
 
-  pub hex_bad : d ≡ decimal.Bad → replies reply.Unreadable text ≡ replied (hex_reply ask line d) text
+  pub hex_bad : d ≡ None → replies None text ≡ replied (hex_reply ask line d) text
   unfolding hex_reply replied
   hex_bad e = rw e
 
-  pub hex_value_law : (number at : ℕ) → d ≡ decimal.Value number at → (rest later : List ℕ) (r : reply_of_law.Reply) → rest ≡ drop at line
+  pub hex_value_law : (number at : ℕ) → d ≡ Some (number, at) → (rest later : List ℕ) (r : std.Option ℕ) → rest ≡ drop at line
       → replies r later ≡ replied (hex_told (ask number) number rest) text
       → replies r later ≡ replied (hex_reply ask line d) text
   unfolding hex_reply
@@ -112,28 +108,28 @@ module _ (ask : Asking) (line text : List ℕ) (d : Digits) where
 
 -- ---- hex
 
-kind : Pairs → ℕ
-kind pairs.Bad = 0
-kind (pairs.Bytes n) = 1
+kind : std.Option ℕ → ℕ
+kind None = 0
+kind (Some n) = 1
 
-module _ (ask : List ℕ → Whys) (number : ℕ) (field bytes now : List ℕ) (r : Pairs) (big : length bytes ≡ 65536)
+module _ (ask : List ℕ → Whys) (number : ℕ) (field bytes now : List ℕ) (r : std.Option ℕ) (big : length bytes ≡ 65536)
     (e : hex_read r now ≡ hex_in field bytes) where
   pub record HexIs (n : ℕ) : Type 0 where
     pub line : hex_told ask number field ≡ some (why_line number (told_by (ask (bytes_in field))))
     pub front : take n now ≡ bytes_in field
     pub within : n ≤ length now
 
-  pub field_is : (n : ℕ) → r ≡ pairs.Bytes n → HexIs n
+  pub field_is : (n : ℕ) → r ≡ Some n → HexIs n
   unfolding hex_in hex_told kind
   field_is n z = by (is_hex field) refl (leb (length (bytes_in field)) (length bytes)) refl e
     where
       by : (s : Bool) → is_hex field ≡ s → (t : Bool) → leb (length (bytes_in field)) (length bytes) ≡ t
           → hex_read r now
-          ≡ cond s (cond t (hex_read (pairs.Bytes (length (bytes_in field))) (bytes_in field ++ drop (length (bytes_in field)) bytes)) (hex_read pairs.Bad bytes))
-          (hex_read pairs.Bad bytes)
+          ≡ cond s (cond t (hex_read (Some (length (bytes_in field))) (bytes_in field ++ drop (length (bytes_in field)) bytes)) (hex_read None bytes))
+          (hex_read None bytes)
           → HexIs n
       by true x true y w =
-          let a : pairs.Bytes n ≡ pairs.Bytes (length (bytes_in field)) = sym z ∙ ap (λ (h : HexRead). h.answer) w in
+          let a : Some n ≡ Some (length (bytes_in field)) = sym z ∙ ap (λ (h : HexRead). h.answer) w in
           let k : n ≡ length (bytes_in field) = cc in
           let o : now ≡ bytes_in field ++ drop (length (bytes_in field)) bytes = ap (λ (h : HexRead). h.left) w in
           record {
@@ -144,32 +140,32 @@ module _ (ask : List ℕ → Whys) (number : ℕ) (field bytes now : List ℕ) (
       by true x false y w = absurd (omega (arith, ap kind (sym z ∙ ap (λ (h : HexRead). h.answer) w)))
       by false x t y w = absurd (omega (arith, ap kind (sym z ∙ ap (λ (h : HexRead). h.answer) w)))
 
-  field_none : r ≡ pairs.Bad → hex_told ask number field ≡ none
+  field_none : r ≡ None → hex_told ask number field ≡ none
   unfolding hex_in hex_told kind
   field_none z = by (is_hex field) refl (leb (length (bytes_in field)) (length bytes)) refl e
     where
       by : (s : Bool) → is_hex field ≡ s → (t : Bool) → leb (length (bytes_in field)) (length bytes) ≡ t
           → hex_read r now
-          ≡ cond s (cond t (hex_read (pairs.Bytes (length (bytes_in field))) (bytes_in field ++ drop (length (bytes_in field)) bytes)) (hex_read pairs.Bad bytes))
-          (hex_read pairs.Bad bytes)
+          ≡ cond s (cond t (hex_read (Some (length (bytes_in field))) (bytes_in field ++ drop (length (bytes_in field)) bytes)) (hex_read None bytes))
+          (hex_read None bytes)
           → cond s (cond (leb (length (bytes_in field)) 65536) (some (why_line number (told_by (ask (bytes_in field))))) none) none ≡ none
       by true x true y w = absurd (omega (arith, ap kind (sym z ∙ ap (λ (h : HexRead). h.answer) w)))
       by true x false y w = rw (rw big at y)
       by false x t y w = refl
 
   module _ (text : List ℕ) where
-    pub field_line : (later : List ℕ) (n k : ℕ) → r ≡ pairs.Bytes n → printed k later ≡ printed_in (why_line number (told_by (ask (take n now)))) text
-        → replies (reply.Line k) later ≡ replied (hex_told ask number field) text
+    pub field_line : (later : List ℕ) (n k : ℕ) → r ≡ Some n → printed k later ≡ printed_in (why_line number (told_by (ask (take n now)))) text
+        → replies (Some k) later ≡ replied (hex_told ask number field) text
     unfolding replied
     field_line later n k z f = let h = field_is n z in rw h.line (rw h.front at (ap lined f))
 
-    pub field_bad : r ≡ pairs.Bad → replies reply.Unreadable text ≡ replied (hex_told ask number field) text
+    pub field_bad : r ≡ None → replies None text ≡ replied (hex_told ask number field) text
     unfolding replied
     field_bad z = rw (field_none z)
 
 -- ---- by the word in front
 
-module _ (ask : Asking) (line text later : List ℕ) (r : reply_of_law.Reply) where
+module _ (ask : Asking) (line text later : List ℕ) (r : std.Option ℕ) where
   pub why_first : begins_with (bytes_of "why\t") line ≡ true → replies r later ≡ replied (text_reply ask line (tabbed (decimal_at line 4) line)) text
       → replies r later ≡ replied (reply_by ask line) text
   unfolding reply_by
@@ -182,6 +178,6 @@ module _ (ask : Asking) (line text later : List ℕ) (r : reply_of_law.Reply) wh
   bytes_first h i e = rw (h, i) e
 
 pub no_word : (ask : Asking) (line text : List ℕ) → begins_with (bytes_of "why\t") line ≡ false → begins_with (bytes_of "why-bytes\t") line ≡ false
-    → replies reply.Unreadable text ≡ replied (reply_by ask line) text
+    → replies None text ≡ replied (reply_by ask line) text
 unfolding reply_by replied
 no_word ask line text h i = rw (h, i)

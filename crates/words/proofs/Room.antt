@@ -1,12 +1,12 @@
 -- No line that is told is longer than 6,144 bytes behind the file's number, and the lent numbers have room for those named. Assumes nothing.
 use native.Mathlib.Omega.{arith}
-use mathlib.Core.Path.{◌≡◌, refl, sym, ◌∙◌, ap}
+use mathlib.Core.Path.{◌≡◌, refl, ◌∙◌, ap}
 use mathlib.Core.Bool.{Bool, true, false, cond, ◌&&◌}
 use mathlib.Core.List.{List, [], ◌∷◌, ◌++◌}
 use mathlib.Core.Option.{Option, none, some}
-use Prim.Native.Nat.{ℕ, zero, suc, ◌+◌, ◌*◌, ◌/◌, ◌≤◌, ◌<◌}
+use Prim.Native.Nat.{ℕ, zero, suc, ◌*◌, ◌/◌, ◌≤◌, ◌<◌}
 use lib.Dec.{eqb, leb}
-use lib.ListN.{length, take, drop, get_or, length-append, length-drop, length-replicate}
+use lib.ListN.{length, take, drop, get_or, length-append, length-replicate}
 use lib.Seq.{take_at}
 use borrow.Author.Tests.{leb-true}
 use Rattle.packet.specs.Names.{bytes_of}
@@ -14,15 +14,15 @@ use Rattle.lines.specs.Text.{decimal_of}
 use Rattle.lines.proofs.TextLaws.{digits_most, digits_most_8, digits_most_32}
 use Rattle.equation.specs.Tree.{Tree, parse, truth_on}
 use Rattle.equation.specs.Marks.{relations_of}
-use Rattle.table.specs.declared.Found.{Found}
-use Rattle.table.specs.declared.Found.TheVariants as place
+use Rattle.std.proofs.Common.{Some, None}
+use Rattle.std.specs.Prelude as std
 use Rattle.table.specs.Table.{files, times, find_of}
 use Rattle.table.proofs.Records.{length_files}
 use Rattle.table.specs.Order.{next_above, and_then, places_above, in_order}
 use Rattle.files.specs.Selection.{passing}
 use Rattle.grammar.specs.Formula.{postfix}
 use Rattle.grammar.specs.Machine.{Outcome, accepted, refused, outcome_of}
-use Rattle.replies.specs.Reply.{said_of, refused_line}
+use Rattle.replies.specs.Reply.{said_of}
 use Rattle.replies.proofs.ReplyLaws.{refused_size}
 use Rattle.replies.proofs.SaidLaws.{said_fits}
 use Rattle.why.specs.declared.Explained.{Explained}
@@ -58,9 +58,9 @@ unfolding places_above
 places_most zero after ts = omega arith
 places_most (suc n) after ts = by (next_above after ts) (λ p. places_most n (get_or ts p 0) ts)
   where
-    by : (f : Found) → ((p : ℕ) → length (places_above n (get_or ts p 0) ts) ≤ n) → length (and_then f (λ p. places_above n (get_or ts p 0) ts)) ≤ suc n
-    by place.Nothing h = omega arith
-    by (place.At p) h = omega (arith, h p)
+    by : (f : std.Option ℕ) → ((p : ℕ) → length (places_above n (get_or ts p 0) ts) ≤ n) → length (and_then f (λ p. places_above n (get_or ts p 0) ts)) ≤ suc n
+    by None h = omega arith
+    by (Some p) h = omega (arith, h p)
 
 passing_most : (test : ℕ → Bool) (ps : List ℕ) → length (passing test ps) ≤ length ps
 unfolding passing
@@ -173,10 +173,10 @@ module _ (eq : List ℕ) (number : ℕ) (disk owner table : List ℕ) (most : �
       (rises_less 0 (length (relations_of eq)) (reasons_on (items_at disk owner table p) t) (at_most_511 eq short)
       (decides eq t e short (items_at disk owner table p)).rising) (length-replicate {A = ℕ} 511 0)
 
-  small_found : (t : Tree) → parse eq ≡ some t → length eq ≤ 2047 → length table / 4 ≤ 256 → (f : Found) → Small (found_why eq t disk owner table most room f)
+  small_found : (t : Tree) → parse eq ≡ some t → length eq ≤ 2047 → length table / 4 ≤ 256 → (f : std.Option ℕ) → Small (found_why eq t disk owner table most room f)
   unfolding found_why
-  small_found t e short few place.Nothing = small_refused 4 room (omega arith) refl
-  small_found t e short few (place.At p) = by (eqb (time_at table p) 0)
+  small_found t e short few None = small_refused 4 room (omega arith) refl
+  small_found t e short few (Some p) = by (eqb (time_at table p) 0)
     where
       by : (b : Bool) → Small (cond b (whys (refused_by 11) room) (file_why eq t disk owner table most room p))
       by true = small_refused 11 room (omega arith) refl

@@ -1,17 +1,13 @@
 -- Laws on what is told of a file, by the cases of the code. Assumes nothing.
+use Rattle.std.proofs.Common.{None, Some}
 use native.Mathlib.Omega.{arith}
-use mathlib.Core.Path.{◌≡◌, refl, sym, ◌∙◌, ap}
-use mathlib.Core.Bool.{Bool, true, false, cond}
+use mathlib.Core.Path.{◌≡◌, refl, sym, ◌∙◌}
+use mathlib.Core.Bool.{true, false}
 use mathlib.Core.List.{List, [], ◌∷◌, ◌++◌, append_assoc}
-use mathlib.Core.Option.{Option, none, some}
 use Prim.Native.Nat.{ℕ, ◌+◌, ◌≤◌, ◌<◌}
-use lib.Dec.{eqb, leb}
-use lib.ListN.{length, take, drop, get_or, replicate, length-append, length-replicate, get_or-eq_default}
-use lib.Seq.{take_at}
-use borrow.Author.Tests.{eq-eqb, ne_eqb, leb-true}
+use lib.ListN.{length, take, get_or, length-append, get_or-eq_default}
+use borrow.Author.Tests.{eq-eqb, ne_eqb}
 use Rattle.packet.specs.Names.{bytes_of}
-use Rattle.lines.specs.declared.numeral.Digits.{Digits}
-use Rattle.lines.specs.declared.numeral.Digits.TheVariants as decimal
 use Rattle.lines.specs.Text.{decimal_of}
 use Rattle.lines.proofs.TextLaws.{digits_most_32}
 use Rattle.replies.specs.Reply.{refused_line}
@@ -57,17 +53,17 @@ why_line_law number rest = simp append_assoc
 -- ---- a number that a tab follows
 
 module _ (line : List ℕ) (v next : ℕ) where
-  pub tab_follows : get_or line next 0 ≡ 9 → tabbed (decimal.Value v next) line ≡ decimal.Value v (next + 1)
+  pub tab_follows : get_or line next 0 ≡ 9 → tabbed (Some (v, next)) line ≡ Some (v, next + 1)
   unfolding tabbed
   tab_follows e = rw (eq-eqb (get_or line next 0) 9 e)
 
-  pub no_tab : (get_or line next 0 ≡ 9 → ⊥) → tabbed (decimal.Value v next) line ≡ decimal.Bad
+  pub no_tab : (get_or line next 0 ≡ 9 → ⊥) → tabbed (Some (v, next)) line ≡ None
   unfolding tabbed
   no_tab e = rw (ne_eqb (get_or line next 0) 9 e)
 
-  pub no_byte : length line ≤ next → tabbed (decimal.Value v next) line ≡ decimal.Bad
+  pub no_byte : length line ≤ next → tabbed (Some (v, next)) line ≡ None
   no_byte h = no_tab (λ e. let z : ◌≡◌ {A = ℕ} 0 9 = sym (get_or-eq_default line 0 {n = next} h) ∙ e in absurd (omega arith))
 
-pub no_digits : (line : List ℕ) → tabbed decimal.Bad line ≡ decimal.Bad
+pub no_digits : (line : List ℕ) → tabbed None line ≡ None
 unfolding tabbed
 no_digits line = refl

@@ -2,11 +2,10 @@
 -- TAB hex" is read, and "one of: `why` TAB number TAB `matched` TAB relation numbers, each a field; .. TAB `unmatched` TAB relation numbers; .. TAB `beyond`
 -- TAB how many older files matched TAB relation numbers; .. TAB `refused` TAB `33` (why-bytes above 2,047 bytes), `8`, `4` or `11`, in this order; .. TAB
 -- `wrong` TAB place TAB reason (the equation is judged first); .. TAB `refused` TAB `bytes`" is printed. TAB is 9, the newline 10. Assumes nothing.
-use Rattle.std.specs.Prelude.{Bool, cond, List, [], ◌∷◌, ◌++◌, ℕ, ◌+◌, eqb, leb, length, take, drop, replicate, get_or}
+use Rattle.std.specs.Prelude.{Bool, cond, List, [], ◌∷◌, ◌++◌, ℕ, ◌+◌, eqb, leb, length, take, drop, replicate, get_or, None, Some}
+use Rattle.std.specs.Prelude as std
 use Rattle.std.proofs.Math.Option.{Option, none, some}
 use Rattle.packet.specs.Names.{bytes_of}
-use Rattle.lines.specs.declared.numeral.Digits.{Digits}
-use Rattle.lines.specs.declared.numeral.Digits.TheVariants as decimal
 use Rattle.lines.specs.Numerals.{decimal_at, is_hex, bytes_in}
 use Rattle.lines.specs.Text.{decimal_of}
 use Rattle.names.specs.Names.{begins_with}
@@ -52,20 +51,20 @@ hex_told ask number field =
     cond (is_hex field) (cond (leb (length (bytes_in field)) 65536) (some (why_line number (told_by (ask (bytes_in field))))) none) none
 
 -- a number that a tab follows, with the place behind the tab
-unfoldable pub tabbed : Digits → List ℕ → Digits
-tabbed decimal.Bad line = decimal.Bad
-tabbed (decimal.Value v next) line = cond (eqb (get_or line next 0) 9) (decimal.Value v (next + 1)) decimal.Bad
+unfoldable pub tabbed : std.Option (ℕ × ℕ) → List ℕ → std.Option (ℕ × ℕ)
+tabbed None line = None
+tabbed (Some (v, next)) line = cond (eqb (get_or line next 0) 9) (Some (v, next + 1)) None
 
 abbrev pub Asking : Type 0
 Asking = ℕ → List ℕ → Whys
 
-unfoldable pub text_reply : Asking → List ℕ → Digits → Option (List ℕ)
-text_reply ask line decimal.Bad = none
-text_reply ask line (decimal.Value number at) = some (why_line number (paper_told (ask number) (outcome_of (drop at line))))
+unfoldable pub text_reply : Asking → List ℕ → std.Option (ℕ × ℕ) → Option (List ℕ)
+text_reply ask line None = none
+text_reply ask line (Some (number, at)) = some (why_line number (paper_told (ask number) (outcome_of (drop at line))))
 
-unfoldable pub hex_reply : Asking → List ℕ → Digits → Option (List ℕ)
-hex_reply ask line decimal.Bad = none
-hex_reply ask line (decimal.Value number at) = hex_told (ask number) number (drop at line)
+unfoldable pub hex_reply : Asking → List ℕ → std.Option (ℕ × ℕ) → Option (List ℕ)
+hex_reply ask line None = none
+hex_reply ask line (Some (number, at)) = hex_told (ask number) number (drop at line)
 
 -- nothing, where the line is none of the two or can't be read
 unfoldable pub reply_by : Asking → List ℕ → Option (List ℕ)

@@ -11,11 +11,11 @@ ghost use Rattle.replies.specs.Reply.{said_of, replies, replied};
 ghost use Rattle.words.specs.Pieces.{Pushed, front_of};
 ghost use Rattle.words.specs.Why.{number_fields, outcome_word, told_of, told_by, why_line, paper_told, hex_told, tabbed, text_reply, hex_reply, ask_in, why_reply};
 
-use lines::numeral::{Digits, Pairs, decimal, hex};
+use lines::numeral::{decimal, hex};
 use lines::write::width;
 use numbers::store;
 use paper::{Answer, to_bytes};
-use replies::{Reply, begins};
+use replies::begins;
 use why::{Explained, why};
 
 // ---- pieces of a line, put behind the n bytes that it has
@@ -24,7 +24,8 @@ fn push(out: &mut [u8], n: usize, piece: &[u8]) -> usize
     requires { n + length piece.now ≤ length out.old }
     ensures { Pushed out.old n piece.now result out.new }
 {
-    store(out, n, piece);
+    // not refused: the piece was found to fit
+    let _ = store(out, n, piece);
     n + piece.len()
 }
 
@@ -35,12 +36,13 @@ fn push_decimal(out: &mut [u8], n: usize, v: usize) -> usize
     let digits = width(v);
     let mut i = n + digits - 1;
     let mut rest = v;
+    // a `while`: each turn takes the last digit away, and it ends where one is left
     while 9 < rest {
-        out[i] = 48 + (rest % 10) as u8;
-        rest = rest / 10;
+        out[i] = b'0' + (rest % 10) as u8;
+        rest /= 10;
         i -= 1;
     }
-    out[i] = 48 + rest as u8;
+    out[i] = b'0' + rest as u8;
     n + digits
 }
 
@@ -58,10 +60,8 @@ fn push_numbers(out: &mut [u8], n: usize, named: &[u16]) -> usize
     ensures { Pushed out.old n (number_fields named.now) result out.new }
 {
     let mut to = n;
-    let mut i = 0;
-    while i < named.len() {
-        to = push_number(out, to, named[i]);
-        i += 1;
+    for v in named {
+        to = push_number(out, to, *v);
     }
     to
 }
@@ -154,8 +154,7 @@ fn paper_line(
         result out.new }
 {
     let mut bytes = [0u8; 256];
-    let a = to_bytes(equation, &mut bytes);
-    match a {
+    match to_bytes(equation, &mut bytes) {
         Answer::Bytes(n) => why_line(&bytes[..n], number, disk, owner, table, most, out),
         Answer::Wrong(_, _) => wrong_line(equation, number, out),
         Answer::Long => wrong_line(equation, number, out),
@@ -186,7 +185,8 @@ fn print(buffer: &[u8], n: usize, text: &mut [u8]) -> usize
     if text.len() < n {
         return 0;
     }
-    store(text, 0, &buffer[..n]);
+    // not refused: the text was found long enough
+    let _ = store(text, 0, &buffer[..n]);
     n
 }
 
@@ -227,21 +227,14 @@ fn print_paper(
 }
 
 // The number at a place, and the place behind the tab that follows it.
-fn number_at(line: &[u8], at: usize) -> Digits
+fn number_at(line: &[u8], at: usize) -> Option<(u32, usize)>
     ensures { result ≡ tabbed (decimal_at line.now at) line.now }
 {
-    let d = decimal(line, at);
-    match d {
-        Digits::Bad => Digits::Bad,
-        Digits::Value(v, next) => {
-            if next < line.len() {
-                if line[next] == 9 {
-                    return Digits::Value(v, next + 1);
-                }
-            }
-            Digits::Bad
-        }
+    let (v, next) = decimal(line, at)?;
+    if next < line.len() && line[next] == b'\t' {
+        return Some((v, next + 1));
     }
+    None
 }
 
 // The reply to a line of `why`, behind its word.
@@ -252,23 +245,12 @@ fn reply_to_text(
     table: &[u32],
     most: usize,
     text: &mut [u8],
-) -> Reply
+) -> Option<usize>
     ensures { replies result text.new ≡ replied (text_reply (ask_in disk.now owner.now table.now most)
         line.now (tabbed (decimal_at line.now 4) line.now)) text.old }
 {
-    let asked = number_at(line, 4);
-    match asked {
-        Digits::Bad => Reply::Unreadable,
-        Digits::Value(number, at) => Reply::Line(print_paper(
-            &line[at..],
-            number,
-            disk,
-            owner,
-            table,
-            most,
-            text,
-        )),
-    }
+    let (number, at) = number_at(line, 4)?;
+    Some(print_paper(&line[at..], number, disk, owner, table, most, text))
 }
 
 // The reply for a field of hex.
@@ -280,24 +262,13 @@ fn reply_to_field(
     table: &[u32],
     most: usize,
     text: &mut [u8],
-) -> Reply
+) -> Option<usize>
     ensures { replies result text.new ≡ replied (hex_told (ask_in disk.now owner.now table.now most number)
         number field.now) text.old }
 {
     let mut bytes = blank_bytes();
-    let p = hex(field, 0, &mut bytes);
-    match p {
-        Pairs::Bad => Reply::Unreadable,
-        Pairs::Bytes(n) => Reply::Line(print_why(
-            &bytes[..n],
-            number,
-            disk,
-            owner,
-            table,
-            most,
-            text,
-        )),
-    }
+    let n = hex(field, 0, &mut bytes)?;
+    Some(print_why(&bytes[..n], number, disk, owner, table, most, text))
 }
 
 // The reply to a line of `why-bytes`, behind its word.
@@ -308,26 +279,16 @@ fn reply_to_hex(
     table: &[u32],
     most: usize,
     text: &mut [u8],
-) -> Reply
+) -> Option<usize>
     ensures { replies result text.new ≡ replied (hex_reply (ask_in disk.now owner.now table.now most)
         line.now (tabbed (decimal_at line.now 10) line.now)) text.old }
 {
-    let asked = number_at(line, 10);
-    match asked {
-        Digits::Bad => Reply::Unreadable,
-        Digits::Value(number, at) => reply_to_field(
-            &line[at..],
-            number,
-            disk,
-            owner,
-            table,
-            most,
-            text,
-        ),
-    }
+    let (number, at) = number_at(line, 10)?;
+    reply_to_field(&line[at..], number, disk, owner, table, most, text)
 }
 
-// Answers a line of `why` or `why-bytes` from a store: its disk, the owners of its blocks, the records of its file places, and MAXSEL.
+// Answers a line of `why` or `why-bytes` from a store: its disk, the owners of its blocks, the records of its file places, and MAXSEL. Says how many bytes
+// the answer has, 0 where the text is too short for it; None where the line can't be read.
 pub fn answer_line(
     line: &[u8],
     disk: &[u8],
@@ -335,7 +296,7 @@ pub fn answer_line(
     table: &[u32],
     most: usize,
     text: &mut [u8],
-) -> Reply
+) -> Option<usize>
     ensures { replies result text.new ≡ replied
         (why_reply disk.now owner.now table.now most line.now) text.old }
 {
@@ -345,5 +306,5 @@ pub fn answer_line(
     if begins(line, b"why-bytes\t") {
         return reply_to_hex(line, disk, owner, table, most, text);
     }
-    Reply::Unreadable
+    None
 }

@@ -1,5 +1,6 @@
 -- Demand 2 at work, but for the machine and downloads: each statement is applied to small cases that meet its hypotheses, and what it gives is stated.
 -- Assumes nothing.
+use Rattle.std.proofs.Common.{Result, Ok}
 use mathlib.Core.Path.{◌≡◌, refl, ap, ◌∙◌, sym, subst}
 use mathlib.Core.Bool.{Bool, true, false, cond}
 use mathlib.Core.List.{List, [], ◌∷◌, ◌++◌, flatten}
@@ -10,7 +11,6 @@ use lib.Dec.{eqb}
 use lib.ListN.{length, replicate, take, drop, length-replicate}
 use borrow.Author.Tests.{eqb-true, eqb-false}
 use Rattle.packet.specs.Packet.{write_answer, left_in, read_answer}
-use Rattle.packet.specs.declared.plain.Plain.TheVariants as plain
 use Rattle.packet.specs.Frame.{Event, packet, too_long}
 use Rattle.session.specs.declared.reply.Answer.TheVariants as answer
 use Rattle.session.specs.Expected.{expected}
@@ -34,6 +34,10 @@ room = omega (arith, length-replicate {A = ℕ} 258 0)
 -- what the plain writer leaves of the longest packet of type 17, all its bytes being b
 abbrev longest : ℕ → List ℕ
 longest b = left_in (write_answer 17 (replicate 2047 b) (replicate 2049 b)) 17 (replicate 2047 b) (replicate 2049 b)
+
+-- what the plain reader answers where it refuses nothing
+abbrev was_read : ℕ → ℕ → Result (ℕ × ℕ) ℕ
+was_read kind n = Ok (kind, n)
 
 -- the bytes that wait for a session are those that were set last
 skip : (b : Bool) (x y : List ℕ) → b ≡ false → y ≡ [] → cond b x y ≡ []
@@ -73,12 +77,12 @@ chopped_uncut =
 
 module _ (d : Demand2) where
   -- the longest packet of the last type reads back, in an output that it just fills
-  pub longest_reads : (read_answer (longest 0) ≡ plain.Packet 17 2047) × (take 2047 (drop 2 (longest 0)) ≡ replicate 2047 0)
+  pub longest_reads : (read_answer (longest 0) ≡ Ok (17, 2047)) × (take 2047 (drop 2 (longest 0)) ≡ replicate 2047 0)
   longest_reads =
       let n : length {A = ℕ} (replicate 2047 0) ≡ 2047 = length-replicate {A = ℕ} 2047 0 in
       let m : length {A = ℕ} (replicate 2049 0) ≡ 2049 = length-replicate {A = ℕ} 2049 0 in
       let r = d.written 17 (replicate 2047 0) (replicate 2049 0) (omega arith) (omega (arith, n)) (omega (arith, n, m)) in (
-        r.accepted ∙ ap (λ (k : ℕ). plain.Packet 17 k) n,
+        r.accepted ∙ ap (was_read 17) n,
         subst (λ (k : ℕ). take k (drop 2 (longest 0)) ≡ replicate 2047 0) n r.information,
       )
 
@@ -88,10 +92,10 @@ module _ (d : Demand2) where
 
   -- it has 8 bytes of information
   pub go_size : (length go_reads.info ≡ 8)
-      × (read_answer (call_of (server_after opened) (lent_after opened) (rx 6 (upload 0))).out ≡ plain.Packet go_reads.kind 8)
+      × (read_answer (call_of (server_after opened) (lent_after opened) (rx 6 (upload 0))).out ≡ Ok (go_reads.kind, 8))
   go_size =
       let n : length go_reads.info ≡ 8 = omega (arith, go_reads.size_is) in
-      (n, go_reads.reads.accepted ∙ ap (plain.Packet go_reads.kind) n)
+      (n, go_reads.reads.accepted ∙ ap (was_read go_reads.kind) n)
 
   -- a packet of type 18 closes the link at its second byte
   pub type_18_closes : answer_of (server_after opened) (lent_after opened) (rx 6 type18) ≡ answer.Closed 2

@@ -115,7 +115,7 @@ unfolding least_width
 least_four v h = rw (le-ltb v 256 (omega arith), le-ltb v 65536 h)
 
 module _ (row : Row) (least id v : ℕ) (e : row ≡ row_of id) (f : least ≡ least_width v) where
-  usual : row.width ≡ usual_width id
+  pub usual : row.width ≡ usual_width id
   usual = ap (λ (r : Row). r.width) e ∙ row_width id
 
   pub taken_least : row.width < least → least ≡ width_of id v

@@ -35,14 +35,14 @@ depth-a-requires t c =
       (bytes, formulas.left_ready bytes a.steps.now a.e ready s refl c.if-s-lt2048.false p.result p.ensures.value b.result b.ensures),
     )
 
-pub overflow_add-result : goal.overflow_add-result
-overflow_add-result t c =
+pub overflow_add-deep : goal.overflow_add-deep
+overflow_add-deep t c =
     let a = c.args in
     let s = get_or a.steps.now (a.e - 1) 0 in
     let p = c.binding-p in
     let b = c.depth-b in
     let d = c.depth-a in
-    let most = c.greater-most in
+    let most = c.max-most in
     omega (
       arith,
       formulas.deep_small c.requires.0 a.steps.now a.e c.requires.1 s refl c.if-s-lt2048.false p.result p.ensures.value b.result b.ensures
@@ -56,17 +56,17 @@ returns-then-p-level t c =
     let p = c.binding-p in
     let b = c.depth-b in
     let d = c.depth-a in
-    let most = c.greater-most in
+    let most = c.max-most in
     λ bytes w. formulas.deeper bytes a.steps.now a.e w s refl c.if-s-lt2048.false p.result p.ensures.value b.result b.ensures
     d.result d.ensures a.level most.result most.ensures c.if-p-level.true
 
-pub returns : goal.returns
-returns t c =
+pub returns-else-p-level : goal.returns-else-p-level
+returns-else-p-level t c =
     let a = c.args in
     let s = get_or a.steps.now (a.e - 1) 0 in
     let p = c.binding-p in
     let b = c.depth-b in
     let d = c.depth-a in
-    let most = c.greater-most in
+    let most = c.max-most in
     λ bytes w. formulas.as_deep bytes a.steps.now a.e w s refl c.if-s-lt2048.false p.result p.ensures.value b.result b.ensures
     d.result d.ensures a.level most.result most.ensures c.if-p-level.false

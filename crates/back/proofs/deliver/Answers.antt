@@ -1,4 +1,5 @@
 -- `back::deliver` meets its contract. Assumes nothing.
+use Rattle.std.proofs.Common.{List, ℕ, ◌++◌, ◌-◌, drop, ap}
 use native.Mathlib.Omega.{arith}
 use Rattle.back.proofs.Formulas as formulas
 use Rattle.back.proofs.Answers as replies
@@ -27,8 +28,8 @@ returns-then-out-size c =
     c.requires.bytes_len_bound c.put_formula-p.result
     c.put_formula-p.new.out c.put_formula-p.ensures c.if-out-size.true
 
-pub slice_bounds-store-count : goal.slice_bounds-store-count
-slice_bounds-store-count c =
+pub slice_bounds-copy_from_slice-count : goal.slice_bounds-copy_from_slice-count
+slice_bounds-copy_from_slice-count c =
     omega (
       arith,
       replies.start_within c.args.bytes.now
@@ -40,8 +41,8 @@ slice_bounds-store-count c =
           c.put_formula-p.ensures,
     )
 
-pub slice_bounds-store-start : goal.slice_bounds-store-start
-slice_bounds-store-start c =
+pub slice_bounds-copy_from_slice-start : goal.slice_bounds-copy_from_slice-start
+slice_bounds-copy_from_slice-start c =
     omega (
       arith,
       replies.start_within c.args.bytes.now
@@ -56,8 +57,7 @@ pub returns : goal.returns
 returns c =
     let a = c.args in
     let the-put-formula = c.put_formula-p in
-    let the-store = c.store in
     λ w. replies.deliver_text a.bytes.now a.steps.now
     a.out.now w c.requires.bytes_len_bound
     the-put-formula.result the-put-formula.new.out the-put-formula.ensures
-    c.if-out-size.false the-store.new.to the-store.ensures.to_after
+    c.if-out-size.false _ (ap (λ (x : List ℕ). x ++ drop (2560 - the-put-formula.result.n) a.out.now) c.copy_from_slice.ensures.after)

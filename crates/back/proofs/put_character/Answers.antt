@@ -10,79 +10,33 @@ use Rattle.writing.proofs.Pieces as pieces
 use Rattle.back.proofs.put_character.Goals as goal
 
 pub put_all-requires : goal.put_all-requires
-put_all-requires c =
-    omega (
-      arith,
-      c.requires,
-      ap length (parts.character_quote c.args.b c.if-b-eq34.true),
-    )
+put_all-requires c = omega (arith, c.requires, ap length (parts.character_quote c.args.b c.in-34.is))
 
-pub returns-then-b-eq34 : goal.returns-then-b-eq34
-returns-then-b-eq34 c =
-    rw (parts.character_quote c.args.b c.if-b-eq34.true)
-    c.put_all.ensures
+pub returns-in-34 : goal.returns-in-34
+returns-in-34 c = rw (parts.character_quote c.args.b c.in-34.is) c.put_all.ensures
 
-pub put_all-requires-then-b-eq92 : goal.put_all-requires-then-b-eq92
-put_all-requires-then-b-eq92 c =
-    omega (
-      arith,
-      c.requires,
-      ap length (parts.character_escape c.args.b c.if-b-eq92.true),
-    )
+pub put_all-requires-in-92 : goal.put_all-requires-in-92
+put_all-requires-in-92 c = omega (arith, c.requires, ap length (parts.character_escape c.args.b c.in-92.is))
 
-pub returns-then-b-eq92 : goal.returns-then-b-eq92
-returns-then-b-eq92 c =
-    rw (parts.character_escape c.args.b
-    c.if-b-eq92.true) c.put_all-then-b-eq92.ensures
+pub returns-in-92 : goal.returns-in-92
+returns-in-92 c = rw (parts.character_escape c.args.b c.in-92.is) c.put_all-in-92.ensures
 
 pub put-requires : goal.put-requires
-put-requires c =
-    omega (
-      arith,
-      c.requires,
-      ap length
-          (parts.character_plain c.args.b c.if-b-eq34.false
-          c.if-b-eq92.false (sym c.is_printed.ensures ∙ c.if-is_printed.true)),
-    )
+put-requires c = omega (arith, c.requires, ap length (parts.character_plain c.args.b (λ e. omega arith) (λ e. omega arith) (sym c.is_printed.ensures ∙ c.if-is_printed.true)))
 
-pub returns-then-is_printed : goal.returns-then-is_printed
-returns-then-is_printed c =
-    rw (parts.character_plain c.args.b
-    c.if-b-eq34.false c.if-b-eq92.false
-    (sym c.is_printed.ensures ∙ c.if-is_printed.true)) c.put.ensures
+pub returns-in_default : goal.returns-in_default
+returns-in_default c = rw (parts.character_plain c.args.b (λ e. omega arith) (λ e. omega arith) (sym c.is_printed.ensures ∙ c.if-is_printed.true)) c.put.ensures
 
 pub put_hex-k-requires : goal.put_hex-k-requires
-put_hex-k-requires c =
-    omega (
-      arith,
-      c.requires,
-      ap length
-          (parts.character_coded c.args.b c.if-b-eq34.false
-          c.if-b-eq92.false (sym c.is_printed.ensures ∙ c.if-is_printed.false)),
-    )
+put_hex-k-requires c = omega (arith, c.requires, ap length (parts.character_coded c.args.b (λ e. omega arith) (λ e. omega arith) (sym c.is_printed.ensures ∙ c.if-is_printed.false)))
 
-pub put_all-requires-2 : goal.put_all-requires-2
-put_all-requires-2 c =
-    omega (
-      arith,
-      c.requires,
-      ap length
-          (parts.character_coded c.args.b
-          c.if-b-eq34.false
-          c.if-b-eq92.false
-          (sym c.is_printed.ensures
-          ∙ c.if-is_printed.false)),
-      c.put_hex-k.ensures.place,
-    )
+pub put_all-requires-in_default-2 : goal.put_all-requires-in_default-2
+put_all-requires-in_default-2 c = omega (arith, c.requires, ap length (parts.character_coded c.args.b (λ e. omega arith) (λ e. omega arith) (sym c.is_printed.ensures ∙ c.if-is_printed.false)), c.put_hex-k.ensures.place)
 
-pub returns : goal.returns
-returns c =
+pub returns-in_default-2 : goal.returns-in_default-2
+returns-in_default-2 c =
     let a = c.args in
-    let the-put-hex = c.put_hex-k in
-    let the-put-all3 = c.put_all-2 in
-    rw (parts.character_coded a.b c.if-b-eq34.false
-    c.if-b-eq92.false
-    (sym c.is_printed.ensures
-    ∙ c.if-is_printed.false))
-    (pieces.before (92 ∷ 120 ∷ []) (hex_digit (a.b / 16) ∷ hex_digit (a.b % 16) ∷ []) a.n the-put-hex.result the-put-all3.result a.out.now
-    the-put-hex.new.out the-put-all3.new.out the-put-hex.ensures the-put-all3.ensures)
+    let k = c.put_hex-k in
+    let e = c.put_all-in_default-2 in
+    rw (parts.character_coded c.args.b (λ e. omega arith) (λ e. omega arith) (sym c.is_printed.ensures ∙ c.if-is_printed.false))
+    (pieces.before (92 ∷ 120 ∷ []) (hex_digit (a.b / 16) ∷ hex_digit (a.b % 16) ∷ []) a.n k.result e.result a.out.now k.new.out e.new.out k.ensures e.ensures)

@@ -1,8 +1,6 @@
+use Rattle.std.proofs.Common.{◌-◌, length}
 use Rattle.writing.proofs.Pieces as pieces
 use Rattle.back.proofs.put_characters.Given as goal
 
-abbrev pub invariant-loop-i : goal.invariant-loop-i
-invariant-loop-i l = pieces.Quoting l.s l.n l.initial.out l.out l.i l.k
-
-abbrev pub decreases-loop-i : goal.decreases-loop-i
-decreases-loop-i l = l.i
+abbrev pub invariant-loop-b : goal.invariant-loop-b
+invariant-loop-b l = pieces.Quoting l.s l.n l.initial.out l.out (length l.s - length l.yielded) l.k

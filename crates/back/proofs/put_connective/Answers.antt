@@ -7,7 +7,7 @@ returns-then-p-eq1 c =
     rw (← parts.connective_and c.args.p c.if-p-eq1.true)
     c.put_all.ensures
 
-pub returns : goal.returns
-returns c =
+pub returns-else-p-eq1 : goal.returns-else-p-eq1
+returns-else-p-eq1 c =
     rw (← parts.connective_or c.args.p c.if-p-eq1.false)
-    c.put_all-2.ensures
+    c.put_all-else-p-eq1.ensures

@@ -19,7 +19,7 @@ returns-then-p-level c =
     rw (parts.opening_in c.args.p c.args.level
     c.if-p-level.true) c.put.ensures
 
-pub returns : goal.returns
-returns c =
+pub returns-else-p-level : goal.returns-else-p-level
+returns-else-p-level c =
     rw (parts.opening_out c.args.p c.args.level c.if-p-level.false)
     (pieces.no_piece c.args.n c.args.out.now)

@@ -5,51 +5,20 @@ use lib.ListN.{length}
 use Rattle.writing.proofs.Parts as parts
 use Rattle.back.proofs.value.Goals as goal
 
-pub overflow_cast-result : goal.overflow_cast-result
-overflow_cast-result c = omega (arith, (c.type_inv.s 0).fits)
+pub returns-in-1 : goal.returns-in-1
+returns-in-1 c = c.from.ensures ∙ parts.one_byte c.args.s.now c.in-1.is
 
-pub returns-then-s-eq1 : goal.returns-then-s-eq1
-returns-then-s-eq1 c = parts.one_byte c.args.s.now c.if-s-eq1.true
+pub bounds-s-0-in_default : goal.bounds-s-0-in_default
+bounds-s-0-in_default c = omega (arith, (parts.four_left (length c.args.s.now) c.requires (λ e. omega arith) (λ e. omega arith)))
 
-pub returns-then-s-eq2 : goal.returns-then-s-eq2
-returns-then-s-eq2 c = c.number16.ensures ∙ parts.two_bytes c.args.s.now c.if-s-eq2.true
-
-pub bounds-s-0-2 : goal.bounds-s-0-2
-bounds-s-0-2 c =
-    omega (
-      arith,
-      parts.four_left (length c.args.s.now) c.requires c.if-s-eq1.false
-          c.if-s-eq2.false,
-    )
-
-pub bounds-s-1-2 : goal.bounds-s-1-2
-bounds-s-1-2 c =
-    omega (
-      arith,
-      parts.four_left (length c.args.s.now) c.requires
-          c.if-s-eq1.false c.if-s-eq2.false,
-    )
+pub bounds-s-1-in_default : goal.bounds-s-1-in_default
+bounds-s-1-in_default c = omega (arith, (parts.four_left (length c.args.s.now) c.requires (λ e. omega arith) (λ e. omega arith)))
 
 pub bounds-s-2 : goal.bounds-s-2
-bounds-s-2 c =
-    omega (
-      arith,
-      parts.four_left (length c.args.s.now) c.requires
-          c.if-s-eq1.false c.if-s-eq2.false,
-    )
+bounds-s-2 c = omega (arith, (parts.four_left (length c.args.s.now) c.requires (λ e. omega arith) (λ e. omega arith)))
 
 pub bounds-s-3 : goal.bounds-s-3
-bounds-s-3 c =
-    omega (
-      arith,
-      parts.four_left (length c.args.s.now)
-          c.requires c.if-s-eq1.false
-          c.if-s-eq2.false,
-    )
+bounds-s-3 c = omega (arith, (parts.four_left (length c.args.s.now) c.requires (λ e. omega arith) (λ e. omega arith)))
 
-pub returns : goal.returns
-returns c = c.number32.ensures
-    ∙ parts.four_bytes c.args.s.now
-    (parts.four_left (length c.args.s.now)
-    c.requires c.if-s-eq1.false
-    c.if-s-eq2.false)
+pub returns-in_default : goal.returns-in_default
+returns-in_default c = c.number32.ensures ∙ parts.four_bytes c.args.s.now (parts.four_left (length c.args.s.now) c.requires (λ e. omega arith) (λ e. omega arith))

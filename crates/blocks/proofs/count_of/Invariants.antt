@@ -1,11 +1,7 @@
-use Prim.Native.Nat.{◌+◌, ◌-◌, ◌≤◌}
-use mathlib.Core.Path.{◌≡◌}
-use lib.ListN.{length, drop}
+use Rattle.std.proofs.Common.{◌≡◌, ◌+◌}
+use Rattle.std.specs.Slice.Iter.{chunks_rest, chunks_size}
 use Rattle.blocks.specs.Owners.{blocks}
 use Rattle.blocks.proofs.count_of.Given as goal
 
-abbrev pub invariant-loop-from : goal.invariant-loop-from
-invariant-loop-from l = (l.from ≤ length l.owner) × (l.n + blocks l.v (drop l.from l.owner) ≡ blocks l.v l.owner)
-
-abbrev pub decreases-loop-from : goal.decreases-loop-from
-decreases-loop-from l = length l.owner - l.from
+abbrev pub invariant-loop-part : goal.invariant-loop-part
+invariant-loop-part l = (chunks_size l.part-iterator ≡ 4096) × (l.n + blocks l.v (chunks_rest l.part-iterator) ≡ blocks l.v l.owner)

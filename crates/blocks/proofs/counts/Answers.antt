@@ -1,5 +1,5 @@
 -- `blocks::counts` meets its contract. The invariant is `Counted`: the counts and what is left are all blocks.
-use Prim.Native.Nat.{ℕ, ◌+◌, ◌-◌}
+use Prim.Native.Nat.{ℕ, ◌+◌}
 use mathlib.Core.Path.{refl, ap, ◌∙◌}
 use native.Mathlib.Omega.{arith}
 use native.Mathlib.Nat.{zero-add}

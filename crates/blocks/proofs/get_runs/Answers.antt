@@ -1,5 +1,5 @@
 -- `blocks::get_runs` meets its contract. The invariant is `Reading`: the bytes read so far are those that the owner holds.
-use Prim.Native.Nat.{ℕ, ◌-◌}
+use Prim.Native.Nat.{ℕ}
 use mathlib.Core.Path.{◌≡◌, refl, sym, ap, ◌∙◌}
 use native.Mathlib.Omega.{arith}
 use lib.ListN.{length, take, drop}

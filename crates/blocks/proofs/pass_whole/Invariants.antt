@@ -1,10 +1,7 @@
-use Prim.Native.Nat.{◌-◌, ◌≤◌}
-use lib.ListN.{length}
+use Rattle.std.proofs.Common.{◌≡◌, ◌≤◌, length, drop}
+use Rattle.std.specs.Slice.Iter.{chunks_exact_rest, chunks_exact_size}
 use Rattle.blocks.proofs.Parts.{RunTo}
 use Rattle.blocks.proofs.pass_whole.Given as goal
 
-abbrev pub invariant-loop-b : goal.invariant-loop-b
-invariant-loop-b l = (l.from ≤ l.b) × (l.b ≤ length l.owner) × RunTo l.owner l.v l.from l.b
-
-abbrev pub decreases-loop-b : goal.decreases-loop-b
-decreases-loop-b l = length l.owner - l.b
+abbrev pub invariant-loop-part : goal.invariant-loop-part
+invariant-loop-part l = (chunks_exact_size l.part-iterator ≡ 64) × (l.from ≤ l.b) × (l.b ≤ length l.owner) × (chunks_exact_rest l.part-iterator ≡ drop l.b l.owner) × RunTo l.owner l.v l.from l.b

@@ -1,5 +1,5 @@
 -- `blocks::put_runs` meets its contract. The invariant is `Writing`: storing what is left on the disk reached is storing all on the disk at entry.
-use Prim.Native.Nat.{◌+◌, ◌-◌}
+use Prim.Native.Nat.{◌+◌}
 use mathlib.Core.Path.{refl, sym, ap, ◌∙◌}
 use native.Mathlib.Omega.{arith}
 use lib.ListN.{length, drop_of_length-le}

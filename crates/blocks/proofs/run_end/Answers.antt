@@ -1,5 +1,5 @@
 -- `blocks::run_end` meets its contract. The run goes on from its first block by single blocks, by parts and by single blocks again.
-use Prim.Native.Nat.{◌+◌, ◌-◌}
+use Prim.Native.Nat.{◌+◌}
 use mathlib.Core.Path.{refl}
 use native.Mathlib.Omega.{arith}
 use lib.ListN.{get_or}

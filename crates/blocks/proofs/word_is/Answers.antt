@@ -1,5 +1,5 @@
 -- `blocks::word_is` meets its contract. The word is 0 where the part has no free block, and all ones where its 64 blocks are free.
-use Prim.Native.Nat.{◌*◌, ◌-◌}
+use Prim.Native.Nat.{◌*◌}
 use mathlib.Core.Path.{sym, ap, ◌∙◌}
 use native.Mathlib.Omega.{arith}
 use lib.Dec.{eqb}

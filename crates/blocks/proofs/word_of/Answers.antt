@@ -1,9 +1,6 @@
 -- `blocks::word_of` meets its contract. The invariant: the word reached is that of the blocks from the one reached on.
-use Prim.Native.Nat.{ℕ, ◌+◌, ◌*◌, ◌-◌, ◌<◌, ◌^◌}
-use mathlib.Core.Path.{◌≡◌, refl, ap₂, ◌∙◌}
-use native.Mathlib.Omega.{arith}
-use mathlib.Core.List.{List}
-use lib.ListN.{drop}
+use Rattle.std.proofs.Common.{◌≡◌, ℕ, ◌+◌, ◌*◌, ◌-◌, ◌<◌, ◌^◌, List, drop, refl, ◌∙◌, arith}
+use mathlib.Core.Path.{ap₂}
 use Rattle.blocks.specs.Owners.{word_of}
 use Rattle.blocks.proofs.Steps.{word_start, word_down, word_fits}
 use Rattle.blocks.proofs.word_of.Goals as goal
@@ -13,69 +10,28 @@ record Down (w bit : ℕ) (owner : List ℕ) (e b : ℕ) : Type 0 where
   word : bit + 2 * w ≡ word_of (e - b) (drop b owner)
   small : bit + 2 * w < 2 ^ 64
 
-pub overflow_mul-start : goal.overflow_mul-start
-overflow_mul-start c = omega arith
-
-pub part_end-b-requires : goal.part_end-b-requires
-part_end-b-requires c = omega arith
+down : (c : goal.After-free_bit) → Down c.loop-b.w c.free_bit.result c.args.owner.now (64 * c.args.i + 64) (c.loop-b.b - 1)
+down c =
+    let l = c.loop-b in
+    let o = c.args.owner.now in
+    let e = 64 * c.args.i + 64 in
+    let d = word_down o e l.b (omega arith) (omega arith) (omega arith) in
+    let f = word_fits (e - (l.b - 1)) (drop (l.b - 1) o) (omega arith) in
+    record { word = omega arith; small = omega arith }
 
 pub loop-b-init : goal.loop-b-init
 loop-b-init c =
-    let e = c.part_end-b.ensures in
-    let a = c.args in
-    (refl, omega arith, e.1, e.2, word_start a.owner.now (64 * a.i + 64) c.part_end-b.result e.2 e.3)
-
-pub overflow_sub-b : goal.overflow_sub-b
-overflow_sub-b c = omega arith
-
-pub offset_bounds-owner-b : goal.offset_bounds-owner-b
-offset_bounds-owner-b c = omega arith
-
-pub bounds-owner-b : goal.bounds-owner-b
-bounds-owner-b c = omega arith
-
-pub free_bit-requires : goal.free_bit-requires
-free_bit-requires c = omega arith
+    let e = c.part_end-end.ensures in
+    (refl, omega arith, word_start c.args.owner.now (64 * c.args.i + 64) c.part_end-end.result e.2 e.3)
 
 pub overflow_mul-w : goal.overflow_mul-w
-overflow_mul-w c = omega (
-  arith,
-  (let down : Down c.loop-b.w c.free_bit.result c.args.owner.now (64 * c.args.i + 64) (c.loop-b.b - 1) = let l = c.loop-b in
-      let a = c.args in
-      let d = word_down a.owner.now (64 * a.i + 64) l.b (omega arith) (omega arith) l.invariant.2 in
-      let e = c.free_bit.ensures in
-      let f = word_fits (64 * a.i + 64 - (l.b - 1)) (drop (l.b - 1) a.owner.now) (omega arith) in
-      record { word = omega arith; small = omega arith } in down),
-)
+overflow_mul-w c = omega (arith, (down c).small)
 
 pub overflow_add-w : goal.overflow_add-w
-overflow_add-w c = omega (
-  arith,
-  (let down : Down c.loop-b.w c.free_bit.result c.args.owner.now (64 * c.args.i + 64) (c.loop-b.b - 1) = let l = c.loop-b in
-      let a = c.args in
-      let d = word_down a.owner.now (64 * a.i + 64) l.b (omega arith) (omega arith) l.invariant.2 in
-      let e = c.free_bit.ensures in
-      let f = word_fits (64 * a.i + 64 - (l.b - 1)) (drop (l.b - 1) a.owner.now) (omega arith) in
-      record { word = omega arith; small = omega arith } in down),
-)
-
-pub loop-b-smaller : goal.loop-b-smaller
-loop-b-smaller c = omega arith
+overflow_add-w c = omega (arith, (down c).small)
 
 pub loop-b-preserved : goal.loop-b-preserved
-loop-b-preserved c =
-    let l = c.loop-b in (
-      l.invariant.0,
-      omega arith,
-      omega arith,
-      omega arith,
-      (let down : Down c.loop-b.w c.free_bit.result c.args.owner.now (64 * c.args.i + 64) (c.loop-b.b - 1) = let l = c.loop-b in
-          let a = c.args in
-          let d = word_down a.owner.now (64 * a.i + 64) l.b (omega arith) (omega arith) l.invariant.2 in
-          let e = c.free_bit.ensures in
-          let f = word_fits (64 * a.i + 64 - (l.b - 1)) (drop (l.b - 1) a.owner.now) (omega arith) in
-          record { word = omega arith; small = omega arith } in down).word,
-    )
+loop-b-preserved c = (refl, omega arith, (down c).word)
 
 pub returns : goal.returns
 returns c =
@@ -83,4 +39,4 @@ returns c =
     let a = c.args in
     let e : l.b ≡ 64 * a.i = omega arith in
     let z : 64 * a.i + 64 - l.b ≡ 64 = omega arith in
-    l.invariant.4 ∙ ap₂ (λ (k m : ℕ). word_of k (drop m a.owner.now)) z e
+    l.invariant.2 ∙ ap₂ (λ (k m : ℕ). word_of k (drop m a.owner.now)) z e

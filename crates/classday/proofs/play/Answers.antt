@@ -1,15 +1,21 @@
-use Rattle.input.proofs.Turning.{playing_none, playing_on, played_out}
+use Rattle.std.proofs.Common.{arith}
+use Rattle.input.proofs.Turning.{playing_none, played_out}
 use Rattle.pass.specs.Pass.{DueTurn}
 use Rattle.pass.specs.Run.{is_over}
+use Rattle.pass.proofs.Turning.{playing_more, played_over}
 use Rattle.classday.specs.Sheet.{class_words}
 use Rattle.classday.proofs.play.Goals as goal
 
-pub loop-turns-init : goal.loop-turns-init
-loop-turns-init c = playing_none is_over (DueTurn 8192 class_words) _ c.requires
+pub loop-turn-init : goal.loop-turn-init
+loop-turn-init c = playing_none is_over (DueTurn 8192 class_words) _ c.requires
 
-pub loop-turns-preserved : goal.loop-turns-preserved
-loop-turns-preserved c =
-    playing_on is_over (DueTurn 8192 class_words) _ _ _ _ _ c.loop-turns.invariant c.loop-turns-test.true c.turn-pass.ensures c.turns_left-turns.ensures
+pub returns-then-is_over : goal.returns-then-is_over
+returns-then-is_over c =
+    played_over 8192 class_words _ _ _ _ c.loop-turn.invariant c.loop-turn-test.true c.turn-pass.ensures _ c.is_over.ensures c.if-is_over.true
+
+pub loop-turn-preserved : goal.loop-turn-preserved
+loop-turn-preserved c =
+    playing_more 8192 class_words _ _ _ _ c.loop-turn.invariant c.loop-turn-test.true c.turn-pass.ensures _ c.is_over.ensures c.if-is_over.false
 
 pub returns : goal.returns
-returns c = played_out is_over (DueTurn 8192 class_words) _ _ _ c.loop-turns.invariant c.loop-turns-test.false
+returns c = played_out is_over (DueTurn 8192 class_words) _ _ _ c.loop-turn.invariant (omega (arith, c.loop-turn-test.false))

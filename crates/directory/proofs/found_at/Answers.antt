@@ -1,7 +1,7 @@
 use native.Mathlib.Omega.{arith}
 use Prim.Native.Nat.{◌-◌, ◌≤◌, ◌<◌, min}
 use lib.ListN.{length}
-use Rattle.table.specs.declared.Found.TheVariants.{At}
+use Rattle.std.proofs.Common.{Some}
 use Rattle.table.specs.Table.{files}
 use Rattle.directory.specs.Directory.{found_in}
 use Rattle.directory.proofs.DirectoryLaws.{none_past_one, found_within, found_past}
@@ -21,7 +21,7 @@ returns-then-k-selected_count c =
 pub returns-else-k-eq0 : goal.returns-else-k-eq0
 unfolding found_in
 returns-else-k-eq0 c =
-    rw c.in-One.is (none_past_one (At c.in-One.place) c.args.k c.if-k-eq0.false)
+    rw c.in-One.is (none_past_one (Some c.in-One.place) c.args.k c.if-k-eq0.false)
 
 pub returns-else-k-selected_count : goal.returns-else-k-selected_count
 returns-else-k-selected_count c =

@@ -52,8 +52,8 @@ returns-then-wrote-eq0 c =
     let g = c.get-file.ensures in
     let r = c.room_number-over.ensures ∙ ap (λ (f : File). after (place_number a.place f) (room_number f (length a.bytes.now))) g in
     let z = sym r ∙ c.if-over-ne0.false in
-    let w = c.write-wrote.ensures in
-    let n = w.value ∙ ap (λ (f : File). window_number (length a.disk.now) a.owner.now a.place f.received (length a.bytes.now)) g in
+    let w = c.write.ensures in
+    let n = c.number_of-wrote.ensures ∙ w.value ∙ ap (λ (f : File). window_number (length a.disk.now) a.owner.now a.place f.received (length a.bytes.now)) g in
     let d = w.disk_after ∙ ap (λ (f : File). write_disk a.disk.now a.owner.now a.place f.received a.bytes.now) g in
     let t = c.put.ensures.table_after ∙ ap (λ (f : File). put_table a.table.now a.place (grown (length a.bytes.now) f)) g in
     append_done a.disk.now a.owner.now a.table.now a.place a.bytes.now _ _ _ z n c.if-wrote-eq0.true d t
@@ -70,7 +70,7 @@ returns-else-wrote-eq0 c =
     let g = c.get-file.ensures in
     let r = c.room_number-over.ensures ∙ ap (λ (f : File). after (place_number a.place f) (room_number f (length a.bytes.now))) g in
     let z = sym r ∙ c.if-over-ne0.false in
-    let w = c.write-wrote.ensures in
-    let n = w.value ∙ ap (λ (f : File). window_number (length a.disk.now) a.owner.now a.place f.received (length a.bytes.now)) g in
+    let w = c.write.ensures in
+    let n = c.number_of-wrote.ensures ∙ w.value ∙ ap (λ (f : File). window_number (length a.disk.now) a.owner.now a.place f.received (length a.bytes.now)) g in
     let d = w.disk_after ∙ ap (λ (f : File). write_disk a.disk.now a.owner.now a.place f.received a.bytes.now) g in
     append_refused a.disk.now a.owner.now a.table.now a.place a.bytes.now _ _ z n c.if-wrote-eq0.false d

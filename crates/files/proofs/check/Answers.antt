@@ -22,4 +22,4 @@ returns c =
     let a = c.args in
     let r = c.place_number-refused.ensures ∙ ap (place_number a.place) c.get-file.ensures in
     check_done a.disk.now a.owner.now a.table.now a.place _ (sym r ∙ c.if-refused-ne0.false)
-    (c.check.ensures ∙ ap (λ (f : File). check_at a.disk.now a.owner.now a.place f.received f.size) c.get-file.ensures)
+    (c.number_of.ensures ∙ c.check.ensures ∙ ap (λ (f : File). check_at a.disk.now a.owner.now a.place f.received f.size) c.get-file.ensures)

@@ -15,14 +15,14 @@ loop-count-init c =
     let a = c.args in
     choosing_start (meets_at a.eq.now a.disk.now a.owner.now a.table.now) a.table.now a.selected.now a.most c.requires.1
 
-pub shape_of-selected-in-Nothing : goal.shape_of-selected-in-Nothing
-shape_of-selected-in-Nothing c = c.loop-count.invariant.size
+pub shape_of-selected-in-None : goal.shape_of-selected-in-None
+shape_of-selected-in-None c = c.loop-count.invariant.size
 
-pub returns-in-Nothing : goal.returns-in-Nothing
-returns-in-Nothing c =
+pub returns-in-None : goal.returns-in-None
+returns-in-None c =
     let a = c.args in
     let l = c.loop-count in
-    let f = choosing_none (meets_at a.eq.now a.disk.now a.owner.now a.table.now) a.table.now a.selected.now a.most l.selected l.count l.after l.invariant (sym c.next_complete-next.ensures ∙ c.in-Nothing.is) in
+    let f = choosing_none (meets_at a.eq.now a.disk.now a.owner.now a.table.now) a.table.now a.selected.now a.most l.selected l.count l.after l.invariant (sym c.next_complete-next.ensures ∙ c.in-None.is) in
     record { value = f.counted; selected_after = f.stored }
 
 pub note-count-requires : goal.note-count-requires
@@ -34,7 +34,7 @@ pub loop-count-smaller : goal.loop-count-smaller
 loop-count-smaller c =
     let a = c.args in
     let l = c.loop-count in
-    choosing_less (meets_at a.eq.now a.disk.now a.owner.now a.table.now) a.table.now a.selected.now a.most l.selected l.count l.after l.invariant c.in-At.place (sym c.next_complete-next.ensures ∙ c.in-At.is) _
+    choosing_less (meets_at a.eq.now a.disk.now a.owner.now a.table.now) a.table.now a.selected.now a.most l.selected l.count l.after l.invariant c.in-Some.place (sym c.next_complete-next.ensures ∙ c.in-Some.is) _
     (c.upload_time_of-after.ensures ∙ ap uploaded c.get-file.ensures)
 
 pub loop-count-preserved : goal.loop-count-preserved
@@ -42,9 +42,9 @@ loop-count-preserved c =
     let a = c.args in
     let l = c.loop-count in
     let g = c.get-file.ensures in
-    let m = c.meets-met.ensures ∙ ap (λ (f : File). is_yes (truth_at a.eq.now a.disk.now a.owner.now c.in-At.place f.received)) g in
+    let m = c.meets-met.ensures ∙ ap (λ (f : File). is_yes (truth_at a.eq.now a.disk.now a.owner.now c.in-Some.place f.received)) g in
     let n = c.note-count.ensures in
-    choosing_next (meets_at a.eq.now a.disk.now a.owner.now a.table.now) a.table.now a.selected.now a.most l.selected l.count l.after l.invariant c.in-At.place (sym c.next_complete-next.ensures ∙ c.in-At.is) _
+    choosing_next (meets_at a.eq.now a.disk.now a.owner.now a.table.now) a.table.now a.selected.now a.most l.selected l.count l.after l.invariant c.in-Some.place (sym c.next_complete-next.ensures ∙ c.in-Some.is) _
     (c.upload_time_of-after.ensures ∙ ap uploaded g) c.loop-count-test.true c.meets-met.result _ _ m n.value
     (n.selected_after ∙ ap (λ (f : File). cond c.meets-met.result (set l.selected l.count f.number) l.selected) g)
 

@@ -33,8 +33,8 @@ returns-then-done-eq0 c =
     let a = c.args in
     let r = c.place_number-refused.ensures ∙ ap (place_number a.place) c.get-file.ensures in
     let g = c.get-file.ensures in
-    let w = c.set_fields-done.ensures in
-    let n = w.value ∙ ap (λ (f : File). set_number a.disk.now a.owner.now a.place f.received) g in
+    let w = c.set_fields.ensures in
+    let n = c.number_of-done.ensures ∙ w.value ∙ ap (λ (f : File). set_number a.disk.now a.owner.now a.place f.received) g in
     let d = w.disk_after ∙ ap (λ (f : File). set_disk a.disk.now a.owner.now a.place f.received f.number a.time) g in
     let t = c.put.ensures.table_after ∙ ap (λ (f : File). put_table a.table.now a.place (completed a.time f)) g in
     complete_done a.disk.now a.owner.now a.table.now a.place a.time _ _ _ (sym r ∙ c.if-refused-ne0.false) n c.if-done-eq0.true d t
@@ -50,7 +50,7 @@ returns-else-done-eq0 c =
     let a = c.args in
     let r = c.place_number-refused.ensures ∙ ap (place_number a.place) c.get-file.ensures in
     let g = c.get-file.ensures in
-    let w = c.set_fields-done.ensures in
-    let n = w.value ∙ ap (λ (f : File). set_number a.disk.now a.owner.now a.place f.received) g in
+    let w = c.set_fields.ensures in
+    let n = c.number_of-done.ensures ∙ w.value ∙ ap (λ (f : File). set_number a.disk.now a.owner.now a.place f.received) g in
     let d = w.disk_after ∙ ap (λ (f : File). set_disk a.disk.now a.owner.now a.place f.received f.number a.time) g in
     complete_refused a.disk.now a.owner.now a.table.now a.place a.time _ _ (sym r ∙ c.if-refused-ne0.false) n c.if-done-eq0.false d

@@ -31,8 +31,8 @@ pub returns-then-released-eq0 : goal.returns-then-released-eq0
 returns-then-released-eq0 c =
     let a = c.args in
     let r = c.place_number-refused.ensures ∙ ap (place_number a.place) c.get-file.ensures in
-    let e = c.release-released.ensures in
-    discard_done a.map.now a.owner.now a.table.now a.place _ _ _ _ (sym r ∙ c.if-refused-ne0.false) e.value c.if-released-eq0.true e.map_after e.owner_after c.put.ensures.table_after
+    let e = c.release.ensures in
+    discard_done a.map.now a.owner.now a.table.now a.place _ _ _ _ (sym r ∙ c.if-refused-ne0.false) (c.number_of-released.ensures ∙ e.value) c.if-released-eq0.true e.map_after e.owner_after c.put.ensures.table_after
 
 pub shape_of-map-else-released-eq0 : goal.shape_of-map-else-released-eq0
 shape_of-map-else-released-eq0 c = c.map-1.given
@@ -47,5 +47,5 @@ pub returns-else-released-eq0 : goal.returns-else-released-eq0
 returns-else-released-eq0 c =
     let a = c.args in
     let r = c.place_number-refused.ensures ∙ ap (place_number a.place) c.get-file.ensures in
-    let e = c.release-released.ensures in
-    discard_refused a.map.now a.owner.now a.table.now a.place _ _ _ (sym r ∙ c.if-refused-ne0.false) e.value c.if-released-eq0.false e.map_after e.owner_after
+    let e = c.release.ensures in
+    discard_refused a.map.now a.owner.now a.table.now a.place _ _ _ (sym r ∙ c.if-refused-ne0.false) (c.number_of-released.ensures ∙ e.value) c.if-released-eq0.false e.map_after e.owner_after

@@ -1,22 +1,35 @@
 use Rattle.std.proofs.Common.{sym, ap, ◌∙◌, arith}
-use Rattle.header.specs.declared.scan.Header.{Header}
+use Rattle.refusal.specs.Refusal.{number, numbered}
+use Rattle.refusal.proofs.Laws.{refused}
 use Rattle.header.proofs.Written.{bytes_all}
-use Rattle.header.proofs.Set.{header_refusal, set_refused, settable_of, sum_step}
+use Rattle.header.proofs.Set.{header_refused, header_accepted, set_refused, settable_of, still_accepted, sum_step}
 use Rattle.header.proofs.set_fields.Goals as goal
+
+pub returns-in_err-header-clause-value : goal.returns-in_err-header-clause-value
+returns-in_err-header-clause-value c =
+    let e = header_refused 18 (number c.in_err-header.field-0.0) c.args.file.now (sym (ap numbered c.in_err-header.was) ∙ c.read_header.ensures) in
+    grind (arith, e, c.from_residual.ensures)
+
+pub returns-in_err-header-clause-file_after : goal.returns-in_err-header-clause-file_after
+returns-in_err-header-clause-file_after c =
+    let e = header_refused 18 (number c.in_err-header.field-0.0) c.args.file.now (sym (ap numbered c.in_err-header.was) ∙ c.read_header.ensures) in
+    sym (set_refused c.args.number c.args.time c.args.file.now (λ z. let h = refused c.in_err-header.field-0.0 in absurd (omega arith)))
 
 pub write_rows-requires : goal.write_rows-requires
 write_rows-requires c =
-    let h = c.read_header-header in
-    settable_of c.args.file.now h.result h.ensures c.if-header-eq0.true
+    settable_of c.args.file.now c.in_ok-header.header (sym (ap numbered c.in_ok-header.was) ∙ c.read_header.ensures)
 
-pub returns-then-header-eq0 : goal.returns-then-header-eq0
-returns-then-header-eq0 c =
-    let h = c.read_header-header in
+pub sum_of-sum-requires : goal.sum_of-sum-requires
+sum_of-sum-requires c =
     let a = c.args in
-    let w = settable_of a.file.now h.result h.ensures c.if-header-eq0.true in
-    let v = bytes_all a.file.now (λ k. omega (arith, c.slice_known-1.given k)) in
-    let k = c.read_header-sum in
-    record { value = sym w.items; file_after = sum_step a.number a.time 10 a.file.now c.write_rows.new.file c.write16.new.out k.result v w.items c.write_rows.ensures k.ensures c.write16.ensures.out_after }
+    let i = header_accepted 18 a.file.now c.in_ok-header.header (sym (ap numbered c.in_ok-header.was) ∙ c.read_header.ensures) in
+    still_accepted a.number a.time a.file.now c.write_rows.new.file (bytes_all a.file.now (λ k. omega (arith, c.slice_known-1.given k))) i c.write_rows.ensures
 
-pub returns : goal.returns
-returns c = record { value = ap (λ (h : Header). h.refusal) c.read_header-header.ensures ∙ header_refusal 18 c.args.file.now; file_after = sym (set_refused c.args.number c.args.time c.args.file.now (λ e. c.if-header-eq0.false (ap (λ (h : Header). h.refusal) c.read_header-header.ensures ∙ header_refusal 18 c.args.file.now ∙ e))) }
+pub returns-clause-value : goal.returns-clause-value
+returns-clause-value c = sym (header_accepted 18 c.args.file.now c.in_ok-header.header (sym (ap numbered c.in_ok-header.was) ∙ c.read_header.ensures))
+
+pub returns-clause-file_after : goal.returns-clause-file_after
+returns-clause-file_after c =
+    let a = c.args in
+    let i = header_accepted 18 a.file.now c.in_ok-header.header (sym (ap numbered c.in_ok-header.was) ∙ c.read_header.ensures) in
+    sum_step a.number a.time a.file.now c.write_rows.new.file c.write16.new.out c.sum_of-sum.result (bytes_all a.file.now (λ k. omega (arith, c.slice_known-1.given k))) i c.write_rows.ensures c.sum_of-sum.ensures c.write16.ensures.out_after

@@ -1,17 +1,9 @@
-use Rattle.std.proofs.Common.{◌-◌, sym, ◌∙◌}
+use Rattle.std.proofs.Common.{sym, arith, ◌∙◌}
 use Rattle.input.proofs.InputLaws.{passes_piece}
 use Rattle.input.proofs.after_pieces.Goals as goal
 
-pub loop-n-init : goal.loop-n-init
-loop-n-init c = c.requires
-
-pub returns-then-has_newline : goal.returns-then-has_newline
-returns-then-has_newline c = c.loop-n.invariant.1
-
-pub loop-n-preserved : goal.loop-n-preserved
-loop-n-preserved c =
-    let l = c.loop-n in
-    (l.invariant.0, passes_piece c.args.input.now l.n c.args.size l.invariant.1 c.loop-n-test.true (sym c.if-has_newline.false ∙ c.has_newline.ensures))
-
-pub returns : goal.returns
-returns c = c.loop-n.invariant.1
+pub loop-piece-preserved : goal.loop-piece-preserved
+loop-piece-preserved c =
+    let l = c.loop-piece in
+    let s = rw c.in-Some.is at c.next.ensures.steps in
+    let same = s.0 ∙ l.invariant.1 in (l.invariant.0, same, passes_piece _ _ _ _ _ _ l.invariant.2 s.1.0 (s.1.1 ∙ l.invariant.1) (sym c.if-has_newline.false ∙ c.has_newline.ensures), omega (arith, same), tt)

@@ -1,22 +1,12 @@
-use Rattle.std.proofs.Common.{◌-◌, ◌<◌, arith}
-use Rattle.input.proofs.InputLaws.{near_none, near_closer, near_same, near_all}
-use Rattle.std.proofs.Common.{rules}
+use Rattle.std.proofs.Common.{arith}
+use Rattle.input.proofs.InputLaws.{near_closer, near_same}
 use Rattle.input.proofs.has_newline.Goals as goal
+use Rattle.input.proofs.has_newline.Goals.{then-d-least, else-d-least}
 
-pub loop-i-init : goal.loop-i-init
-loop-i-init c = near_none _
-
-pub loop-i-preserved-then-d-least : goal.loop-i-preserved-then-d-least
-loop-i-preserved-then-d-least c =
-    let l = c.loop-i in
-    let small : c.wrapping_sub_u8-d.result < 256 = omega arith in
-    near_closer c.args.bytes.now l.least l.i c.wrapping_sub_u8-d.result c.loop-i-test.true small (omega (arith, c.wrapping_sub_u8-d.ensures)) l.invariant c.if-d-least.true
-
-pub loop-i-preserved : goal.loop-i-preserved
-loop-i-preserved c =
-    let l = c.loop-i in
-    let small : c.wrapping_sub_u8-d.result < 256 = omega arith in
-    near_same c.args.bytes.now l.least l.i c.wrapping_sub_u8-d.result c.loop-i-test.true small (omega (arith, c.wrapping_sub_u8-d.ensures)) l.invariant c.if-d-least.false
-
-pub returns : goal.returns
-returns c = let l = c.loop-i in near_all c.args.bytes.now l.least l.i l.invariant c.loop-i-test.false
+pub loop-b-preserved : goal.loop-b-preserved
+loop-b-preserved c =
+    let l = c.loop-b in
+    elim c.if-d-least.branch [
+      | then-d-least w ↦ rw w.least-is (near_closer _ _ _ _ c.loop-b-test.true (omega arith) (omega arith) l.invariant w.if-d-least.true)
+      | else-d-least w ↦ rw w.least-is (near_same _ _ _ _ c.loop-b-test.true (omega arith) (omega arith) l.invariant w.if-d-least.false)
+    ]

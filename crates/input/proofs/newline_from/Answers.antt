@@ -1,21 +1,13 @@
-use Rattle.std.proofs.Common.{◌-◌, add-one, arith}
-use Rattle.input.proofs.InputLaws.{line_here, line_on, line_end}
+use Rattle.std.proofs.Common.{◌≡◌, ◌≢◌, ap, rules, arith, drop, length}
+use borrow.Author.Tests.{tests}
+use Rattle.std.proofs.lemmas.Iterator.{index_from_first, IsFirst-from_position, YieldsList-from_slice}
+use Rattle.input.specs.Input.{line_length}
+use Rattle.input.proofs.InputLaws.{cons_here, cons_on, line_none, end_all}
 use Rattle.input.proofs.newline_from.Goals as goal
 
-pub bounds-input-n : goal.bounds-input-n
-bounds-input-n c = omega arith
-
-pub returns-then-input-n-eq10 : goal.returns-then-input-n-eq10
-returns-then-input-n-eq10 c = omega (arith, c.loop-n.invariant, line_here c.args.input.now c.loop-n.n c.loop-n-test.true c.if-input-n-eq10.true)
-
-pub overflow_add-n : goal.overflow_add-n
-overflow_add-n c = omega arith
-
-pub loop-n-smaller : goal.loop-n-smaller
-loop-n-smaller c = omega arith
-
-pub loop-n-preserved : goal.loop-n-preserved
-loop-n-preserved c = rw add-one (omega (arith, c.loop-n.invariant, line_on c.args.input.now c.loop-n.n c.loop-n-test.true c.if-input-n-eq10.false))
-
 pub returns : goal.returns
-returns c = omega (arith, c.loop-n.invariant, line_end c.args.input.now c.loop-n.n c.loop-n-test.false)
+returns c =
+    let first = index_from_first line_length (λ b. b ≡ 10) (λ b. b ≢ 10) line_none cons_here (λ b bs h. cons_on b bs h) _ _
+    (IsFirst-from_position _ _ _ (λ b. b ≡ 10) (λ b. b ≢ 10) c.position.ensures.ran (YieldsList-from_slice _ c.iter.ensures.rest) (λ x q k. search (rules, tests)) (λ x q k. search (rules, tests))) in
+    let all : _ ≡ drop c.args.from c.args.input.now = end_all c.args.from c.args.input.now in
+    omega (arith, c.requires.count, c.unwrap_or.ensures, first, ap length all, ap line_length all)

@@ -2,10 +2,10 @@
 use Rattle.links.specs.Sound.{named_at}
 use Rattle.links.proofs.named_sound.Goals as goal
 
-pub returns-in-Nothing : goal.returns-in-Nothing
+pub returns-in-None : goal.returns-in-None
 unfolding named_at
-returns-in-Nothing c = rw (← c.find-found.ensures, c.in-Nothing.is)
+returns-in-None c = rw (← c.find-found.ensures, c.in-None.is)
 
-pub returns-in-At : goal.returns-in-At
+pub returns-in-Some : goal.returns-in-Some
 unfolding named_at
-returns-in-At c = rw (← c.find-found.ensures, c.in-At.is) c.complete_at.ensures
+returns-in-Some c = rw (← c.find-found.ensures, c.in-Some.is) c.complete_at.ensures

@@ -1,9 +1,6 @@
 -- `links::place_of` meets its contract. A record with the number is the only one that has it, so it need not be the first that is looked at.
-use Prim.Native.Nat.{◌-◌}
-use native.Mathlib.Omega.{arith}
 use borrow.Author.Tests.{eq-eqb}
 use Rattle.table.specs.Table.{files}
-use Rattle.table.proofs.Records.{length_files}
 use Rattle.links.proofs.Names.{place_own}
 use Rattle.links.proofs.place_of.Goals as goal
 
@@ -18,12 +15,6 @@ returns-then-get-number c =
     let a = c.args in
     let l = c.loop-at in
     place_own (files a.table.now) c.requires c.get.result l.at a.number c.get.ensures c.if-get-number.true c.if-number-eq0.false
-
-pub overflow_add-at : goal.overflow_add-at
-overflow_add-at c = let e = length_files c.args.table.now in omega arith
-
-pub loop-at-smaller : goal.loop-at-smaller
-loop-at-smaller c = omega arith
 
 pub loop-at-preserved : goal.loop-at-preserved
 loop-at-preserved c = c.loop-at.invariant

@@ -3,10 +3,10 @@ use Rattle.links.specs.Sound.{size_in}
 use Rattle.std.proofs.Common.{rules}
 use Rattle.links.proofs.size_in.Goals as goal
 
-pub returns-in-Nothing : goal.returns-in-Nothing
+pub returns-in-None : goal.returns-in-None
 unfolding size_in
-returns-in-Nothing c = rw c.in-Nothing.is
+returns-in-None c = rw c.in-None.is
 
-pub returns-in-At : goal.returns-in-At
+pub returns-in-Some : goal.returns-in-Some
 unfolding size_in
-returns-in-At c = search rules
+returns-in-Some c = search rules

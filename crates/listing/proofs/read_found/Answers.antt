@@ -8,26 +8,22 @@ unfolding entry_in
 returns-then-place-ge256 c =
     let a = c.args in
     rw
-    (c.in-At.is, entry_outside a.long a.disk.now a.owner.now c.in-At.place (file_at (files a.table.now) c.in-At.place).received c.if-place-ge256.true)
+    (c.in-Some.is, entry_outside a.long a.disk.now a.owner.now c.in-Some.place (file_at (files a.table.now) c.in-Some.place).received c.if-place-ge256.true)
     (put_nothing a.skip a.out.now)
 
-pub returns-in-Nothing : goal.returns-in-Nothing
+pub returns-in_default : goal.returns-in_default
 unfolding entry_in
-returns-in-Nothing c =
+returns-in_default c =
     let a = c.args in
-    rw c.in-Nothing.is (put_nothing a.skip a.out.now)
+    rw c.in_default.is (put_nothing a.skip a.out.now)
 
-pub shape_of-out : goal.shape_of-out
-shape_of-out c = c.out-1.given
-
-pub returns-else-place-ge256 : goal.returns-else-place-ge256
+pub returns : goal.returns
 unfolding entry_in
-returns-else-place-ge256 c =
-    let f = c in
-    let a = f.args in
+returns c =
+    let a = c.args in
     rw (
-      f.in-At.is,
-      ← f.get-f.ensures,
-      ← read_is a.long a.disk.now a.owner.now f.in-At.place f.get-f.result.received a.skip a.out.now,
+      c.in-Some.is,
+      ← c.get-f.ensures,
+      ← read_is a.long a.disk.now a.owner.now c.in-Some.place c.get-f.result.received a.skip a.out.now,
     )
     c.read_entry.ensures

@@ -4,27 +4,12 @@ use Rattle.server.proofs.CheckLaws.{sizes_true, room_true, both_true}
 use Rattle.making.proofs.make.Goals as goal
 
 pub empty-requires : goal.empty-requires
-empty-requires c = let t = both_true _ _ (rw c.new_server-server.ensures at (sym c.fits_all.ensures ∙ c.if-fits_all.true)) in let s = sizes_true _ _ _ _ t.0 in let r = room_true _ _ _ _ _ _ _ _ _ _ t.1 in record { small = (s.blocks, s.files, s.sessions, s.most); maps = r.map; owners = r.owner; records = r.table; selections = r.selected; packets = r.held }
-
-pub shape_of-map-then-fits_all : goal.shape_of-map-then-fits_all
-shape_of-map-then-fits_all c = c.map-1.given
-
-pub shape_of-owner-then-fits_all : goal.shape_of-owner-then-fits_all
-shape_of-owner-then-fits_all c = c.owner-1.given
-
-pub shape_of-table-then-fits_all : goal.shape_of-table-then-fits_all
-shape_of-table-then-fits_all c = c.table-1.given
-
-pub shape_of-selected-then-fits_all : goal.shape_of-selected-then-fits_all
-shape_of-selected-then-fits_all c = c.selected-1.given
-
-pub shape_of-held-then-fits_all : goal.shape_of-held-then-fits_all
-shape_of-held-then-fits_all c = c.held-1.given
+empty-requires c = let t = both_true _ _ (rw (c.new_server-server.ensures, c.of-n.ensures) at (sym c.fits_all.ensures ∙ c.if-fits_all.true)) in let s = sizes_true _ _ _ _ t.0 in let r = room_true _ _ _ _ _ _ _ _ _ _ t.1 in record { small = (s.blocks, s.files, s.sessions, s.most); maps = r.map; owners = r.owner; records = r.table; selections = r.selected; packets = r.held }
 
 pub returns-then-fits_all : goal.returns-then-fits_all
 unfolding make_of
-returns-then-fits_all c = rw (c.new_server-server.ensures, rw c.new_server-server.ensures at (sym c.fits_all.ensures ∙ c.if-fits_all.true), ← c.empty.ensures)
+returns-then-fits_all c = rw (c.new_server-server.ensures, rw (c.new_server-server.ensures, c.of-n.ensures) at (sym c.fits_all.ensures ∙ c.if-fits_all.true), ← c.empty.ensures)
 
 pub returns : goal.returns
 unfolding make_of
-returns c = rw (c.new_server-server.ensures, rw c.new_server-server.ensures at (sym c.fits_all.ensures ∙ c.if-fits_all.false))
+returns c = rw (c.new_server-server.ensures, rw (c.new_server-server.ensures, c.of-n.ensures) at (sym c.fits_all.ensures ∙ c.if-fits_all.false))

@@ -11,8 +11,8 @@ overflow_add-result c =
     let a = b8.args in
     omega (
       arith,
-      laws.place_within a.text.now a.out.now (replicate 256 0) c.in-Wrong.p c.in-Wrong.why b4.sum-s.result
-          b4.sum-s.new.out c.in-Wrong.is b4.sum-s.ensures,
+      laws.place_within a.text.now a.out.now (replicate 256 0) c.in-Err.wrong b4.sum.result
+          b4.sum.new.out c.in-Err.is b4.sum.ensures,
       b8.well_formed.0.0,
     )
 
@@ -21,16 +21,16 @@ returns-then-e-text c =
     let b5 = c in
     let b9 = b5 in
     let a = b9.args in
-    laws.text_over a.text.now a.out.now (replicate 256 0) c.in-At.e c.in-At.m b5.sum-s.result
-    b5.sum-s.new.out c.in-At.is b5.sum-s.ensures c.if-e-text.true
+    laws.text_over a.text.now a.out.now (replicate 256 0) c.in-Ok.e c.in-Ok.m b5.sum.result
+    b5.sum.new.out c.in-Ok.is b5.sum.ensures c.if-e-text.true
 
-pub returns-in-Wrong : goal.returns-in-Wrong
-returns-in-Wrong c =
+pub returns-in-Err : goal.returns-in-Err
+returns-in-Err c =
     let b4 = c in
     let b8 = b4 in
     let a = b8.args in
-    laws.text_wrong a.text.now a.out.now (replicate 256 0) c.in-Wrong.p c.in-Wrong.why b4.sum-s.result
-    b4.sum-s.new.out c.in-Wrong.is b4.sum-s.ensures
+    laws.text_wrong a.text.now a.out.now (replicate 256 0) c.in-Err.wrong b4.sum.result
+    b4.sum.new.out c.in-Err.is b4.sum.ensures
 
 pub returns-else-e-text : goal.returns-else-e-text
 returns-else-e-text c =
@@ -39,5 +39,5 @@ returns-else-e-text c =
     let b10 = b7 in
     let b14 = b10 in
     let a = b14.args in
-    laws.text_whole a.text.now a.out.now (replicate 256 0) b7.in-At.e b7.in-At.m b10.sum-s.result
-    b10.sum-s.new.out b7.in-At.is b10.sum-s.ensures _ refl b5.if-e-text.false c.deliver.ensures
+    laws.text_whole a.text.now a.out.now (replicate 256 0) b7.in-Ok.e b7.in-Ok.m b10.sum.result
+    b10.sum.new.out b7.in-Ok.is b10.sum.ensures _ refl b5.if-e-text.false c.deliver.ensures

@@ -1,21 +1,6 @@
 use Rattle.pass.proofs.Parts.{error_put_law}
 use Rattle.pass.proofs.put_error.Goals as goal
 
-pub least-at-requires : goal.least-at-requires
-least-at-requires c = tt
-
-pub wrapping_add_usize-requires : goal.wrapping_add_usize-requires
-wrapping_add_usize-requires c = tt
-
-pub error_line-n-requires : goal.error_line-n-requires
-error_line-n-requires c = tt
-
-pub with_more-requires : goal.with_more-requires
-with_more-requires c = tt
-
-pub put_last-requires : goal.put_last-requires
-put_last-requires c = tt
-
 pub returns : goal.returns
 returns c = record {
   text_after = error_put_law c.args.pass c.args.text.now _ _ _ c.least-at.ensures.2 _ _ _ _ _ _

@@ -1,10 +1,10 @@
-use Rattle.std.proofs.Common.{refl}
-use Rattle.passday.proofs.Starting.{ready}
+use Rattle.std.proofs.Common.{refl, arith}
+use Rattle.pass.proofs.Starting.{ready}
 use Rattle.passday.proofs.run_in_memory.Goals as goal
 
 pub run-requires : goal.run-requires
 run-requires c =
-    ready _
+    ready 560 (omega arith) _
     (record {
       disk = c.blank_disk-disk.ensures;
       map = search;
@@ -21,7 +21,7 @@ pub returns : goal.returns
 returns c =
     record {
       memory = _;
-      ready = ready _ (record {
+      ready = ready 560 (omega arith) _ (record {
         disk = c.blank_disk-disk.ensures;
         map = search;
         owner = search;

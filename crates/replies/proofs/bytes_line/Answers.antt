@@ -1,6 +1,5 @@
 use mathlib.Core.Path.{◌∙◌}
 use mathlib.Core.List.{[], ◌∷◌}
-use Prim.Native.Nat.{◌-◌}
 use Rattle.packet.specs.Names.{bytes_of}
 use Rattle.lines.specs.Text.{hex_of}
 use Rattle.lines.proofs.TextLaws.{hex_length}

@@ -1,5 +1,4 @@
 use mathlib.Core.List.{[], ◌∷◌}
-use Prim.Native.Nat.{◌-◌}
 use native.Mathlib.Omega.{arith}
 use Rattle.packet.specs.Names.{bytes_of}
 use Rattle.lines.specs.Text.{decimal_of}

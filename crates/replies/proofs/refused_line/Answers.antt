@@ -1,5 +1,4 @@
 use mathlib.Core.List.{[], ◌∷◌}
-use Prim.Native.Nat.{◌-◌}
 use Rattle.replies.proofs.ReplyLaws as laws
 use Rattle.packet.specs.Names.{bytes_of}
 use Rattle.replies.specs.Reply.{refused_line}

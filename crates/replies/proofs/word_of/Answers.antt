@@ -1,4 +1,3 @@
-use Prim.Native.Nat.{◌-◌}
 use Rattle.packet.specs.Names.{bytes_of}
 use Rattle.replies.specs.Reply.{word_of}
 use Rattle.replies.specs.Words.{word_for}

@@ -1,6 +1,5 @@
 use mathlib.Core.Path.{sym}
 use mathlib.Core.List.{[], ◌∷◌}
-use Prim.Native.Nat.{◌-◌}
 use native.Mathlib.Omega.{arith}
 use lib.Seq.{length-take-le}
 use Rattle.packet.specs.Names.{bytes_of}
@@ -8,7 +7,6 @@ use Rattle.lines.specs.Text.{decimal_of}
 use Rattle.lines.proofs.TextLaws.{digits_most}
 use Rattle.replies.proofs.ReplyLaws as laws
 use Rattle.replies.specs.Reply.{wrong_line}
-use Rattle.std.proofs.Common.{rules}
 use Rattle.replies.proofs.wrong_line.Goals as goal
 
 pub push_decimal-b-requires : goal.push_decimal-b-requires

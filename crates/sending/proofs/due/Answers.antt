@@ -7,9 +7,6 @@ pub returns-then-out-lt258 : goal.returns-then-out-lt258
 unfolding due_in
 returns-then-out-lt258 c = rw (lt-ltb _ _ c.if-out-lt258.true)
 
-pub shape_of-out : goal.shape_of-out
-shape_of-out c = c.out-1.given
-
 pub returns : goal.returns
 unfolding due_in
 returns c = rw (le-ltb _ _ c.if-out-lt258.false) c.send_due.ensures

@@ -5,8 +5,5 @@ use Rattle.sending.proofs.send_listing.Goals as goal
 pub send_filled-requires : goal.send_filled-requires
 send_filled-requires c = rw c.fill-f.ensures (fill_size _ _ _, fill_whole _ _ _, c.requires)
 
-pub shape_of-out : goal.shape_of-out
-shape_of-out c = c.out-1.given
-
 pub returns : goal.returns
 returns c = rw (← c.fill-f.ensures) c.send_filled.ensures

@@ -1,4 +1,4 @@
-use Prim.Native.Nat.{◌+◌, ◌-◌}
+use Prim.Native.Nat.{◌+◌}
 use mathlib.Core.Path.{◌≡◌}
 use lib.ListN.{length, take, drop}
 use Rattle.stored.specs.Answers.{file_at}
@@ -7,8 +7,5 @@ use Rattle.stored.proofs.fetch.Given as goal
 
 abbrev pub invariant-loop-i : goal.invariant-loop-i
 invariant-loop-i l =
-    (length l.out ≡ length l.initial.out) × (take l.i l.out ≡ take l.i (take (length l.initial.out) (drop l.at (file_at l.disk l.owner l.place l.n))))
+    (take l.i l.out ≡ take l.i (take (length l.initial.out) (drop l.at (file_at l.disk l.owner l.place l.n))))
     × Stands l.owner l.place l.here.index l.here.block (l.at + l.i)
-
-abbrev pub decreases-loop-i : goal.decreases-loop-i
-decreases-loop-i l = length l.initial.out - l.i

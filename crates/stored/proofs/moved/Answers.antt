@@ -1,36 +1,30 @@
--- `stored::moved` meets its contract. The invariant: the cursor's block is the file's, at or before the block of the byte.
-use mathlib.Core.Path.{◌≡◌, ap, ◌∙◌}
-use Prim.Native.Nat.{◌+◌, ◌-◌, ◌/◌}
+-- `stored::moved` meets its contract. The invariant: the cursor's block is the file's, as many blocks on as were passed.
+use mathlib.Core.Path.{◌≡◌, refl, ap, ◌∙◌}
+use Prim.Native.Nat.{◌+◌, ◌/◌}
 use native.Mathlib.Omega.{arith}
 use Rattle.blocks.specs.Owners.{nth}
 use Rattle.blocks.proofs.Owners.{nth_le}
 use Rattle.stored.proofs.CursorLaws.{next_own}
 use Rattle.stored.proofs.moved.Goals as goal
 
-pub loop-index-init : goal.loop-index-init
-loop-index-init c = let p = c.requires in (p.1.ahead, p.1.own)
+pub loop-passed-init : goal.loop-passed-init
+loop-passed-init c = c.requires.1.own
 
 pub overflow_add-block : goal.overflow_add-block
 overflow_add-block c =
     let a = c.args in
-    let l = c.loop-index in
-    omega (arith, l.invariant.1, nth_le (a.place + 1) a.owner.now l.index, c.requires.0)
+    let l = c.loop-passed in
+    omega (arith, l.invariant, nth_le (a.place + 1) a.owner.now l._passed, c.requires.0)
 
-pub overflow_add-index : goal.overflow_add-index
-overflow_add-index c = omega arith
-
-pub loop-index-smaller : goal.loop-index-smaller
-loop-index-smaller c = omega arith
-
-pub loop-index-preserved : goal.loop-index-preserved
-loop-index-preserved c =
+pub loop-passed-preserved : goal.loop-passed-preserved
+loop-passed-preserved c =
     let a = c.args in
-    let l = c.loop-index in
-    (omega arith, next_own a.owner.now a.place l.index l.block c.next_block-block.result l.invariant.1 c.next_block-block.ensures)
+    let l = c.loop-passed in
+    next_own a.owner.now a.place l._passed l.block c.next_block-block.result l.invariant c.next_block-block.ensures
 
 pub returns : goal.returns
 returns c =
     let a = c.args in
-    let l = c.loop-index in
-    let e : l.index ≡ a.at / 256 = omega arith in
-    (e, l.invariant.1 ∙ ap (nth (a.place + 1) a.owner.now) e)
+    let l = c.loop-passed in
+    let e : l._passed ≡ a.at / 256 = omega (arith, c.requires.1.ahead) in
+    (refl, l.invariant ∙ ap (nth (a.place + 1) a.owner.now) e)

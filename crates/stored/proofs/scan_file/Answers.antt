@@ -1,5 +1,5 @@
 -- `stored::scan_file` meets its contract. The invariant is `Feeding`: what is left of the file gives the scan of the whole.
-use Prim.Native.Nat.{◌+◌, ◌-◌}
+use Prim.Native.Nat.{◌+◌}
 use native.Mathlib.Omega.{arith}
 use Rattle.blocks.proofs.Owners.{next_ge}
 use Rattle.header.specs.Scan.{start_of, scan_from}
@@ -41,9 +41,9 @@ loop-b-preserved c =
     let a = s.args in
     let p = s.requires in
     let l = s.loop-b in
-    let n = c.least-n in
+    let n = c.min-n in
     feed_next scan_from scan_append (a.place + 1) a.owner.now a.disk.now (scan_from (start_of a.want) (file_at a.disk.now a.owner.now a.place a.received))
-    l.s l.left l.b n.result l.invariant c.loop-b-test.true p.1 n.ensures.0 n.ensures.1 n.ensures.2
+    l.s l.left l.b n.result l.invariant c.loop-b-test.true p.1 (omega arith) (omega arith) (λ h. omega arith)
     _ _ c.feed-s.ensures c.next_block-b-in-loop-b.ensures
 
 pub returns : goal.returns

@@ -1,5 +1,5 @@
 -- `stored::scan_header` meets its contract. The invariant is `Feeding`, as for the whole file; past the header's end nothing changes.
-use Prim.Native.Nat.{◌+◌, ◌-◌}
+use Prim.Native.Nat.{◌+◌}
 use mathlib.Core.Path.{sym, ◌∙◌}
 use native.Mathlib.Omega.{arith}
 use Rattle.blocks.proofs.Owners.{next_ge}
@@ -50,9 +50,9 @@ loop-b-preserved c =
     let a = s.args in
     let p = s.requires in
     let l = s.loop-b in
-    let n = c.least-n in
+    let n = c.min-n in
     feed_next header_from header_append (a.place + 1) a.owner.now a.disk.now (header_from (start_of a.want) (file_at a.disk.now a.owner.now a.place a.received))
-    l.s l.left l.b n.result l.invariant c.loop-b-test.true p.1 n.ensures.0 n.ensures.1 n.ensures.2
+    l.s l.left l.b n.result l.invariant c.loop-b-test.true p.1 (omega arith) (omega arith) (λ h. omega arith)
     _ _ c.feed_header-s.ensures c.next_block-b-in-loop-b.ensures
 
 pub returns : goal.returns

@@ -19,8 +19,8 @@ pub settle_header-requires : goal.settle_header-requires
 settle_header-requires c =
     let a = c.args in
     let p = c.requires in
-    let n = c.least-n in (
-      lies a.disk.now a.owner.now a.place c.block_count.result n.result c.block_count.ensures p.0 p.1 n.ensures.1,
+    let n = c.min-n in (
+      lies a.disk.now a.owner.now a.place c.block_count.result n.result c.block_count.ensures p.0 p.1 (omega arith),
       first_stands a.owner.now a.place c.next_block.result c.next_block.ensures,
     )
 
@@ -31,7 +31,7 @@ pub returns : goal.returns
 returns c =
     let a = c.args in
     let p = c.requires in
-    let n = c.least-n in
+    let n = c.min-n in
     c.settle_header.ensures
     ∙ ap (λ (xs : List ℕ). settled_by (fields_of xs) (relations_by a.eq.now a.steps.now) a.truths.now)
-    (same_file a.disk.now a.owner.now a.place c.block_count.result a.received n.result c.block_count.ensures p.1 n.ensures.0 n.ensures.1 n.ensures.2)
+    (same_file a.disk.now a.owner.now a.place c.block_count.result a.received n.result c.block_count.ensures p.1 (omega arith) (omega arith) (λ h. omega arith))

@@ -1,6 +1,6 @@
 -- `stored::settle_items` meets its contract. The invariant is that of the equation's walk over the items, which begin at byte 2, with the cursor
 -- at or before the next item.
-use Prim.Native.Nat.{◌+◌, ◌-◌}
+use Prim.Native.Nat.{◌+◌}
 use native.Mathlib.Omega.{arith}
 use lib.ListN.{drop, length-drop}
 use Rattle.header.specs.declared.items.Head.TheVariants.{Broken, End}

@@ -1,6 +1,4 @@
 -- `stored::write_rows` meets its contract. Each row is written behind those before it.
-use mathlib.Core.Path.{refl}
-use Prim.Native.Nat.{◌-◌}
 use native.Mathlib.Omega.{arith}
 use Rattle.header.proofs.Written.{bytes_all}
 use Rattle.stored.proofs.Setting.{rows_begun, row_fits, row_written, rows_written}
@@ -11,20 +9,14 @@ loop-k-init c =
     let a = c.args in
     let s = c.requires in
     let b = bytes_all a.disk.now (λ k. omega (arith, c.type_inv.disk k)) in
-    (omega arith, refl, b, s, rows_begun a.disk.now a.owner.now a.place a.received a.at s b a.number a.time)
+    (b, s, rows_begun a.disk.now a.owner.now a.place a.received a.at s b a.number a.time)
 
 pub write_row-requires : goal.write_row-requires
 write_row-requires c =
     let l = c.loop-k in
     let a = c.args in
-    row_fits a.disk.now a.owner.now a.place a.received a.at l.invariant.3 l.invariant.2 a.number a.time l.k c.row_at.result
+    row_fits a.disk.now a.owner.now a.place a.received a.at l.invariant.1 l.invariant.0 a.number a.time l.k c.row_at.result
     c.row_at.ensures (omega arith)
-
-pub overflow_add-k : goal.overflow_add-k
-overflow_add-k c = omega arith
-
-pub loop-k-smaller : goal.loop-k-smaller
-loop-k-smaller c = omega arith
 
 pub loop-k-preserved : goal.loop-k-preserved
 loop-k-preserved c =
@@ -32,20 +24,15 @@ loop-k-preserved c =
     let a = c.args in
     let w = c.write_row in
     let r = c.row_at in (
-      omega arith,
-      omega (arith, c.disk-1.given),
-      l.invariant.2,
-      l.invariant.3,
-      row_written a.disk.now a.owner.now a.place a.received a.at l.invariant.3 l.invariant.2 a.number a.time l.k l.disk w.new.disk
-          r.result r.ensures w.ensures (omega arith) l.invariant.4,
+      l.invariant.0,
+      l.invariant.1,
+      row_written a.disk.now a.owner.now a.place a.received a.at l.invariant.1 l.invariant.0 a.number a.time l.k l.disk w.new.disk
+          r.result r.ensures w.ensures (omega arith) l.invariant.2,
     )
-
-pub shape_of-disk : goal.shape_of-disk
-shape_of-disk c = c.loop-k.invariant.1
 
 pub returns : goal.returns
 returns c =
     let l = c.loop-k in
     let a = c.args in
-    rows_written a.disk.now a.owner.now a.place a.received a.at l.invariant.3 l.invariant.2 a.number a.time l.k l.disk l.invariant.4
+    rows_written a.disk.now a.owner.now a.place a.received a.at l.invariant.1 l.invariant.0 a.number a.time l.k l.disk l.invariant.2
     (omega arith)

@@ -1,6 +1,5 @@
-use mathlib.Core.Path.{◌≡◌}
-use Prim.Native.Nat.{◌+◌, ◌-◌, ◌≤◌}
-use lib.ListN.{length, take}
+use Prim.Native.Nat.{◌+◌}
+use lib.ListN.{take}
 use Rattle.header.specs.Fields.{server_set}
 use Rattle.header.proofs.Written.{Bytes}
 use Rattle.header.proofs.Set.{stored_rows}
@@ -11,12 +10,7 @@ use Rattle.stored.proofs.write_rows.Given as goal
 
 abbrev pub invariant-loop-k : goal.invariant-loop-k
 invariant-loop-k l =
-    (l.k ≤ 4)
-    × (length l.disk ≡ length l.initial.disk)
-    × Bytes l.initial.disk
+    Bytes l.initial.disk
     × Settable l.initial.disk l.owner l.place l.received l.at
     × Changed l.initial.disk l.owner l.disk (l.place + 1) l.received
     (stored_rows (take l.k (server_set l.number l.time)) (file_at l.initial.disk l.owner l.place l.received) (file_at l.initial.disk l.owner l.place l.received))
-
-abbrev pub decreases-loop-k : goal.decreases-loop-k
-decreases-loop-k l = 4 - l.k

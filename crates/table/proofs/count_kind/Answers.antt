@@ -1,55 +1,28 @@
--- `table::count_kind` meets its contract. The invariant: what is counted so far are the files of the kind from `at` on.
-use Prim.Native.Nat.{◌+◌, ℕ, ◌-◌}
-use mathlib.Core.Path.{◌≡◌, sym, ap, ◌∙◌}
-use mathlib.Core.Bool.{cond}
-use native.Mathlib.Omega.{arith}
-use lib.ListN.{length-drop, drop}
-use Rattle.table.specs.Table.{files, is_kind, count_of}
+-- `table::count_kind` meets its contract. The invariant: what is counted so far, and the files of the kind from `at` on, are all of the kind.
+use Rattle.std.proofs.Common.{true, false, sym, ap, ◌∙◌, arith}
+use Rattle.table.specs.Table.{files, is_kind}
 use Rattle.table.proofs.Records.{length_files, count_next, count_end, count_bound}
 use Rattle.table.proofs.count_kind.Goals as goal
-
-pub loop-at-init : goal.loop-at-init
-loop-at-init c =
-    let s = c.args in
-    let fs = files s.table.now in (
-      omega (arith, c.places-at.ensures),
-      sym (ap (λ (k : ℕ). count_of (is_kind s.kind) (drop k fs)) c.places-at.ensures ∙ count_end (is_kind s.kind) fs),
-    )
-
-pub overflow_sub-at : goal.overflow_sub-at
-overflow_sub-at c = omega arith
+use Rattle.table.proofs.count_kind.Goals.{then-is_kind, else-is_kind}
 
 pub overflow_add-n : goal.overflow_add-n
 overflow_add-n c =
     let s = c.args in
-    let fs = files s.table.now in
-    let rest = drop (c.loop-at.at - 1) fs in
-    omega (
-      arith,
-      (let counted : c.loop-at.n + c.one_of_kind-n.result ≡ count_of (is_kind c.args.kind) (drop (c.loop-at.at - 1) (files c.args.table.now)) = let s = c.args in
-          let l = c.loop-at in
-          let one = c.one_of_kind-n.ensures ∙ ap (λ f. cond (is_kind s.kind f) 1 0) c.get.ensures in
-          count_next (is_kind s.kind) (files s.table.now) l.at l.n c.one_of_kind-n.result c.loop-at-test.true l.invariant.0 l.invariant.1 one in counted),
-      count_bound (is_kind s.kind) rest,
-      length-drop (c.loop-at.at - 1) fs,
-      length_files s.table.now,
-    )
-
-pub loop-at-smaller : goal.loop-at-smaller
-loop-at-smaller c = omega arith
+    omega (arith, c.loop-at.invariant, count_bound (is_kind s.kind) (files s.table.now), length_files s.table.now)
 
 pub loop-at-preserved : goal.loop-at-preserved
-loop-at-preserved c = (
-  omega arith,
-  (let counted : c.loop-at.n + c.one_of_kind-n.result ≡ count_of (is_kind c.args.kind) (drop (c.loop-at.at - 1) (files c.args.table.now)) = let s = c.args in
-      let l = c.loop-at in
-      let one = c.one_of_kind-n.ensures ∙ ap (λ f. cond (is_kind s.kind f) 1 0) c.get.ensures in
-      count_next (is_kind s.kind) (files s.table.now) l.at l.n c.one_of_kind-n.result c.loop-at-test.true l.invariant.0 l.invariant.1 one in counted),
-)
+loop-at-preserved c =
+    let s = c.args in
+    let l = c.loop-at in
+    let fs = files s.table.now in
+    let k = sym (c.is_kind.ensures ∙ ap (is_kind s.kind) c.get.ensures) in
+    elim c.if-is_kind.branch [
+      | then-is_kind w ↦ count_next (is_kind s.kind) fs l.at l.n c.if-is_kind.n true (omega (arith, c.places-at-end.ensures, c.loop-at-test.true)) (k ∙ w.if-is_kind.true) w.n-is l.invariant
+      | else-is_kind w ↦ count_next (is_kind s.kind) fs l.at l.n c.if-is_kind.n false (omega (arith, c.places-at-end.ensures, c.loop-at-test.true)) (k ∙ w.if-is_kind.false) (omega (arith, w.n-is)) l.invariant
+    ]
 
 pub returns : goal.returns
 returns c =
     let s = c.args in
     let l = c.loop-at in
-    let z : l.at ≡ 0 = omega (arith, c.loop-at-test.false) in
-    l.invariant.1 ∙ ap (λ (k : ℕ). count_of (is_kind s.kind) (drop k (files s.table.now))) z
+    omega (arith, l.invariant, count_end (is_kind s.kind) (files s.table.now) l.at (omega (arith, c.places-at-end.ensures, c.loop-at-test.false)))

@@ -1,5 +1,5 @@
 -- `table::next_complete` meets its contract. The least time above `after`, then the lowest place with it.
-use Prim.Native.Nat.{ℕ, ◌-◌}
+use Prim.Native.Nat.{ℕ}
 use mathlib.Core.Path.{sym, ap, ◌∙◌}
 use Rattle.table.specs.Table.{files, times, first_with}
 use Rattle.table.proofs.Ordering.{next_zero, next_least}

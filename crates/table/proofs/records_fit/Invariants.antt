@@ -1,12 +1,8 @@
-use Prim.Native.Nat.{◌-◌, ◌≤◌}
-use mathlib.Core.Path.{◌≡◌}
-use lib.ListN.{length, drop}
+use Rattle.std.proofs.Common.{◌≡◌, drop}
 use Rattle.table.specs.Table.{files}
 use Rattle.table.specs.Fit.{records_fit_from, records_fit}
 use Rattle.table.proofs.records_fit.Given as goal
 
 abbrev pub invariant-loop-at : goal.invariant-loop-at
-invariant-loop-at l = (l.at ≤ l.n) × (l.n ≡ length (files l.table)) × (records_fit l.last l.latest l.counts (files l.table) ≡ records_fit_from l.at l.last l.latest l.counts (drop l.at (files l.table)))
-
-abbrev pub decreases-loop-at : goal.decreases-loop-at
-decreases-loop-at l = l.n - l.at
+invariant-loop-at l =
+    records_fit l.last l.latest l.counts (files l.table) ≡ records_fit_from l.at l.last l.latest l.counts (drop l.at (files l.table))

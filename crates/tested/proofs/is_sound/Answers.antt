@@ -8,9 +8,3 @@ facts_hold-requires c =
     let z = sizes_true _ _ _ _ t.0 in
     let r = room_true _ _ _ _ _ _ _ _ _ _ t.1 in
     (z.blocks, z.files, r.map, r.owner, r.table)
-
-pub returns-then-fits_all : goal.returns-then-fits_all
-returns-then-fits_all c = rw (← c.fits_all.ensures, c.if-fits_all.true) c.facts_hold.ensures
-
-pub returns : goal.returns
-returns c = rw (← c.fits_all.ensures, c.if-fits_all.false)

@@ -17,21 +17,21 @@ loop-place-init c =
     let a = c.args in
     count_start a.eq.now a.disk.now a.owner.now a.table.now a.time
 
-pub returns-in-Nothing : goal.returns-in-Nothing
-returns-in-Nothing c =
+pub returns-in-None : goal.returns-in-None
+returns-in-None c =
     let a = c.args in
     let l = c.loop-place in
     count_none a.eq.now a.disk.now a.owner.now a.table.now a.time l.count l.after l.invariant
-    (sym c.next_complete-next.ensures ∙ c.in-Nothing.is)
+    (sym c.next_complete-next.ensures ∙ c.in-None.is)
 
 pub returns-then-time-after : goal.returns-then-time-after
 returns-then-time-after c =
     let a = c.args in
     let l = c.loop-place in
     let time = c.upload_time_of-after.ensures ∙ ap uploaded c.get-file.ensures in
-    let found = sym c.next_complete-next.ensures ∙ c.in-At.is in
+    let found = sym c.next_complete-next.ensures ∙ c.in-Some.is in
     count_end a.eq.now a.disk.now a.owner.now a.table.now a.time l.count l.after l.invariant
-    c.in-At.place found
+    c.in-Some.place found
     (omega (arith, time, c.if-time-after.true))
 
 pub meets-met-requires : goal.meets-met-requires
@@ -40,17 +40,17 @@ meets-met-requires c =
     let l = c.loop-place in
     let q = c.requires in
     let time = c.upload_time_of-after.ensures ∙ ap uploaded c.get-file.ensures in
-    let found = sym c.next_complete-next.ensures ∙ c.in-At.is in
-    let n = next_time a.eq.now a.disk.now a.owner.now a.table.now a.time l.count l.after l.invariant c.in-At.place found in
-    (q.0, q.1, place_in a.table.now c.in-At.place (λ z. omega arith) q.2)
+    let found = sym c.next_complete-next.ensures ∙ c.in-Some.is in
+    let n = next_time a.eq.now a.disk.now a.owner.now a.table.now a.time l.count l.after l.invariant c.in-Some.place found in
+    (q.0, q.1, place_in a.table.now c.in-Some.place (λ z. omega arith) q.2)
 
 pub counted-count-requires : goal.counted-count-requires
 counted-count-requires c =
     let a = c.args in
     let l = c.loop-place in
     let time = c.upload_time_of-after.ensures ∙ ap uploaded c.get-file.ensures in
-    let found = sym c.next_complete-next.ensures ∙ c.in-At.is in
-    let n = next_less a.eq.now a.disk.now a.owner.now a.table.now a.time l.count l.after l.invariant c.in-At.place found in
+    let found = sym c.next_complete-next.ensures ∙ c.in-Some.is in
+    let n = next_less a.eq.now a.disk.now a.owner.now a.table.now a.time l.count l.after l.invariant c.in-Some.place found in
     omega (
       arith,
       l.invariant.few,
@@ -63,19 +63,19 @@ loop-place-smaller c =
     let a = c.args in
     let l = c.loop-place in
     let time = c.upload_time_of-after.ensures ∙ ap uploaded c.get-file.ensures in
-    let found = sym c.next_complete-next.ensures ∙ c.in-At.is in
+    let found = sym c.next_complete-next.ensures ∙ c.in-Some.is in
     subst (λ (u : ℕ). count_above u (times (files a.table.now)) < count_above l.after (times (files a.table.now))) (sym time)
-    (next_less a.eq.now a.disk.now a.owner.now a.table.now a.time l.count l.after l.invariant c.in-At.place found)
+    (next_less a.eq.now a.disk.now a.owner.now a.table.now a.time l.count l.after l.invariant c.in-Some.place found)
 
 pub loop-place-preserved : goal.loop-place-preserved
 loop-place-preserved c =
     let a = c.args in
     let l = c.loop-place in
     let time = c.upload_time_of-after.ensures ∙ ap uploaded c.get-file.ensures in
-    let found = sym c.next_complete-next.ensures ∙ c.in-At.is in
+    let found = sym c.next_complete-next.ensures ∙ c.in-Some.is in
     let g = c.get-file.ensures in
     let m = c.meets-met.ensures
-    ∙ ap (λ (f : File). selects a.eq.now (fields_of (file_at a.disk.now a.owner.now c.in-At.place f.received))) g in
+    ∙ ap (λ (f : File). selects a.eq.now (fields_of (file_at a.disk.now a.owner.now c.in-Some.place f.received))) g in
     subst (λ (u : ℕ). Counting a.eq.now a.disk.now a.owner.now a.table.now a.time c.counted-count.result u) (sym time)
-    (count_next a.eq.now a.disk.now a.owner.now a.table.now a.time l.count l.after l.invariant c.in-At.place found
+    (count_next a.eq.now a.disk.now a.owner.now a.table.now a.time l.count l.after l.invariant c.in-Some.place found
     (omega (arith, time, c.if-time-after.false)) c.meets-met.result m c.counted-count.result c.counted-count.ensures)

@@ -17,6 +17,7 @@ use Rattle.why.specs.Run.{result_on, Tells}
 use Rattle.why.specs.declared.reasons.Decided.{Decided}
 use Rattle.why.proofs.Rows.{take_fits}
 use Rattle.why.proofs.Answers.{file_short, file_told}
+use borrow.Author.Rules.{rules}
 use Rattle.why.proofs.why_file.Goals as goal
 
 -- what was decided on the file's items
@@ -34,13 +35,31 @@ returns-then-named-count c t e =
     ap (λ x. whys x a.named.now) c.refused_by.ensures
     ∙ file_short a.eq.now t a.disk.now a.owner.now a.table.now a.most a.named.now a.place _ d.1 c.if-named-count.true
 
-pub copy-requires : goal.copy-requires
-copy-requires c =
+pub slice_bounds-row-end : goal.slice_bounds-row-end
+slice_bounds-row-end c =
     let a = c.args in
     let y = accepted a.eq.now c.requires.0.valid in
     let d = decided a.disk.now a.owner.now a.table.now a.place c.get-file.result c.decide_file-decided.result
     c.decide_file-decided.new.row y.tree c.get-file.ensures (c.decide_file-decided.ensures y.tree y.parsed) in
-    (take_fits _ _ (ap length d.2 ∙ sym d.1), c.if-named-count.false)
+    take_fits _ _ (ap length d.2 ∙ sym d.1)
+
+pub slice_bounds-copy_from_slice-end-3 : goal.slice_bounds-copy_from_slice-end-3
+slice_bounds-copy_from_slice-end-3 c =
+    let a = c.args in
+    let y = accepted a.eq.now c.requires.0.valid in
+    let d = decided a.disk.now a.owner.now a.table.now a.place c.get-file.result c.decide_file-decided.result
+    c.decide_file-decided.new.row y.tree c.get-file.ensures (c.decide_file-decided.ensures y.tree y.parsed) in
+    let w = take_fits _ _ (ap length d.2 ∙ sym d.1) in
+    search rules
+
+pub copy_from_slice-requires : goal.copy_from_slice-requires
+copy_from_slice-requires c =
+    let a = c.args in
+    let y = accepted a.eq.now c.requires.0.valid in
+    let d = decided a.disk.now a.owner.now a.table.now a.place c.get-file.result c.decide_file-decided.result
+    c.decide_file-decided.new.row y.tree c.get-file.ensures (c.decide_file-decided.ensures y.tree y.parsed) in
+    let w = take_fits _ _ (ap length d.2 ∙ sym d.1) in
+    search rules
 
 pub returns : goal.returns
 returns c t e =
@@ -52,8 +71,8 @@ returns c t e =
     ∙ ap (λ (u : ℕ). cond c.decide_file-decided.result.matched
     (older_of a.eq.now a.disk.now a.owner.now a.table.now u) 0)
     (c.upload_time_of-time.ensures ∙ ap uploaded g) in
-    let n = c.copy.ensures ∙ ap (λ (l : List ℕ). l ++ drop
-    c.decide_file-decided.result.count a.named.now) d.2 in
+    let n = ap (λ (l : List ℕ). l ++ drop
+    c.decide_file-decided.result.count a.named.now) (c.copy_from_slice.ensures.after ∙ d.2) in
     file_told a.eq.now t a.disk.now a.owner.now a.table.now a.most a.named.now a.place
     c.decide_file-decided.result.matched
     c.older_where-older.result c.decide_file-decided.result.count _ _

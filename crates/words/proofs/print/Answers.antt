@@ -1,5 +1,4 @@
 use mathlib.Core.Path.{sym}
-use Prim.Native.Nat.{◌-◌}
 use lib.Seq.{length-take-le}
 use Rattle.replies.proofs.ReplyLaws as laws
 use Rattle.words.proofs.print.Goals as goal

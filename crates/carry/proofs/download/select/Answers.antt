@@ -1,7 +1,8 @@
-use native.Mathlib.Omega.{arith}
-use mathlib.Core.Path.{sym}
+use Rattle.std.proofs.Common.{sym, arith}
 use lib.Seq.{length-take-le}
-use borrow.Author.Tests.{lt-ltb, le-ltb, eq-eqb, ne_eqb}
+use borrow.Author.Tests.{lt-ltb, le-ltb, ne_eqb}
+use Rattle.refusal.specs.Refusal.{number}
+use Rattle.refusal.proofs.Laws.{refused}
 use Rattle.carry.specs.Download.{select_turn, selected_as}
 use Rattle.carry.proofs.download.select.Goals as goal
 
@@ -12,16 +13,18 @@ returns-then-info-size c = rw (c.reply_only.ensures, lt-ltb _ _ c.if-info-size.t
 pub slice_bounds-select-end : goal.slice_bounds-select-end
 slice_bounds-select-end c = sym (length-take-le c.args.size c.args.info.now (omega arith))
 
-pub shape_of-selected-then-selection-ne0 : goal.shape_of-selected-then-selection-ne0
-shape_of-selected-then-selection-ne0 c = c.selected-1.given
+pub shape_of-selected-in-Ok : goal.shape_of-selected-in-Ok
+shape_of-selected-in-Ok c = c.selected-1.given
 
-pub returns-then-selection-ne0 : goal.returns-then-selection-ne0
+pub returns-in-Ok : goal.returns-in-Ok
 unfolding select_turn selected_as
-returns-then-selection-ne0 c = rw (c.reply_only-then-selection-ne0.ensures, le-ltb _ _ c.if-info-size.false, ← c.select-selection.ensures, ne_eqb _ _ c.if-selection-ne0.true)
+returns-in-Ok c = rw (c.reply_only-in-Ok.ensures, c.with_selection-next.ensures, le-ltb _ _ c.if-info-size.false, ← c.in-Ok.ensures)
 
-pub shape_of-selected : goal.shape_of-selected
-shape_of-selected c = c.selected-1.given
+pub shape_of-selected-in-Err : goal.shape_of-selected-in-Err
+shape_of-selected-in-Err c = c.selected-1.given
 
-pub returns : goal.returns
+pub returns-in-Err : goal.returns-in-Err
 unfolding select_turn selected_as
-returns c = rw (c.reply_only-2.ensures, c.with_selection-next.ensures, le-ltb _ _ c.if-info-size.false, ← c.select-selection.ensures, eq-eqb _ _ c.if-selection-ne0.false)
+returns-in-Err c =
+    let h = refused c.in-Err.refusal in
+    rw (c.reply_only-in-Err.ensures, c.from.ensures, le-ltb _ _ c.if-info-size.false, ← c.in-Err.ensures, ne_eqb (number c.in-Err.refusal) 0 (λ z. omega arith))

@@ -2,31 +2,31 @@ use mathlib.Core.Path.{refl}
 use Rattle.carry.specs.Upload.{finish_as, with_disk, with_blocks}
 use Rattle.carry.proofs.upload.finish.Goals as goal
 
-pub shape_of-disk-in-Rejected : goal.shape_of-disk-in-Rejected
-shape_of-disk-in-Rejected c = refl
+pub shape_of-disk-in-Err : goal.shape_of-disk-in-Err
+shape_of-disk-in-Err c = refl
 
 pub shape_of-map : goal.shape_of-map
 shape_of-map c = c.map-1.given
 
-pub shape_of-owner-in-Rejected : goal.shape_of-owner-in-Rejected
-shape_of-owner-in-Rejected c = c.owner-1.given
+pub shape_of-owner-in-Err : goal.shape_of-owner-in-Err
+shape_of-owner-in-Err c = c.owner-1.given
 
-pub shape_of-table-in-Rejected : goal.shape_of-table-in-Rejected
-shape_of-table-in-Rejected c = c.table-1.given
+pub shape_of-table-in-Err : goal.shape_of-table-in-Err
+shape_of-table-in-Err c = c.table-1.given
 
-pub returns-in-Rejected : goal.returns-in-Rejected
+pub returns-in-Err : goal.returns-in-Err
 unfolding finish_as with_disk
-returns-in-Rejected c = rw (← c.judge-judged.ensures, c.in-Rejected.is, ← c.discard.ensures)
+returns-in-Err c = rw (← c.judge.ensures, c.in-Err.is, ← c.discard.ensures)
 
-pub shape_of-disk-in-Accepted : goal.shape_of-disk-in-Accepted
-shape_of-disk-in-Accepted c = c.disk-1.given
+pub shape_of-disk-in-Ok : goal.shape_of-disk-in-Ok
+shape_of-disk-in-Ok c = c.disk-1.given
 
-pub shape_of-owner-in-Accepted : goal.shape_of-owner-in-Accepted
-shape_of-owner-in-Accepted c = refl
+pub shape_of-owner-in-Ok : goal.shape_of-owner-in-Ok
+shape_of-owner-in-Ok c = refl
 
-pub shape_of-table-in-Accepted : goal.shape_of-table-in-Accepted
-shape_of-table-in-Accepted c = c.table-in-Accepted-1.given
+pub shape_of-table-in-Ok : goal.shape_of-table-in-Ok
+shape_of-table-in-Ok c = c.table-in-Ok-1.given
 
-pub returns-in-Accepted : goal.returns-in-Accepted
+pub returns-in-Ok : goal.returns-in-Ok
 unfolding finish_as with_blocks
-returns-in-Accepted c = rw (← c.judge-judged.ensures, c.in-Accepted.is, ← c.accept.ensures)
+returns-in-Ok c = rw (← c.judge.ensures, c.in-Ok.is, ← c.accept.ensures)

@@ -2,7 +2,7 @@ use mathlib.Core.Path.{refl, sym, ◌∙◌}
 use native.Mathlib.Omega.{arith}
 use lib.Seq.{length-take-le}
 use Rattle.embed.specs.Words.{is_state}
-use Rattle.embed.proofs.Writing.{encode_alone}
+use Rattle.embed.proofs.Writing.{encode_alone, words_same}
 use lib.ListN.{replicate}
 use Rattle.embed.proofs.words.is_state.Goals as goal
 
@@ -15,15 +15,6 @@ slice_bounds-encode-end c = refl
 pub encode-requires : goal.encode-requires
 encode-requires c = omega arith
 
-pub slice_bounds-same-end : goal.slice_bounds-same-end
-slice_bounds-same-end c = sym (length-take-le 54 c.args.state.now c.requires)
-
-pub slice_bounds-same-end-2 : goal.slice_bounds-same-end-2
-slice_bounds-same-end-2 c = sym c.encode.auto.state
-
-pub same-requires : goal.same-requires
-same-requires c = length-take-le 54 c.args.state.now c.requires ∙ sym c.encode.auto.state
-
 pub returns : goal.returns
 unfolding is_state
-returns c = rw (← encode_alone _ (replicate 54 0) (omega arith), ← c.server_at-server.ensures, ← c.encode.ensures.state_after) c.same.ensures
+returns c = rw (← encode_alone _ (replicate 54 0) (omega arith), ← c.server_at-server.ensures, ← c.encode.ensures.state_after) (c.eq.ensures ∙ words_same _ _)

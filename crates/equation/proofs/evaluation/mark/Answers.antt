@@ -6,6 +6,7 @@ use Rattle.equation.specs.Parsed.{relation_from}
 use Rattle.equation.proofs.Settled.{after_met}
 use Rattle.equation.proofs.StepLaws.{relation_id}
 use Rattle.equation.proofs.evaluation.mark.Goals as goal
+use Rattle.equation.proofs.evaluation.mark.Goals.{else-id-named-via-then-id-named+else-meets_at, else-id-named-via-else-id-named}
 
 pub returns-then-m-eq1 : goal.returns-then-m-eq1
 returns-then-m-eq1 c =
@@ -19,16 +20,12 @@ returns-then-meets_at c =
     let n = relation_id a.eq.now a.at _ _ _ c.byte_of.ensures c.byte_of-2.ensures c.number16-named.ensures in
     rw (eq-eqb _ _ (c.if-id-named.true ∙ n), ← c.meets_at.ensures, c.if-meets_at.true)
 
-pub returns-then-id-named : goal.returns-then-id-named
+pub returns-else-id-named : goal.returns-else-id-named
 unfolding mark_after
-returns-then-id-named c =
+returns-else-id-named c =
     let a = c.args in
     let n = relation_id a.eq.now a.at _ _ _ c.byte_of.ensures c.byte_of-2.ensures c.number16-named.ensures in
-    rw (eq-eqb _ _ (c.if-id-named.true ∙ n), ← c.meets_at.ensures, c.if-meets_at.false)
-
-pub returns : goal.returns
-unfolding mark_after
-returns c =
-    let a = c.args in
-    let n = relation_id a.eq.now a.at _ _ _ c.byte_of.ensures c.byte_of-2.ensures c.number16-named.ensures in
-    rw (ne_eqb _ _ (λ e. c.if-id-named.false (e ∙ sym n)))
+    elim c.else-id-named.branch [
+      | else-id-named-via-then-id-named+else-meets_at w ↦ rw (eq-eqb _ _ (w.if-id-named.true ∙ n), ← w.meets_at.ensures, w.if-meets_at.false)
+      | else-id-named-via-else-id-named w ↦ rw (ne_eqb _ _ (λ e. w.if-id-named.false (e ∙ sym n)))
+    ]

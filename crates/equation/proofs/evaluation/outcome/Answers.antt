@@ -3,81 +3,42 @@ use mathlib.Core.Path.{◌∙◌}
 use native.Mathlib.Omega.{arith}
 use Rattle.equation.proofs.Runs as runs
 use Rattle.equation.proofs.evaluation.outcome.Goals as goal
+use Rattle.equation.proofs.evaluation.outcome.Goals.{then-s-lt2048+else-d-ge100, else-s-lt2048+else-s-gt2049+else-d-lt2, then-s-gt2049-via-then-s-gt2049, then-s-gt2049-via-else-s-gt2049+then-d-lt2}
 
-pub loop-i-init : goal.loop-i-init
-loop-i-init c = runs.run_start c.args.steps.now c.args.truths.now
-
-pub offset_bounds-steps-i : goal.offset_bounds-steps-i
-offset_bounds-steps-i c = omega arith
-
-pub bounds-steps-i : goal.bounds-steps-i
-bounds-steps-i c = omega arith
-
-pub overflow_add-i : goal.overflow_add-i
-overflow_add-i c = omega arith
+pub loop-step-init : goal.loop-step-init
+loop-step-init c = runs.run_start c.args.steps.now c.args.truths.now
 
 pub returns-then-d-ge100 : goal.returns-then-d-ge100
 returns-then-d-ge100 c =
-    let l = c.loop-i in
+    let l = c.loop-step in
     let a = c.args in
-    runs.run_full a.steps.now a.truths.now l.st l.d l.i l.k l.invariant c.loop-i-test.true c.if-s-lt2048.true c.if-d-ge100.true
+    runs.run_full a.steps.now a.truths.now l.st l.d l.step-index l.k l.invariant c.loop-step-test.true c.if-s-lt2048.true c.if-d-ge100.true
 
-pub bounds-st-d : goal.bounds-st-d
-bounds-st-d c = omega arith
-
-pub overflow_add-d : goal.overflow_add-d
-overflow_add-d c = omega arith
-
-pub overflow_add-k : goal.overflow_add-k
-overflow_add-k c = omega arith
-
-pub loop-i-smaller-then-s-lt2048 : goal.loop-i-smaller-then-s-lt2048
-loop-i-smaller-then-s-lt2048 c = omega arith
-
-pub loop-i-preserved-then-s-lt2048 : goal.loop-i-preserved-then-s-lt2048
-loop-i-preserved-then-s-lt2048 c =
-    let l = c.loop-i in
+pub loop-step-preserved : goal.loop-step-preserved
+loop-step-preserved c =
+    let l = c.loop-step in
     let a = c.args in
-    runs.run_rel a.steps.now a.truths.now l.st l.d l.i l.k l.invariant c.loop-i-test.true c.if-s-lt2048.true c.marked_true.result (omega arith) c.marked_true.ensures
-
-pub returns-then-s-gt2049 : goal.returns-then-s-gt2049
-returns-then-s-gt2049 c =
-    let l = c.loop-i in
-    let a = c.args in
-    runs.run_bad a.steps.now a.truths.now l.st l.d l.i l.k l.invariant c.loop-i-test.true c.if-s-gt2049.true
-
-pub returns-then-d-lt2 : goal.returns-then-d-lt2
-returns-then-d-lt2 c =
-    let l = c.loop-i in
-    let a = c.args in
-    runs.run_few a.steps.now a.truths.now l.st l.d l.i l.k l.invariant c.loop-i-test.true c.if-s-lt2048.false c.if-s-gt2049.false c.if-d-lt2.true
-
-pub overflow_sub-d : goal.overflow_sub-d
-overflow_sub-d c = omega arith
-
-pub bounds-st-j : goal.bounds-st-j
-bounds-st-j c = omega arith
-
-pub bounds-st-d-else-s-lt2048 : goal.bounds-st-d-else-s-lt2048
-bounds-st-d-else-s-lt2048 c = omega arith
-
-pub bounds-st-j-else-s-lt2048 : goal.bounds-st-j-else-s-lt2048
-bounds-st-j-else-s-lt2048 c = omega arith
-
-pub loop-i-smaller : goal.loop-i-smaller
-loop-i-smaller c = omega arith
-
-pub loop-i-preserved : goal.loop-i-preserved
-loop-i-preserved c =
-    let l = c.loop-i in
-    let a = c.args in
-    runs.run_join a.steps.now a.truths.now l.st l.d l.i l.k l.invariant c.loop-i-test.true c.if-s-lt2048.false c.if-s-gt2049.false c.combined.result c.if-d-lt2.false c.combined.ensures
-
-pub bounds-st-0 : goal.bounds-st-0
-bounds-st-0 c = omega arith
+    elim c.if-s-lt2048.branch [
+      | then-s-lt2048+else-d-ge100 w ↦
+          rw (w.st-is, w.d-is, w.k-is)
+          (runs.run_rel a.steps.now a.truths.now l.st l.d l.step-index l.k l.invariant c.loop-step-test.true w.if-s-lt2048.true w.marked_true.result (omega (arith, w.if-d-ge100.false)) w.marked_true.ensures)
+      | else-s-lt2048+else-s-gt2049+else-d-lt2 w ↦
+          rw (w.st-is, w.d-is, w.k-is)
+          (runs.run_join a.steps.now a.truths.now l.st l.d l.step-index l.k l.invariant c.loop-step-test.true w.if-s-lt2048.false w.if-s-gt2049.false w.combined.result w.if-d-lt2.false w.combined.ensures)
+    ]
 
 pub returns : goal.returns
 returns c =
-    let l = c.loop-i in
+    let l = c.loop-step in
     let a = c.args in
-    c.finish.ensures ∙ runs.run_end a.steps.now a.truths.now l.st l.d l.i l.k l.invariant c.loop-i-test.false
+    c.finish.ensures ∙ runs.run_end a.steps.now a.truths.now l.st l.d l.step-index l.k l.invariant c.loop-step-test.false
+
+pub returns-then-s-gt2049 : goal.returns-then-s-gt2049
+returns-then-s-gt2049 c =
+    let l = c.loop-step in
+    let a = c.args in
+    elim c.then-s-gt2049.branch [
+      | then-s-gt2049-via-then-s-gt2049 w ↦ runs.run_bad a.steps.now a.truths.now l.st l.d l.step-index l.k l.invariant c.loop-step-test.true w.if-s-gt2049.true
+      | then-s-gt2049-via-else-s-gt2049+then-d-lt2 w ↦
+          runs.run_few a.steps.now a.truths.now l.st l.d l.step-index l.k l.invariant c.loop-step-test.true c.if-s-lt2048.false w.if-s-gt2049.false w.if-d-lt2.true
+    ]

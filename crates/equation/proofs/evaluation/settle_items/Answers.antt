@@ -1,5 +1,5 @@
 -- `equation::evaluation::settle_items` meets its contract. Assumes nothing.
-use mathlib.Core.Path.{sym}
+use mathlib.Core.Path.{sym, ◌∙◌}
 use native.Mathlib.Omega.{arith}
 use borrow.Author.Rules.{rules}
 use Rattle.equation.specs.Parsed.{relations_by}
@@ -9,22 +9,6 @@ use Rattle.equation.proofs.evaluation.settle_items.Goals as goal
 
 pub loop-id-init : goal.loop-id-init
 loop-id-init c = marks.walk_start (relations_by c.args.eq.now c.args.steps.now) c.args.file.now c.args.truths.now
-
-pub shape_of-truths-in-Broken : goal.shape_of-truths-in-Broken
-shape_of-truths-in-Broken c = c.loop-id.invariant.sized
-
-pub returns-in-Broken : goal.returns-in-Broken
-returns-in-Broken c =
-    let l = c.loop-id in
-    marks.walk_broken (relations_by c.args.eq.now c.args.steps.now) c.args.file.now c.args.truths.now l.truths l.at l.invariant (sym c.in-Broken.ensures)
-
-pub shape_of-truths-in-End : goal.shape_of-truths-in-End
-shape_of-truths-in-End c = c.loop-id.invariant.sized
-
-pub returns-in-End : goal.returns-in-End
-returns-in-End c =
-    let l = c.loop-id in
-    marks.walk_end (relations_by c.args.eq.now c.args.steps.now) c.args.file.now c.args.truths.now l.truths l.at l.invariant (sym c.in-End.ensures)
 
 pub overflow_add-start : goal.overflow_add-start
 overflow_add-start c = omega (arith, walks.item_within c.args.file.now c.loop-id.at c.in-Item.id c.in-Item.n (sym c.in-Item.ensures))
@@ -52,3 +36,8 @@ pub loop-id-preserved : goal.loop-id-preserved
 loop-id-preserved c =
     let l = c.loop-id in
     marks.walk_item (relations_by c.args.eq.now c.args.steps.now) c.args.file.now c.args.truths.now l.truths l.at l.invariant c.in-Item.id c.in-Item.n _ (sym c.in-Item.ensures) c.settle.ensures
+
+pub returns : goal.returns
+returns c =
+    let l = c.loop-id in
+    marks.walk_over (relations_by c.args.eq.now c.args.steps.now) c.args.file.now c.args.truths.now l.truths l.at l.invariant (λ i n e. c.in_default.not-Item i n (c.read_head.ensures ∙ e))

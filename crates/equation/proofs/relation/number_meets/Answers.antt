@@ -1,24 +1,19 @@
 -- `equation::relation::number_meets` meets its contract. Assumes nothing.
-use mathlib.Core.Path.{sym, ◌∙◌}
-use lib.ListN.{length}
-use Rattle.equation.specs.Relation.{number_meets}
+use Rattle.std.proofs.Common.{◌≡◌, true, false, sym, ◌∙◌}
 use Rattle.equation.proofs.RelationLaws as numbers
 use Rattle.equation.proofs.relation.number_meets.Goals as goal
+use Rattle.equation.proofs.relation.number_meets.Goals.{then-number_width, else-number_width}
 
 pub value-requires : goal.value-requires
-value-requires c = numbers.width_le (length c.args.item.now) (sym c.number_width-then-number_width.ensures ∙ c.if-number_width-2.true)
+value-requires c =
+    elim c.if-number_width.branch [
+      | then-number_width w ↦ numbers.width_le _ (sym w.number_width-then-number_width.ensures ∙ sym w.value-is ∙ c.if-number_width-2.true)
+      | else-number_width w ↦ let z : false ≡ true = sym w.if-number_width.false ∙ sym w.value-is ∙ c.if-number_width-2.true in cc
+    ]
 
 pub value-requires-then-number_width-2 : goal.value-requires-then-number_width-2
-value-requires-then-number_width-2 c = numbers.width_le (length c.args.constant.now) (sym c.number_width.ensures ∙ c.if-number_width.true)
-
-pub returns-then-number_width-2 : goal.returns-then-number_width-2
-unfolding number_meets
-returns-then-number_width-2 c = rw (← c.number_width.ensures, c.if-number_width.true, ← c.number_width-then-number_width.ensures, c.if-number_width-2.true, ← c.value.ensures, ← c.value-then-number_width-2.ensures) c.relate.ensures
-
-pub returns-else-number_width-2 : goal.returns-else-number_width-2
-unfolding number_meets
-returns-else-number_width-2 c = rw (← c.number_width.ensures, c.if-number_width.true, ← c.number_width-then-number_width.ensures, c.if-number_width-2.false)
-
-pub returns-else-number_width : goal.returns-else-number_width
-unfolding number_meets
-returns-else-number_width c = rw (← c.number_width.ensures, c.if-number_width.false)
+value-requires-then-number_width-2 c =
+    elim c.if-number_width.branch [
+      | then-number_width w ↦ numbers.width_le _ (sym c.number_width.ensures ∙ w.if-number_width.true)
+      | else-number_width w ↦ let z : false ≡ true = sym w.if-number_width.false ∙ sym w.value-is ∙ c.if-number_width-2.true in cc
+    ]

@@ -2,7 +2,7 @@
 use mathlib.Core.Path.{◌≡◌, sym, ◌∙◌}
 use mathlib.Core.Bool.{true, false}
 use mathlib.Core.List.{List}
-use Prim.Native.Nat.{ℕ, ◌<◌}
+use Prim.Native.Nat.{ℕ, ◌+◌, ◌<◌}
 use native.Mathlib.Omega.{arith}
 use lib.ListN.{length, drop}
 use Rattle.equation.specs.Symbols.{token_of}
@@ -141,4 +141,5 @@ loop-steps-smaller c = omega (arith, tokens.relation_within _ _ _ _ _ c.loop-ste
 pub loop-steps-preserved : goal.loop-steps-preserved
 loop-steps-preserved c =
     let l = c.loop-steps in
-    laws.list_rel c.args.eq.now c.args.steps.now l.steps l.at l.n l.invariant _ _ c.in-Rel.m (sym c.in-Rel.ensures)
+    let e : l.at + (4 + c.in-Rel.m) ≡ l.at + 4 + c.in-Rel.m = omega arith in
+    rw e (laws.list_rel c.args.eq.now c.args.steps.now l.steps l.at l.n l.invariant _ _ c.in-Rel.m (sym c.in-Rel.ensures))

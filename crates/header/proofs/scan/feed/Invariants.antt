@@ -1,9 +1,6 @@
-use Rattle.std.proofs.Common.{◌≡◌, ◌-◌, ◌≤◌, length, drop}
+use Rattle.std.proofs.Common.{◌≡◌, drop}
 use Rattle.header.specs.Scan.{scan_from}
 use Rattle.header.proofs.scan.feed.Given as goal
 
 abbrev pub invariant-loop-i : goal.invariant-loop-i
-invariant-loop-i l = (l.i ≤ length l.part) × (scan_from l.scan (drop l.i l.part) ≡ scan_from l.initial.scan l.part)
-
-abbrev pub decreases-loop-i : goal.decreases-loop-i
-decreases-loop-i l = length l.part - l.i
+invariant-loop-i l = scan_from l.scan (drop l.i l.part) ≡ scan_from l.initial.scan l.part

@@ -4,42 +4,42 @@ use Rattle.lines.proofs.commands.command_of_two.Goals as goal
 
 pub returns-then-same_text : goal.returns-then-same_text
 unfolding command_of_two bytes_of
-returns-then-same_text c = rw (c.in-Value.is, ← c.same_text.ensures, c.if-same_text.true)
+returns-then-same_text c = rw (c.in-Some.is, ← c.same_text.ensures, c.if-same_text.true)
 
 pub returns-then-same_text-2 : goal.returns-then-same_text-2
 unfolding command_of_two bytes_of
 returns-then-same_text-2 c = rw (
-  c.in-Value.is,
+  c.in-Some.is,
   ← c.same_text.ensures,
   c.if-same_text.false,
-  ← c.same_text-in-Value.ensures,
+  ← c.same_text-2.ensures,
   c.if-same_text-2.true,
 )
 
 pub returns-then-same_text-3 : goal.returns-then-same_text-3
 unfolding command_of_two bytes_of
 returns-then-same_text-3 c = rw (
-  c.in-Value.is,
+  c.in-Some.is,
   ← c.same_text.ensures,
   c.if-same_text.false,
-  ← c.same_text-in-Value.ensures,
+  ← c.same_text-2.ensures,
   c.if-same_text-2.false,
-  ← c.same_text-in-Value-2.ensures,
+  ← c.same_text-3.ensures,
   c.if-same_text-3.true,
 )
 
-pub returns-in-Bad : goal.returns-in-Bad
+pub returns-in_default : goal.returns-in_default
 unfolding command_of_two
-returns-in-Bad c = rw c.in-Bad.is
+returns-in_default c = rw c.in_default.is
 
-pub returns-else-same_text-3 : goal.returns-else-same_text-3
+pub returns : goal.returns
 unfolding command_of_two bytes_of
-returns-else-same_text-3 c = rw (
-  c.in-Value.is,
+returns c = rw (
+  c.in-Some.is,
   ← c.same_text.ensures,
   c.if-same_text.false,
-  ← c.same_text-in-Value.ensures,
+  ← c.same_text-2.ensures,
   c.if-same_text-2.false,
-  ← c.same_text-in-Value-2.ensures,
+  ← c.same_text-3.ensures,
   c.if-same_text-3.false,
 )

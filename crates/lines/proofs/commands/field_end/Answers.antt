@@ -1,26 +1,8 @@
-use Rattle.std.proofs.Common.{◌-◌, sym, refl, ◌∙◌, arith}
-use Rattle.lines.proofs.FieldLaws.{end_next, end_tab, end_line}
+use Rattle.lines.proofs.FieldLaws.{end_found, end_none}
 use Rattle.lines.proofs.commands.field_end.Goals as goal
 
-pub loop-i-init : goal.loop-i-init
-loop-i-init c = refl
+pub returns-in-Some : goal.returns-in-Some
+returns-in-Some c = end_found c.args.line.now c.args.at c.requires c.first_tab.result c.in-Some.n c.first_tab.ensures c.in-Some.is
 
-pub bounds-line-i : goal.bounds-line-i
-bounds-line-i c = omega arith
-
-pub returns-then-line-i-eq9 : goal.returns-then-line-i-eq9
-returns-then-line-i-eq9 c = let l = c.loop-i in sym (end_tab c.args.line.now l.i (omega
-    arith) c.if-line-i-eq9.true) ∙ l.invariant
-
-pub overflow_add-i : goal.overflow_add-i
-overflow_add-i c = omega arith
-
-pub loop-i-smaller : goal.loop-i-smaller
-loop-i-smaller c = omega arith
-
-pub loop-i-preserved : goal.loop-i-preserved
-loop-i-preserved c = let l = c.loop-i in end_next c.args.line.now l.i (omega arith)
-    c.if-line-i-eq9.false ∙ l.invariant
-
-pub returns : goal.returns
-returns c = let l = c.loop-i in sym (end_line c.args.line.now l.i (omega arith)) ∙ l.invariant
+pub returns-in-None : goal.returns-in-None
+returns-in-None c = end_none c.args.line.now c.args.at c.requires c.first_tab.result c.first_tab.ensures c.in-None.is

@@ -14,8 +14,8 @@ returns-then-line-second c = let e = c.args in rw (
   c.number_to-number.ensures,
 ) (two_fields e.line.now c.field_end-first.result c.field_end-first.ensures (omega arith) c.field_end-second.result c.field_end-second.ensures e.bytes.now (omega arith))
 
-pub returns-in-Bad : goal.returns-in-Bad
-returns-in-Bad c = let e = c.args in three_bad e.line.now c.field_end-first.result c.field_end-first.ensures (omega arith) c.field_end-second.result c.field_end-second.ensures e.bytes.now (omega arith) (sym c.number_to-number.ensures ∙ c.in-Bad.is)
+pub returns-in_default : goal.returns-in_default
+returns-in_default c = let e = c.args in three_bad e.line.now c.field_end-first.result c.field_end-first.ensures (omega arith) c.field_end-second.result c.field_end-second.ensures e.bytes.now (omega arith) (sym c.number_to-number.ensures ∙ c.in_default.is)
 
-pub returns-in-Value : goal.returns-in-Value
-returns-in-Value c = let e = c.args in c.read_rx.ensures ∙ three_value e.line.now c.field_end-first.result c.field_end-first.ensures (omega arith) c.field_end-second.result c.field_end-second.ensures e.bytes.now _ (omega arith) (sym c.number_to-number.ensures ∙ c.in-Value.is)
+pub returns : goal.returns
+returns c = let e = c.args in c.read_rx.ensures ∙ three_value e.line.now c.field_end-first.result c.field_end-first.ensures (omega arith) c.field_end-second.result c.field_end-second.ensures e.bytes.now _ (omega arith) (sym c.number_to-number.ensures ∙ c.in-Some.is)

@@ -1,35 +1,6 @@
-use Rattle.std.proofs.Common.{◌-◌, sym, refl, ◌∙◌, arith}
-use Rattle.lines.proofs.FieldLaws.{same_next, same_stop, same_end, same_lengths}
+use Rattle.std.proofs.Common.{◌∙◌}
+use Rattle.lines.proofs.FieldLaws.{same_is}
 use Rattle.lines.proofs.commands.same_text.Goals as goal
 
-pub returns-then-x-y : goal.returns-then-x-y
-returns-then-x-y c = sym (same_lengths c.args.x.now c.args.y.now c.if-x-y.true)
-
-pub loop-i-init : goal.loop-i-init
-loop-i-init c = (omega arith, c.if-x-y.false, refl)
-
-pub bounds-x-i : goal.bounds-x-i
-bounds-x-i c = omega arith
-
-pub bounds-y-i : goal.bounds-y-i
-bounds-y-i c = omega arith
-
-pub overflow_add-i : goal.overflow_add-i
-overflow_add-i c = omega arith
-
-pub loop-i-smaller : goal.loop-i-smaller
-loop-i-smaller c = omega arith
-
-pub loop-i-preserved : goal.loop-i-preserved
-loop-i-preserved c = let l = c.loop-i in (
-  omega arith,
-  l.invariant.1,
-  same_next c.args.x.now c.args.y.now l.i (omega arith) (omega arith) c.if-x-i.true ∙ l.invariant.2,
-)
-
-pub returns-else-x-i : goal.returns-else-x-i
-returns-else-x-i c = let l = c.loop-i in sym (same_stop c.args.x.now c.args.y.now l.i (omega arith) (omega arith) c.if-x-i.false) ∙ l.invariant.2
-
 pub returns : goal.returns
-returns c = let l = c.loop-i in sym (same_end c.args.x.now c.args.y.now
-    l.i (omega arith) (omega arith)) ∙ l.invariant.2
+returns c = c.eq.ensures ∙ same_is c.args.x.now c.args.y.now

@@ -10,10 +10,10 @@ returns-then-bytes-count c = let e = c.args in hex_short e.line.now e.at e.bytes
     e.at e.bytes.now) (omega arith)
 
 pub put_pairs-requires : goal.put_pairs-requires
-put_pairs-requires c = let e = c.args in record { line_value = sym c.has_pairs.ensures ∙ c.if-has_pairs.true; line_in_bounds = omega (arith, bytes_of e.line.now e.at e.bytes.now) }
+put_pairs-requires c = let e = c.args in record { line_value = sym c.has_pairs.ensures ∙ c.if-not-has_pairs.false; line_in_bounds = omega (arith, bytes_of e.line.now e.at e.bytes.now) }
 
-pub returns-then-has_pairs : goal.returns-then-has_pairs
-returns-then-has_pairs c = let e = c.args in rw c.put_pairs.ensures (hex_whole e.line.now e.at e.bytes.now (bytes_of e.line.now e.at e.bytes.now) (sym c.has_pairs.ensures ∙ c.if-has_pairs.true) (omega arith))
+pub returns : goal.returns
+returns c = let e = c.args in rw c.put_pairs.ensures (hex_whole e.line.now e.at e.bytes.now (bytes_of e.line.now e.at e.bytes.now) (sym c.has_pairs.ensures ∙ c.if-not-has_pairs.false) (omega arith))
 
-pub returns-else-has_pairs : goal.returns-else-has_pairs
-returns-else-has_pairs c = let e = c.args in hex_bad e.line.now e.at e.bytes.now (sym c.has_pairs.ensures ∙ c.if-has_pairs.false)
+pub returns-then-not-has_pairs : goal.returns-then-not-has_pairs
+returns-then-not-has_pairs c = let e = c.args in hex_bad e.line.now e.at e.bytes.now (sym c.has_pairs.ensures ∙ c.if-not-has_pairs.true)

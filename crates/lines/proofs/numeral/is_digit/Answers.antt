@@ -1,11 +1,12 @@
-use Rattle.std.proofs.Common.{arith, le-ltb, lt-ltb}
+use Rattle.std.proofs.Common.{le-ltb, lt-ltb, arith}
+use Rattle.std.proofs.lemmas.Bool.{lt-leb}
 use Rattle.lines.specs.Numerals.{digit}
 use Rattle.lines.proofs.numeral.is_digit.Goals as goal
 
-pub returns-then-b-lt48 : goal.returns-then-b-lt48
+pub returns-then-b-ge48 : goal.returns-then-b-ge48
 unfolding digit
-returns-then-b-lt48 c = rw (lt-ltb c.args.b 48 (omega arith))
+returns-then-b-ge48 c = rw (le-ltb c.args.b 48 (omega arith))
 
-pub returns-else-b-lt48 : goal.returns-else-b-lt48
+pub returns-else-b-ge48 : goal.returns-else-b-ge48
 unfolding digit
-returns-else-b-lt48 c = rw (le-ltb c.args.b 48 (omega arith))
+returns-else-b-ge48 c = rw (lt-ltb c.args.b 48 (omega arith), lt-leb 48 c.args.b (omega arith))

@@ -1,11 +1,7 @@
-use Rattle.std.proofs.Common.{◌≡◌, ◌+◌, ◌-◌, ◌≤◌, map, length, drop}
+use Rattle.std.proofs.Common.{◌≡◌, ◌+◌, map, drop}
 use lib.Seq.{sets}
 use Rattle.lines.specs.Pairs.{pair_byte}
 use Rattle.lines.proofs.numeral.put_bytes.Given as goal
 
 abbrev pub invariant-loop-k : goal.invariant-loop-k
-invariant-loop-k l =
-    (l.k ≤ length l.pairs) × (length l.bytes ≡ length l.initial.bytes) × (sets l.bytes (l.at + l.k) (map pair_byte (drop l.k l.pairs)) ≡ sets l.initial.bytes l.at (map pair_byte l.pairs))
-
-abbrev pub decreases-loop-k : goal.decreases-loop-k
-decreases-loop-k l = length l.pairs - l.k
+invariant-loop-k l = sets l.bytes (l.at + l.k) (map pair_byte (drop l.k l.pairs)) ≡ sets l.initial.bytes l.at (map pair_byte l.pairs)

@@ -1,4 +1,4 @@
-use Rattle.std.proofs.Common.{◌-◌, refl, arith, rules}
+use Rattle.std.proofs.Common.{refl, arith, rules}
 use Rattle.lines.proofs.NumeralLaws.{pairs_end}
 use Rattle.lines.proofs.PairLaws.{two_left, piece_good, piece_size, piece_back, piece_count, piece_next}
 use Rattle.lines.proofs.numeral.put_pairs.Goals as goal

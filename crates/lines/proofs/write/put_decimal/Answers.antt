@@ -1,4 +1,4 @@
-use Rattle.std.proofs.Common.{◌-◌, ◌/◌, refl, arith, length-set}
+use Rattle.std.proofs.Common.{◌/◌, refl, arith, length-set}
 use Rattle.lines.proofs.TextLaws.{digits_more, digits_some}
 use Rattle.lines.proofs.Writing.{decimal_step, decimal_end}
 use Rattle.lines.proofs.write.put_decimal.Goals as goal

@@ -1,4 +1,4 @@
-use Rattle.std.proofs.Common.{◌≡◌, ◌+◌, ◌-◌, ◌≤◌, length}
+use Rattle.std.proofs.Common.{◌≡◌, ◌+◌, ◌≤◌, length}
 use lib.Seq.{sets}
 use Rattle.lines.specs.Text.{decimal_of}
 use Rattle.lines.proofs.write.put_decimal.Given as goal

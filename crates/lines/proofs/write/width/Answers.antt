@@ -1,4 +1,4 @@
-use Rattle.std.proofs.Common.{◌-◌, arith}
+use Rattle.std.proofs.Common.{arith}
 use Rattle.lines.proofs.TextLaws.{digits_most, digits_one, digits_more, digits_some}
 use Rattle.lines.proofs.write.width.Goals as goal
 

@@ -1,52 +1,22 @@
-use mathlib.Core.Path.{sym, ◌∙◌}
-use Prim.Native.Nat.{◌-◌}
+-- each turn takes one letter off the name and one byte off the text that are left
+use mathlib.Core.Path.{sym, ap, ◌∙◌}
 use native.Mathlib.Omega.{arith}
-use Rattle.names.proofs.RowLaws as laws
+use lib.ListN.{length}
+use Rattle.std.proofs.lemmas.Slice.Zip.{Zip-more, either_empty_from_Zip}
+use Rattle.names.proofs.RowLaws.{sharing_more, sharing_stops, sharing_ends}
 use Rattle.names.proofs.table.shared_letters.Goals as goal
 
-pub loop-k-init : goal.loop-k-init
-loop-k-init c = (omega arith, omega arith, omega arith)
+pub returns-then-lowered : goal.returns-then-lowered
+returns-then-lowered c =
+    let k = Zip-more c.loop-letter.letter-iterator c.next.new.self c.next.result (c.in-Some.letter, c.in-Some.b) c.in-Some.is c.next.ensures.steps in
+    omega (arith, c.loop-letter.invariant.shares, sharing_stops _ _ _ _ _ _ k.0 k.1 (λ e. c.if-lowered.true (c.lowered.ensures ∙ e ∙ sym c.lowered-in-loop-letter.ensures)))
 
-pub returns-then-text-k : goal.returns-then-text-k
-returns-then-text-k c =
-    let a = c.args in
-    let l = c.loop-k in
-    laws.sharing_ends a.letters.now a.text.now l.k c.loop-k-test.true c.if-text-k.true l.invariant.2
-
-pub bounds-text-k : goal.bounds-text-k
-bounds-text-k c = omega arith
-
-pub bounds-letters-k : goal.bounds-letters-k
-bounds-letters-k c = omega arith
-
-pub overflow_add-k : goal.overflow_add-k
-overflow_add-k c = omega arith
-
-pub loop-k-smaller : goal.loop-k-smaller
-loop-k-smaller c = omega arith
-
-pub loop-k-preserved : goal.loop-k-preserved
-loop-k-preserved c =
-    let a = c.args in
-    let l = c.loop-k in
-    let x = c.lowered in
-    let y = c.lowered-in-loop-k in (
-      omega arith,
-      omega arith,
-      laws.sharing_more a.letters.now a.text.now l.k c.loop-k-test.true c.if-text-k.false (sym x.ensures ∙ c.if-lowered.true ∙ y.ensures) l.invariant.2,
-    )
-
-pub returns-else-lowered : goal.returns-else-lowered
-returns-else-lowered c =
-    let a = c.args in
-    let l = c.loop-k in
-    let x = c.lowered in
-    let y = c.lowered-in-loop-k in
-    laws.sharing_stops a.letters.now a.text.now l.k c.loop-k-test.true c.if-text-k.false
-    (λ z. c.if-lowered.false (x.ensures ∙ z ∙ sym y.ensures)) l.invariant.2
+pub loop-letter-preserved : goal.loop-letter-preserved
+loop-letter-preserved c =
+    let k = Zip-more c.loop-letter.letter-iterator c.next.new.self c.next.result (c.in-Some.letter, c.in-Some.b) c.in-Some.is c.next.ensures.steps in record {
+      passed = omega (arith, ap length k.0);
+      shares = omega (arith, sharing_more _ _ _ _ _ _ k.0 k.1 (sym c.lowered.ensures ∙ c.if-lowered.false ∙ c.lowered-in-loop-letter.ensures));
+    }
 
 pub returns : goal.returns
-returns c =
-    let a = c.args in
-    let l = c.loop-k in
-    laws.sharing_whole a.letters.now a.text.now l.k c.loop-k-test.false l.invariant.2
+returns c = omega (arith, c.loop-letter.invariant.shares, sharing_ends _ _ (either_empty_from_Zip c.loop-letter.letter-iterator c.next.new.self c.next.result c.in-None.is c.next.ensures.steps))

@@ -9,4 +9,4 @@ returns-then-k-gt17 c = sym (unnamed c.args.kind (omega arith))
 
 pub returns : goal.returns
 unfolding names bytes_of row size
-returns c = rows c.args.kind (omega arith)
+returns c = rw c.from-k.ensures (rows c.args.kind (omega arith))

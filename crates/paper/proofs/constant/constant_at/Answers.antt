@@ -1,5 +1,4 @@
 use mathlib.Core.Path.{sym, ◌∙◌}
-use Prim.Native.Nat.{◌-◌}
 use native.Mathlib.Omega.{arith}
 use Rattle.readings.proofs.ConstantLaws as laws
 use Rattle.paper.proofs.constant.constant_at.Goals as goal

@@ -1,5 +1,5 @@
-use Prim.Native.Nat.{◌-◌}
 use native.Mathlib.Omega.{arith}
+use Rattle.std.proofs.lemmas.Result.{err_from_is_err_and}
 use Rattle.readings.proofs.ConstantLaws as laws
 use Rattle.readings.proofs.ConstantLaws.{operator_small}
 use Rattle.paper.proofs.constant.string_at.Goals as goal
@@ -26,8 +26,8 @@ overflow_sub-k c =
     let b15 = b10 in
     let a = b15.args in
     let h = b10.put_head-m in
-    let k = b6.characters-s in
-    let s = laws.was_string a.text.now a.at h.new.out h.result k.result _ k.new.out k.ensures c.in-At.is in
+    let k = b6.characters in
+    let s = laws.was_string a.text.now a.at h.new.out h.result k.result _ k.new.out k.ensures c.in_ok-e.was in
     omega (arith, s.count)
 
 pub overflow_cast-k : goal.overflow_cast-k
@@ -37,24 +37,22 @@ overflow_cast-k c =
     let b15 = b10 in
     let a = b15.args in
     let h = b10.put_head-m in
-    let k = b6.characters-s in
-    let s = laws.was_string a.text.now a.at h.new.out h.result k.result _ k.new.out k.ensures c.in-At.is in
+    let k = b6.characters in
+    let s = laws.was_string a.text.now a.at h.new.out h.result k.result _ k.new.out k.ensures c.in_ok-e.was in
     omega (arith, s.count, s.short)
 
-pub returns-in-Wrong : goal.returns-in-Wrong
-returns-in-Wrong c =
-    let b5 = c in
-    let b9 = b5 in
-    let b14 = b9 in
-    let a = b14.args in
-    let h = b9.put_head-m in
-    let k = b5.characters-s in
-    laws.string_constant_wrong a.text.now a.at a.id a.c a.out.now a.n h.result h.new.out c.in-Wrong.p
-    c.in-Wrong.why k.new.out k.new.out
-    (laws.was_string a.text.now a.at h.new.out h.result k.result _ k.new.out k.ensures c.in-Wrong.is)
+pub returns-in_err-e : goal.returns-in_err-e
+returns-in_err-e c =
+    let a = c.args in
+    let w = c.in_err-e.field-0.0 in
+    let h = c.put_head-m in
+    let k = c.characters in
+    let s = laws.was_string a.text.now a.at h.new.out h.result k.result _ k.new.out k.ensures c.in_err-e.was in
+    let p = err_from_is_err_and c.from_residual.result c.from_residual.ensures.1 in
+    rw (p.1, p.2) (laws.string_constant_wrong a.text.now a.at a.id a.c a.out.now a.n h.result h.new.out w.at w.reason k.new.out k.new.out s)
 
-pub returns-in-At : goal.returns-in-At
-returns-in-At c =
+pub returns : goal.returns
+returns c =
     let b5 = c in
     let b9 = b5 in
     let b13 = b9 in
@@ -62,8 +60,8 @@ returns-in-At c =
     let b18 = b14 in
     let a = b18.args in
     let h = b13.put_head-m in
-    let k = b9.characters-s in
+    let k = b9.characters in
     let q = c.put_at in
-    laws.string_constant a.text.now a.at a.id a.c a.out.now a.n h.result h.new.out b5.in-At.e b5.in-At.k
+    laws.string_constant a.text.now a.at a.id a.c a.out.now a.n h.result h.new.out b5.in_ok-e.e b5.in_ok-e.k
     k.new.out q.new.out (laws.was_string a.text.now a.at h.new.out h.result k.result _ k.new.out k.ensures
-    b5.in-At.is) h.ensures.value (rw b14.operator_number.ensures at h.ensures.out_after) q.ensures
+    b5.in_ok-e.was) h.ensures.value (rw b14.operator_number.ensures at h.ensures.out_after) q.ensures

@@ -1,5 +1,5 @@
 use mathlib.Core.List.{[]}
-use Prim.Native.Nat.{◌-◌, ◌%◌, ◌/◌}
+use Prim.Native.Nat.{◌%◌, ◌/◌}
 use native.Mathlib.Omega.{arith}
 use Rattle.paper.proofs.OutputLaws as output
 use Rattle.paper.proofs.output.put_number.Goals as goal

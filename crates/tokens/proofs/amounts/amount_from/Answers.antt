@@ -1,81 +1,39 @@
-use mathlib.Core.Path.{sym, ◌∙◌}
-use Prim.Native.Nat.{◌-◌}
-use native.Mathlib.Omega.{arith}
+use Rattle.std.proofs.Common.{◌≡◌, length, get_or, refl, sym, ◌∙◌, arith}
+use lib.ListN.{get_or-eq_default}
+use Rattle.lines.specs.Numerals.{digit}
 use Rattle.names.proofs.Tests as tests
 use Rattle.tokens.proofs.TokenLaws as laws
 use Rattle.tokens.proofs.amounts.amount_from.Goals as goal
 
-pub overflow_cast-w : goal.overflow_cast-w
-overflow_cast-w c = omega (arith, c.loop-w.invariant.small)
-
-pub overflow_mul-w : goal.overflow_mul-w
-overflow_mul-w c = omega (arith, c.loop-w.invariant.small)
-
 pub overflow_sub-w : goal.overflow_sub-w
-overflow_sub-w c =
-    let b = c.byte_of-b in
-    let d = c.is_digit in
-    tests.digit_least b.result (sym d.ensures ∙ c.if-is_digit.true)
-
-pub overflow_cast-w-then-is_digit : goal.overflow_cast-w-then-is_digit
-overflow_cast-w-then-is_digit c =
-    let b = c.byte_of-b in
-    let d = c.is_digit in
-    omega (arith, tests.digit_most b.result (sym d.ensures ∙ c.if-is_digit.true))
+overflow_sub-w c = tests.digit_least _ (sym c.is_digit.ensures ∙ c.if-not-is_digit.false)
 
 pub overflow_add-w : goal.overflow_add-w
-overflow_add-w c =
-    let b = c.byte_of-b in
-    let d = c.is_digit in
-    omega (arith, tests.digit_most b.result (sym d.ensures ∙ c.if-is_digit.true), c.loop-w.invariant.small)
+overflow_add-w c = omega (arith, tests.digit_most _ (sym c.is_digit.ensures ∙ c.if-not-is_digit.false), c.loop-e.invariant.small)
 
-pub overflow_cast-v : goal.overflow_cast-v
-overflow_cast-v c = omega (arith, c.if-w-le4294967295.true)
-
-pub overflow_add-e : goal.overflow_add-e
-overflow_add-e c =
+pub returns-then-not-is_digit : goal.returns-then-not-is_digit
+returns-then-not-is_digit c =
     let a = c.args in
-    let l = c.loop-w in
-    let b = c.byte_of-b in
-    let d = c.is_digit in
-    omega (arith, laws.counting_in a.text.now a.at a.first l.e l.v l.invariant b.result b.ensures (sym d.ensures ∙ c.if-is_digit.true))
+    let l = c.loop-e in
+    laws.counting_done a.text.now a.at a.first l.e l.v l.invariant _ refl (sym c.is_digit.ensures ∙ c.if-not-is_digit.true)
 
-pub loop-w-smaller : goal.loop-w-smaller
-loop-w-smaller c =
+pub returns-then-w-gt4294967295 : goal.returns-then-w-gt4294967295
+returns-then-w-gt4294967295 c =
     let a = c.args in
-    let l = c.loop-w in
-    let b = c.byte_of-b in
-    let d = c.is_digit in
-    omega (arith, laws.counting_in a.text.now a.at a.first l.e l.v l.invariant b.result b.ensures (sym d.ensures ∙ c.if-is_digit.true))
+    let l = c.loop-e in
+    laws.counting_large a.text.now a.at a.first l.e l.v l.invariant _ refl (sym c.is_digit.ensures ∙ c.if-not-is_digit.false) c.if-w-gt4294967295.true
 
-pub loop-w-preserved : goal.loop-w-preserved
-loop-w-preserved c =
-    let b3 = c in
-    let b4 = b3 in
-    let b6 = b4 in
-    let a = b6.args in
-    let l = b4.loop-w in
-    let b = b3.byte_of-b in
-    let d = c.is_digit in
-    laws.counting_more a.text.now a.at a.first l.e l.v l.invariant b.result b.ensures (sym d.ensures ∙ c.if-is_digit.true)
-    c.if-w-le4294967295.true
-
-pub returns-else-w-le4294967295 : goal.returns-else-w-le4294967295
-returns-else-w-le4294967295 c =
-    let b3 = c in
-    let b4 = b3 in
-    let b6 = b4 in
-    let a = b6.args in
-    let l = b4.loop-w in
-    let b = b3.byte_of-b in
-    let d = c.is_digit in
-    laws.counting_large a.text.now a.at a.first l.e l.v l.invariant b.result b.ensures (sym d.ensures ∙ c.if-is_digit.true)
-    c.if-w-le4294967295.false
-
-pub returns-else-is_digit : goal.returns-else-is_digit
-returns-else-is_digit c =
+pub loop-e-preserved : goal.loop-e-preserved
+loop-e-preserved c =
     let a = c.args in
-    let l = c.loop-w in
-    let b = c.byte_of-b in
-    let d = c.is_digit in
-    laws.counting_done a.text.now a.at a.first l.e l.v l.invariant b.result b.ensures (sym d.ensures ∙ c.if-is_digit.false)
+    let l = c.loop-e in
+    laws.counting_more a.text.now a.at a.first l.e l.v l.invariant _ refl (sym c.is_digit.ensures ∙ c.if-not-is_digit.false) c.if-w-gt4294967295.false
+
+pub returns : goal.returns
+unfolding digit
+returns c =
+    let a = c.args in
+    let l = c.loop-e in
+    let e : length a.text.now ≡ l.e = omega (arith, l.invariant.within) in
+    let z : 0 ≡ get_or a.text.now l.e 0 = sym (get_or-eq_default a.text.now 0 {n = l.e} (omega arith)) in
+    rw e (laws.counting_done a.text.now a.at a.first l.e l.v l.invariant 0 z refl)

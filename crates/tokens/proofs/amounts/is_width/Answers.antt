@@ -1,4 +1,3 @@
-use Prim.Native.Nat.{◌-◌}
 use borrow.Author.Tests.{eq-eqb, ne_eqb}
 use Rattle.grammar.specs.Meaning.{is_width}
 use Rattle.tokens.proofs.amounts.is_width.Goals as goal

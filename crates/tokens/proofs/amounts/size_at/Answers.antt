@@ -1,7 +1,6 @@
 use mathlib.Core.Path.{sym, ◌∙◌}
-use Prim.Native.Nat.{◌-◌}
 use lib.ListN.{get_or}
-use borrow.Author.Tests.{eq-eqb, ne_eqb}
+use borrow.Author.Tests.{eq-eqb}
 use Rattle.tokens.specs.Tokens.{sized_at}
 use Rattle.tokens.proofs.TokenLaws as laws
 use Rattle.std.proofs.Common.{rules}

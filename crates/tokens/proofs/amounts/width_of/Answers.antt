@@ -1,5 +1,4 @@
 use mathlib.Core.Path.{◌∙◌}
-use Prim.Native.Nat.{◌-◌}
 use borrow.Author.Tests.{lt-ltb, le-ltb}
 use Rattle.names.proofs.RowLaws.{row_width}
 use Rattle.grammar.specs.Meaning.{least_width}
@@ -9,19 +8,19 @@ pub returns-then-v-lt256 : goal.returns-then-v-lt256
 unfolding least_width
 returns-then-v-lt256 c =
     let a = c.args in
-    let r = c.row_of-row in
-    c.greater.ensures ∙ rw (r.ensures, row_width a.id, lt-ltb a.v 256 c.if-v-lt256.true)
+    let r = c.row_of-usual in
+    c.max.ensures ∙ rw (r.ensures, row_width a.id, lt-ltb a.v 256 c.if-v-lt256.true)
 
 pub returns-then-v-lt65536 : goal.returns-then-v-lt65536
 unfolding least_width
 returns-then-v-lt65536 c =
     let a = c.args in
-    let r = c.row_of-row in
-    c.greater-then-v-lt65536.ensures ∙ rw (r.ensures, row_width a.id, le-ltb a.v 256 c.if-v-lt256.false, lt-ltb a.v 65536 c.if-v-lt65536.true)
+    let r = c.row_of-usual in
+    c.max-then-v-lt65536.ensures ∙ rw (r.ensures, row_width a.id, le-ltb a.v 256 c.if-v-lt256.false, lt-ltb a.v 65536 c.if-v-lt65536.true)
 
 pub returns : goal.returns
 unfolding least_width
 returns c =
     let a = c.args in
-    let r = c.row_of-row in
-    c.greater-2.ensures ∙ rw (r.ensures, row_width a.id, le-ltb a.v 256 c.if-v-lt256.false, le-ltb a.v 65536 c.if-v-lt65536.false)
+    let r = c.row_of-usual in
+    c.max-2.ensures ∙ rw (r.ensures, row_width a.id, le-ltb a.v 256 c.if-v-lt256.false, le-ltb a.v 65536 c.if-v-lt65536.false)

@@ -3,7 +3,6 @@ use native.Mathlib.Omega.{arith}
 use lib.ListN.{length, drop, length-drop}
 use lib.Seq.{take_all}
 use Rattle.tokens.proofs.ItemLaws as laws
-use Rattle.std.proofs.Common.{rules}
 use Rattle.tokens.proofs.items.item_at.Goals as goal
 
 pub returns-then-text-at : goal.returns-then-text-at
@@ -23,7 +22,7 @@ overflow_add-result c =
     let b7 = b3 in
     let b9 = b7 in
     let a = b9.args in
-    let f = b3.find_name-f in
+    let f = b3.find_name in
     let t = take_all (length a.text.now - a.at) (drop a.at a.text.now) (omega (arith, length-drop a.at a.text.now)) in
     let h = laws.known_in a.text.now a.at (omega (arith, b7.if-text-at.false)) f.result _ t f.ensures c.in-Known.id c.in-Known.n c.in-Known.is in
     omega (arith, h, b9.well_formed.0.0)
@@ -34,7 +33,7 @@ overflow_add-result-in-Unknown c =
     let b7 = b3 in
     let b9 = b7 in
     let a = b9.args in
-    let f = b3.find_name-f in
+    let f = b3.find_name in
     let t = take_all (length a.text.now - a.at) (drop a.at a.text.now) (omega (arith, length-drop a.at a.text.now)) in
     let h = laws.unknown_in a.text.now a.at (omega (arith, b7.if-text-at.false)) f.result _ t f.ensures c.in-Unknown.n c.in-Unknown.is in
     omega (arith, h, b9.well_formed.0.0)
@@ -46,7 +45,7 @@ returns-in-Known c =
     let b6 = b5 in
     let b9 = b6 in
     let a = b9.args in
-    let f = b3.find_name-f in
+    let f = b3.find_name in
     let t = take_all (length a.text.now - a.at) (drop a.at a.text.now) (omega (arith, length-drop a.at a.text.now)) in
     let b = b6.byte_of in
     laws.item_known a.text.now a.at b.result b.ensures b5.if-byte_of-eq35.false f.result _ t f.ensures c.in-Known.id c.in-Known.n c.in-Known.is
@@ -58,7 +57,7 @@ returns-in-Unknown c =
     let b6 = b5 in
     let b9 = b6 in
     let a = b9.args in
-    let f = b3.find_name-f in
+    let f = b3.find_name in
     let t = take_all (length a.text.now - a.at) (drop a.at a.text.now) (omega (arith, length-drop a.at a.text.now)) in
     let b = b6.byte_of in
     laws.item_unknown a.text.now a.at b.result b.ensures b5.if-byte_of-eq35.false f.result _ t f.ensures c.in-Unknown.n c.in-Unknown.is

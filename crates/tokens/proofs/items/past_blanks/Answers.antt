@@ -1,43 +1,28 @@
-use mathlib.Core.Path.{refl, sym, ◌∙◌}
-use Prim.Native.Nat.{◌-◌}
-use native.Mathlib.Omega.{arith}
+use Rattle.std.proofs.Common.{◌≡◌, get_or, refl, sym, ◌∙◌, arith}
+use lib.ListN.{get_or-eq_default}
+use Rattle.names.specs.Kinds.{is_blank}
 use Rattle.tokens.proofs.Places as places
-use Rattle.std.proofs.Common.{rules}
 use Rattle.tokens.proofs.items.past_blanks.Goals as goal
 
 pub loop-e-init : goal.loop-e-init
-loop-e-init c = refl
+loop-e-init c = record { within = omega arith; same = refl }
 
-pub overflow_add-e : goal.overflow_add-e
-overflow_add-e c =
-    let b3 = c in
-    let b5 = b3 in
-    let a = b5.args in
-    let l = b3.loop-e in
-    let b = c.byte_of in
-    let k = c.is_blank in
-    omega (arith, places.blank_in a.text.now l.e b.result b.ensures (sym k.ensures ∙ c.loop-e-test.true), b5.well_formed.0.0)
-
-pub loop-e-smaller : goal.loop-e-smaller
-loop-e-smaller c =
-    let a = c.args in
-    let l = c.loop-e in
-    let b = c.byte_of in
-    let k = c.is_blank in
-    omega (arith, places.blank_in a.text.now l.e b.result b.ensures (sym k.ensures ∙ c.loop-e-test.true))
+pub returns-then-not-is_blank : goal.returns-then-not-is_blank
+returns-then-not-is_blank c =
+    let l = c.loop-e in places.blanks_end c.args.text.now l.e _ refl (sym c.is_blank.ensures ∙ c.if-not-is_blank.true) ∙ l.invariant.same
 
 pub loop-e-preserved : goal.loop-e-preserved
 loop-e-preserved c =
-    let a = c.args in
     let l = c.loop-e in
-    let b = c.byte_of in
-    let k = c.is_blank in
-    sym (places.blanks_more a.text.now l.e b.result b.ensures (sym k.ensures ∙ c.loop-e-test.true)) ∙ l.invariant
+    record {
+      within = omega arith;
+      same = sym (places.blanks_more c.args.text.now l.e _ refl (sym c.is_blank.ensures ∙ c.if-not-is_blank.false)) ∙ l.invariant.same;
+    }
 
 pub returns : goal.returns
+unfolding is_blank
 returns c =
-    let a = c.args in
     let l = c.loop-e in
-    let b = c.byte_of in
-    let k = c.is_blank in
-    places.blanks_end a.text.now l.e b.result b.ensures (sym k.ensures ∙ c.loop-e-test.false) ∙ l.invariant
+    let e : c.max.result ≡ l.e = omega (arith, l.invariant.within, c.max.ensures) in
+    let z : 0 ≡ get_or c.args.text.now l.e 0 = sym (get_or-eq_default c.args.text.now 0 {n = l.e} (omega arith)) in
+    rw e (places.blanks_end c.args.text.now l.e 0 z refl ∙ l.invariant.same)

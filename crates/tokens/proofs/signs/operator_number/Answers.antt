@@ -1,4 +1,3 @@
-use Prim.Native.Nat.{◌-◌}
 use Rattle.grammar.specs.Meaning.{operator_number}
 use Rattle.tokens.proofs.signs.operator_number.Goals as goal
 

@@ -1,12 +1,10 @@
 use mathlib.Core.Path.{sym, ◌∙◌}
-use Prim.Native.Nat.{◌-◌}
 use native.Mathlib.Omega.{arith}
 use lib.ListN.{get_or}
 use borrow.Author.Tests.{lt-ltb, le-ltb, eq-eqb, ne_eqb}
 use Rattle.tokens.specs.Tokens.{character_at}
 use Rattle.names.proofs.Tests as tests
 use Rattle.tokens.proofs.Places as places
-use Rattle.std.proofs.Common.{rules}
 use Rattle.tokens.proofs.strings.character_at.Goals as goal
 
 pub returns-then-b-eq34 : goal.returns-then-b-eq34

@@ -1,5 +1,6 @@
 -- `why::reasons::join` meets its contract: the second part is dropped, or moves down over the first, or both stay.
-use Rattle.why.proofs.Rows.{join_first, join_both, join_second}
+use Rattle.std.proofs.Common.{◌∙◌}
+use Rattle.why.proofs.Rows.{moved, join_first, join_both, join_second}
 use Rattle.why.proofs.reasons.join.Goals as goal
 
 pub returns-then-p : goal.returns-then-p
@@ -13,7 +14,7 @@ pub returns-then-q : goal.returns-then-q
 returns-then-q c =
     let a = c.args in
     let p = c.requires in
-    let j = join_second a.row.now a.first a.second a.end p.0 p.1 p.2 _ c.move_down.ensures in
+    let j = join_second a.row.now a.first a.second a.end p.0 p.1 p.2 _ (c.copy_within.ensures.after ∙ moved a.row.now a.first a.second a.end p.0 p.1 p.2) in
     rw (c.if-p.false, c.if-q.true) (record { value = j.0; row_after = j.1 })
 
 pub returns : goal.returns
