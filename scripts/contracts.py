@@ -4,9 +4,14 @@ It has no `requires`. Its `ensures` hold equations, and for the result and for t
 determines it: the left side is just these, by themselves or as the fields of a record, and the right side names none of them but what another equation
 determines. So what a call answers and leaves is a definition of what was handed in. Further facts may stand beside the equations. Of a function over any
 reader or writer (`R: Read`, `W: Write`) no equation is asked: what such a one brings or takes is known only there."""
+import os
 import re
 
 import sources
+
+# The definitions of crates/refusal that put a refusal's number in its place, and the answers that they determine (laws number_determines and
+# numbered_determines, crates/refusal/proofs/Laws.antt).
+OF_REFUSALS = {"number_of": r"->\s*Result<\(\), Refusal>", "numbered": r"->\s*Result<.*, Refusal>"}
 
 
 def builders():
@@ -17,10 +22,18 @@ def builders():
             m = re.search(rf"^\s*{re.escape(d.name)} ([\w\s«»]+?) = record \{{([^{{}}]*)\}}\s*$", d.text, re.M)
             if m:
                 arguments = m.group(1).split()
-                values = [field.split("=")[1].strip() for field in m.group(2).split(";")]
+                values = [field.split("=")[1].strip() for field in m.group(2).split(";") if field.strip()]
                 if sorted(arguments) == sorted(values):
                     found.setdefault(d.name, set()).add(len(arguments))
     return found
+
+
+def with_refusals(function, signature, known):
+    """The same with the definitions of crates/refusal that the function's file imports and that determine its answer."""
+    text = sources.read(function.path) if os.path.exists(os.path.join(sources.ROOT, function.path)) else ""
+    imports = re.findall(r"^ghost use Rattle\.refusal\.specs\.Refusal\.\{([^}]*)\};", text, re.M)
+    names = {name.strip() for line in imports for name in line.split(",")}
+    return {**known, **{name: {1} for name, answer in OF_REFUSALS.items() if name in names and re.search(answer, signature)}}
 
 
 def term(text):
@@ -66,6 +79,7 @@ def fault(function, known):
     signature = re.split(r"^\s*(?:requires|ensures)\b", function.head, flags=re.M)[0]
     if re.search(r"^[^(]*<[^(>]*\b\w+: (?:Read|Write)\b", signature):
         return None
+    known = with_refusals(function, signature, known)
     wanted = set(re.findall(r"(\w+): &(?:'\w+ )?mut ", signature)) | ({"result"} if "->" in signature else set())
     equations = []
     for clause in re.findall(r"^\s*ensures(?: \w+)? \{(.*?)\}\s*$", function.head + "\n", re.M | re.S):

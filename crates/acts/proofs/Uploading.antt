@@ -17,13 +17,11 @@ use Rattle.session.specs.declared.state.Uplink.TheVariants as up
 use Rattle.session.specs.declared.reply.Reply.TheVariants.{Nothing, Go, UploadError, Ack, Nak}
 use Rattle.session.specs.State.{with_up}
 use Rattle.table.specs.declared.File.{File}
-use Rattle.std.proofs.Common.{Option, Some, None}
+use Rattle.std.proofs.Common.{Option, Some, None, Result, Ok, Err}
 use Rattle.table.specs.Table.{no_file}
 use Rattle.table.specs.Table as table
 use Rattle.table.specs.Given.{next_number, upload_time}
 use Rattle.table.proofs.Giving.{number_given, time_given}
-use Rattle.files.specs.declared.Begun.{Begun}
-use Rattle.files.specs.declared.Begun.TheVariants.{Refused, Started}
 use Rattle.files.specs.View.{record_at, bytes_at}
 use Rattle.files.specs.Uploads as files
 use Rattle.files.specs.Completion.{check_of, complete_of}
@@ -148,17 +146,17 @@ module _ (s : Session) (m : Mem) (last : Last) (st : Stored m last) (more : List
         order = l.order;
       }
 
-  begun_or_not : (size number : ℕ) → number ≡ last.number + 1 → (a : Begun)
+  begun_or_not : (size number : ℕ) → number ≡ last.number + 1 → (a : Result ℕ ℕ)
       → (files.begin_of m.map m.owner m.table last.number size).answer ≡ a
       → (b : files.Begins) → b ≡ files.begin_of m.map m.owner m.table last.number size
       → Acted s more m last (turned (upload.begun_turn a s last number) (mem m.disk b.map b.owner b.table m.selected))
   unfolding upload.begun_turn
-  begun_or_not size number e (Refused n) q b w =
+  begun_or_not size number e (Err n) q b w =
       subst (λ (c : files.Begins). Acted s more m last (turned (turn_of s last (UploadError n))
       (mem m.disk c.map c.owner c.table m.selected)))
       (sym (w ∙ begin_kept m.map m.owner m.table last.number size n q))
       (same_store (turn_of s last (UploadError n)) m.selected refl refl)
-  begun_or_not size number e (Started p) q b w =
+  begun_or_not size number e (Ok p) q b w =
       begun size p b
       (subst (λ (c : files.Begins). BeginLeaves m.map m.owner m.table last.number last.time size p c) (sym w)
       (begin_leaves m.map m.owner m.table last.number last.time st.sound size p q))

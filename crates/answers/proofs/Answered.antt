@@ -1,4 +1,5 @@
 -- Demand 1: every call is answered, the local refusals come in the paper's order, and a packet of refusal changes nothing else. Assumes nothing.
+use Rattle.std.specs.Prelude.{Result, Ok, Err}
 use mathlib.Core.Path.{◌≡◌, refl, sym, ap, ◌∙◌, subst}
 use mathlib.Core.Bool.{Bool, true, false, cond}
 use mathlib.Core.List.{List, [], ◌∷◌, ◌++◌}
@@ -25,8 +26,6 @@ use Rattle.table.specs.Table.{files, file_at}
 use Rattle.carry.specs.declared.turn.Turn.{Turn}
 use Rattle.carry.specs.Turn.{turn_of, Mem, mem, Turned, turned}
 use Rattle.server.specs.declared.Server.{Server}
-use Rattle.server.specs.declared.check.Check.{Check}
-use Rattle.server.specs.declared.check.Check.TheVariants.{Go, Refuse}
 use Rattle.server.specs.State.{Lent, lent, Outcome, outcome, done_with, link_of, with_link, with_turn, with_part, owner_part, table_part}
 use Rattle.server.specs.Check.{fits, check_of}
 use Rattle.session.specs.declared.state.Listed.{Listed}
@@ -121,13 +120,13 @@ told_room r taken out h = rw (le-ltb (length out) 258 h)
 
 -- ---- refused locally
 
-pub refused_call : (sv : Server) (l : Lent) (c : Call) (n : ℕ) → check_in sv l c ≡ Refuse n
+pub refused_call : (sv : Server) (l : Lent) (c : Call) (n : ℕ) → check_in sv l c ≡ Err n
     → call_of sv l c ≡ outcome (done_with sv (answer.Refused n)) l (out_in c)
 unfolding receive_of receive_by on_check login_of login_by on_login request_of request_by on_request lose_of lose_by on_lose
 refused_call sv l (login session clock out) n e = rw e
 refused_call sv l (receive session clock input out) n e = rw e
 refused_call sv l (request session out) n e = rw e
-refused_call sv l (lose session) n e = let refused : check_of sv l session true 258 ≡ Refuse n = e in rw refused
+refused_call sv l (lose session) n e = let refused : check_of sv l session true 258 ≡ Err n = e in rw refused
 
 -- ---- the calls that go through
 
@@ -195,10 +194,10 @@ logged_in_law : (sv : Server) (l : Lent) (session clock : ℕ) (out : List ℕ)
 unfolding login_of login_by on_login
 logged_in_law sv l session clock out = go (check_of sv l session false (length out)) refl
   where
-    go : (k : Check) → check_of sv l session false (length out) ≡ k
+    go : (k : Result ℕ ℕ) → check_of sv l session false (length out) ≡ k
         → Answers sv l (login session clock out) (outcome (on_login k sv out clock).done l (on_login k sv out clock).out)
-    go (Refuse n) e = refuses (record { number = n; listed = check_refuses sv l session false (length out) n e; same = refl })
-    go (Go i) e =
+    go (Err n) e = refuses (record { number = n; listed = check_refuses sv l session false (length out) n e; same = refl })
+    go (Ok i) e =
         let t = check_through sv l session false (length out) i e in
         let q = told_room (reply.Login clock) 0 out t.room in
         replied sv l (login session clock out) _ (reply.Login clock) 0 (omega arith) t.room (ap (λ (t : Told). t.answer) q)
@@ -211,13 +210,13 @@ lost : (sv : Server) (l : Lent) (session : ℕ) → Answers sv l (lose session) 
 unfolding lose_of lose_by on_lose
 lost sv l session = go (check_of sv l session true 258) refl
   where
-    go : (k : Check) → check_of sv l session true 258 ≡ k
+    go : (k : Result ℕ ℕ) → check_of sv l session true 258 ≡ k
         → Answers sv l (lose session)
         (outcome (on_lose k sv l.selected l.held).done
         (lent l.disk l.map l.owner l.table (on_lose k sv l.selected l.held).selected
         (on_lose k sv l.selected l.held).held) [])
-    go (Refuse n) e = refuses (record { number = n; listed = check_refuses sv l session true 258 n e; same = refl })
-    go (Go i) e = silent (record { taken = 0; within = omega arith; answered = refl; out = refl })
+    go (Err n) e = refuses (record { number = n; listed = check_refuses sv l session true 258 n e; same = refl })
+    go (Ok i) e = silent (record { taken = 0; within = omega arith; answered = refl; out = refl })
 
 -- ---- request
 
@@ -314,10 +313,10 @@ requested : (sv : Server) (l : Lent) (session : ℕ) (out : List ℕ) → Answer
 unfolding request_of request_by on_request due_as Fine
 requested sv l session out = go (check_of sv l session true (length out)) refl
   where
-    go : (k : Check) → check_of sv l session true (length out) ≡ k
+    go : (k : Result ℕ ℕ) → check_of sv l session true (length out) ≡ k
         → Answers sv l (request session out) (outcome (on_request k sv l out).done l (on_request k sv l out).out)
-    go (Refuse n) e = refuses (record { number = n; listed = check_refuses sv l session true (length out) n e; same = refl })
-    go (Go i) e =
+    go (Err n) e = refuses (record { number = n; listed = check_refuses sv l session true (length out) n e; same = refl })
+    go (Ok i) e =
         due sv l session out (check_through sv l session true (length out) i e).room _ (link_of sv i).down (link_of sv i) l.disk (owner_part sv l)
         (files (table_part sv l)) _
 
@@ -331,14 +330,14 @@ every_call_answers sv l (lose session) = lost sv l session
 
 -- ---- a call that goes through is not refused
 
-not_refused : (sv : Server) (l : Lent) (c : Call) (i : ℕ) → check_in sv l c ≡ Go i → 258 ≤ room_in c → is_refused (call_of sv l c).done.answer ≡ false
+not_refused : (sv : Server) (l : Lent) (c : Call) (i : ℕ) → check_in sv l c ≡ Ok i → 258 ≤ room_in c → is_refused (call_of sv l c).done.answer ≡ false
 unfolding login_of login_by on_login request_of request_by on_request due_as lose_of lose_by on_lose
 not_refused sv l (login session clock out) i e h = rw e (answered_not (reply.Login clock) 0 out h)
 not_refused sv l (receive session clock input out) i e h = go (steps.receives sv l session clock input out)
   where
     go : steps.Receives sv l session clock input out → is_refused (receive_of sv l out session clock input).done.answer ≡ false
     go (steps.refused n o f q) =
-        let c : Refuse n ≡ Go i = sym f ∙ e in
+        let c : ◌≡◌ {A = Result ℕ ℕ} (Err n) (Ok i) = sym f ∙ e in
         let z : ◌≡◌ {A = ℕ} 0 1 = cc in absurd (omega arith)
     go (steps.ends_none f) = ap (λ (o : Outcome). is_refused o.done.answer) f.is
     go (steps.ends_packet f) = ap (λ (o : Outcome). is_refused o.done.answer) f.is ∙ tell_not f.turn.turn.reply f.heard.taken out
@@ -348,7 +347,7 @@ not_refused sv l (lose session) i e h = rw e
 
 -- ---- THEOREM: the local refusals, in the paper's order
 
-refused_by_law : (sv : Server) (l : Lent) (c : Call) (n : ℕ) → check_in sv l c ≡ Refuse n → RefusedBy sv l c n
+refused_by_law : (sv : Server) (l : Lent) (c : Call) (n : ℕ) → check_in sv l c ≡ Err n → RefusedBy sv l c n
 refused_by_law sv l c n e = ap (λ (o : Outcome). o.done.answer) (refused_call sv l c n e)
 
 pub every_local_refusal : EveryLocalRefusal
@@ -360,16 +359,16 @@ every_local_refusal sv l c =
           refused_by_law sv l c 34
           (check_sound sv l (session_in c) (open_in c) (room_in c) f s
           ∙ session_34 sv l (session_in c) (open_in c) (room_in c) (λ a b e. r (record { from_one = a; in_range = b; in_state_law = e })));
-      by32 = λ f s r h. refused_by_law sv l c 32 (through f s r ∙ ap (λ (t : Bool). cond t (Refuse 32) (Go (session_in c - 1))) (lt-ltb (room_in c) 258 h));
+      by32 = λ f s r h. refused_by_law sv l c 32 (through f s r ∙ ap (λ (t : Bool). cond {A = Result ℕ ℕ} t (Err 32) (Ok (session_in c - 1))) (lt-ltb (room_in c) 258 h));
       by_none = λ f s r h n e.
           clash
           (sym
           (not_refused sv l c (session_in c - 1)
-          (through f s r ∙ ap (λ (t : Bool). cond t (Refuse 32) (Go (session_in c - 1))) (le-ltb (room_in c) 258 h)) h)
+          (through f s r ∙ ap (λ (t : Bool). cond {A = Result ℕ ℕ} t (Err 32) (Ok (session_in c - 1))) (le-ltb (room_in c) 258 h)) h)
           ∙ ap is_refused e);
     }
   where
-    through : Fits sv l → IsSound sv l → Reachable sv c → check_in sv l c ≡ cond (ltb (room_in c) 258) (Refuse 32) (Go (session_in c - 1))
+    through : Fits sv l → IsSound sv l → Reachable sv c → check_in sv l c ≡ cond (ltb (room_in c) 258) (Err 32) (Ok (session_in c - 1))
     through f s r =
         check_sound sv l (session_in c) (open_in c) (room_in c) f s
         ∙ session_through sv l (session_in c) (open_in c) (room_in c) r.from_one r.in_range r.in_state_law

@@ -26,7 +26,6 @@ use Rattle.std.specs.Prelude as std
 use Rattle.table.specs.Table.{files, free_of}
 use Rattle.table.specs.Given.{next_number, upload_time, blocks_for}
 use Rattle.table.proofs.Finding.{free_place}
-use Rattle.files.specs.declared.Begun.TheVariants.{Refused, Started}
 use Rattle.files.specs.Uploads as filesUp
 use Rattle.files.specs.View.{record_at, bytes_at}
 use Rattle.files.specs.Completion.{check_of, complete_of, destinations_at}
@@ -145,8 +144,8 @@ select_number_law eq n most a b c d = rw (le-leb 1 most a, le-leb most 50 b, le-
 
 -- a new file is begun, or refused by 3 or 13
 pub data Begins (map owner table : List ℕ) (b : filesUp.Begins) : Type 0 where
-  started : (place : ℕ) → b.answer ≡ Started place → Begins map owner table b
-  refused : (e : ℕ) → one_of e upload_errors ≡ true → b ≡ filesUp.begins (Refused e) map owner table → Begins map owner table b
+  started : (place : ℕ) → b.answer ≡ Ok place → Begins map owner table b
+  refused : (e : ℕ) → one_of e upload_errors ≡ true → b ≡ filesUp.begins (Err e) map owner table → Begins map owner table b
 
 module _ (map owner table : List ℕ) (last latest : ℕ) (s : Sound map owner table last latest) (a : 1 ≤ length owner) (b : length owner ≤ 4096) where
   begin_at_law : (place n size : ℕ) → place < 256 → Begins map owner table (filesUp.begin_at place n size map owner table)
@@ -155,7 +154,7 @@ module _ (map owner table : List ℕ) (last latest : ℕ) (s : Sound map owner t
     where
       go : (map' owner' table' : List ℕ) (t : Bool)
           → Begins map owner table
-          (cond (eqb (cond t 0 13) 0) (filesUp.begins (Started place) map' owner' table') (filesUp.begins (Refused (cond t 0 13)) map owner table))
+          (cond (eqb (cond t 0 13) 0) (filesUp.begins (Ok place) map' owner' table') (filesUp.begins (Err (cond t 0 13)) map owner table))
       go map' owner' table' true = started place refl
       go map' owner' table' false = refused 13 refl refl
 

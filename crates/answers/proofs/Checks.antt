@@ -1,4 +1,5 @@
 -- The local refusals of a call, by their reasons, and what is known of a call that goes through. Assumes nothing.
+use Rattle.std.specs.Prelude.{Ok, Err, Result}
 use mathlib.Core.Path.{◌≡◌, refl, sym, ap, ◌∙◌, subst}
 use mathlib.Core.Bool.{Bool, true, false, cond}
 use mathlib.Core.List.{List, [], ◌∷◌}
@@ -14,7 +15,6 @@ use Rattle.files.proofs.Soundness.{sound_facts}
 use Rattle.links.specs.Sound.{links_sound}
 use Rattle.links.proofs.Facts as links
 use Rattle.server.specs.declared.Server.{Server}
-use Rattle.server.specs.declared.check.Check.TheVariants.{Go, Refuse}
 use Rattle.server.specs.State.{Lent, link_of, map_part, owner_part, table_part, part}
 use Rattle.server.specs.Check.{sizes_fit, fits, sound_parts, in_state, session_check, check_by, check_of}
 use Rattle.server.proofs.CheckLaws as laws
@@ -29,7 +29,7 @@ pub not-true : (b : Bool) → (b ≡ true → ⊥) → b ≡ false
 not-true true h = absurd (h refl)
 not-true false h = refl
 
-refused_clash : (n i : ℕ) → Refuse n ≡ Go i → ⊥
+refused_clash : (n i : ℕ) → ◌≡◌ {A = Result ℕ ℕ} (Err n) (Ok i) → ⊥
 refused_clash n i e = let z : ◌≡◌ {A = ℕ} 0 1 = cc in omega arith
 
 -- ---- the state of a session
@@ -59,33 +59,33 @@ pub record Through (sv : Server) (l : Lent) (session : ℕ) (wanted : Bool) (out
 
 module _ (sv : Server) (l : Lent) (session : ℕ) (wanted : Bool) (room : ℕ) where
   -- 33
-  pub check_33 : (Fits sv l → ⊥) → check_of sv l session wanted room ≡ Refuse 33
+  pub check_33 : (Fits sv l → ⊥) → check_of sv l session wanted room ≡ Err 33
   unfolding check_by
   check_33 h =
       ap (λ (t : Bool). cond t
-      (cond (sound_parts sv l.map l.owner l.table l.selected l.held) (session_check sv session wanted room) (Refuse 35)) (Refuse 33))
+      (cond (sound_parts sv l.map l.owner l.table l.selected l.held) (session_check sv session wanted room) (Err 35)) (Err 33))
       (not-true _ h)
 
   -- the rest of the order, where the sizes fit
   fitted : Fits sv l
       → check_of sv l session wanted room
-      ≡ cond (sound_parts sv l.map l.owner l.table l.selected l.held) (session_check sv session wanted room) (Refuse 35)
+      ≡ cond (sound_parts sv l.map l.owner l.table l.selected l.held) (session_check sv session wanted room) (Err 35)
   unfolding check_by
   fitted h =
       ap (λ (t : Bool). cond t
-      (cond (sound_parts sv l.map l.owner l.table l.selected l.held) (session_check sv session wanted room) (Refuse 35)) (Refuse 33))
+      (cond (sound_parts sv l.map l.owner l.table l.selected l.held) (session_check sv session wanted room) (Err 35)) (Err 33))
       h
 
   -- 35
-  pub check_35 : Fits sv l → (IsSound sv l → ⊥) → check_of sv l session wanted room ≡ Refuse 35
-  check_35 f h = fitted f ∙ ap (λ (t : Bool). cond t (session_check sv session wanted room) (Refuse 35)) (not-true _ h)
+  pub check_35 : Fits sv l → (IsSound sv l → ⊥) → check_of sv l session wanted room ≡ Err 35
+  check_35 f h = fitted f ∙ ap (λ (t : Bool). cond t (session_check sv session wanted room) (Err 35)) (not-true _ h)
 
   -- on a sound state the check is that of the session and the output
   pub check_sound : Fits sv l → IsSound sv l → check_of sv l session wanted room ≡ session_check sv session wanted room
-  check_sound f s = fitted f ∙ ap (λ (t : Bool). cond t (session_check sv session wanted room) (Refuse 35)) s
+  check_sound f s = fitted f ∙ ap (λ (t : Bool). cond t (session_check sv session wanted room) (Err 35)) s
 
   pub session_through : 1 ≤ session → session ≤ sv.sessions → (link_of sv (session - 1)).linked ≡ wanted
-      → session_check sv session wanted room ≡ cond (ltb room 258) (Refuse 32) (Go (session - 1))
+      → session_check sv session wanted room ≡ cond (ltb room 258) (Err 32) (Ok (session - 1))
   unfolding session_check
   session_through a b e =
       rw (
@@ -96,14 +96,14 @@ module _ (sv : Server) (l : Lent) (session : ℕ) (wanted : Bool) (room : ℕ) w
 
   -- 34
   pub session_34 : ((1 ≤ session) → (session ≤ sv.sessions) → ((link_of sv (session - 1)).linked ≡ wanted) → ⊥)
-      → session_check sv session wanted room ≡ Refuse 34
+      → session_check sv session wanted room ≡ Err 34
   unfolding session_check
   session_34 h = go (eqb session 0) refl (ltb sv.sessions session) refl (in_state wanted (link_of sv (session - 1)).linked) refl
     where
       go : (a : Bool) → eqb session 0 ≡ a → (b : Bool) → ltb sv.sessions session ≡ b
           → (d : Bool)
           → in_state wanted (link_of sv (session - 1)).linked ≡ d
-          → cond a (Refuse 34) (cond b (Refuse 34) (cond d (cond (ltb room 258) (Refuse 32) (Go (session - 1))) (Refuse 34))) ≡ Refuse 34
+          → cond {A = Result ℕ ℕ} a (Err 34) (cond b (Err 34) (cond d (cond (ltb room 258) (Err 32) (Ok (session - 1))) (Err 34))) ≡ Err 34
       go true p b q d r = refl
       go false p true q d r = refl
       go false p false q false r = refl
@@ -112,7 +112,7 @@ module _ (sv : Server) (l : Lent) (session : ℕ) (wanted : Bool) (room : ℕ) w
           (h (omega (arith, eqb-false session 0 p)) (omega (arith, ltb-false sv.sessions session q))
           (state_is wanted (link_of sv (session - 1)).linked r))
 
-  session_go : (i : ℕ) → session_check sv session wanted room ≡ Go i → Fits sv l → IsSound sv l → Through sv l session wanted room i
+  session_go : (i : ℕ) → session_check sv session wanted room ≡ Ok i → Fits sv l → IsSound sv l → Through sv l session wanted room i
   unfolding session_check
   session_go i e f s =
       go (eqb session 0) refl (ltb sv.sessions session) refl (in_state wanted (link_of sv (session - 1)).linked) refl (ltb room 258) refl e
@@ -122,7 +122,7 @@ module _ (sv : Server) (l : Lent) (session : ℕ) (wanted : Bool) (room : ℕ) w
           → in_state wanted (link_of sv (session - 1)).linked ≡ d
           → (w : Bool)
           → ltb room 258 ≡ w
-          → cond a (Refuse 34) (cond b (Refuse 34) (cond d (cond w (Refuse 32) (Go (session - 1))) (Refuse 34))) ≡ Go i
+          → cond {A = Result ℕ ℕ} a (Err 34) (cond b (Err 34) (cond d (cond w (Err 32) (Ok (session - 1))) (Err 34))) ≡ Ok i
           → Through sv l session wanted room i
       go true p b q d r w t e = absurd (refused_clash 34 i e)
       go false p true q d r w t e = absurd (refused_clash 34 i e)
@@ -139,15 +139,15 @@ module _ (sv : Server) (l : Lent) (session : ℕ) (wanted : Bool) (room : ℕ) w
             is_sound = s;
           }
 
-  session_refuses : (n : ℕ) → session_check sv session wanted room ≡ Refuse n → one_of n (32 ∷ 33 ∷ 34 ∷ 35 ∷ []) ≡ true
+  session_refuses : (n : ℕ) → session_check sv session wanted room ≡ Err n → one_of n (32 ∷ 33 ∷ 34 ∷ 35 ∷ []) ≡ true
   unfolding session_check
   session_refuses n e = go (eqb session 0) (ltb sv.sessions session) (in_state wanted (link_of sv (session - 1)).linked) (ltb room 258) e
     where
-      is : (m : ℕ) → Refuse m ≡ Refuse n → one_of m (32 ∷ 33 ∷ 34 ∷ 35 ∷ []) ≡ true → one_of n (32 ∷ 33 ∷ 34 ∷ 35 ∷ []) ≡ true
+      is : (m : ℕ) → ◌≡◌ {A = Result ℕ ℕ} (Err m) (Err n) → one_of m (32 ∷ 33 ∷ 34 ∷ 35 ∷ []) ≡ true → one_of n (32 ∷ 33 ∷ 34 ∷ 35 ∷ []) ≡ true
       is m e h = let z : m ≡ n = cc in subst (λ (k : ℕ). one_of k (32 ∷ 33 ∷ 34 ∷ 35 ∷ []) ≡ true) z h
 
       go : (a b d w : Bool)
-          → cond a (Refuse 34) (cond b (Refuse 34) (cond d (cond w (Refuse 32) (Go (session - 1))) (Refuse 34))) ≡ Refuse n
+          → cond {A = Result ℕ ℕ} a (Err 34) (cond b (Err 34) (cond d (cond w (Err 32) (Ok (session - 1))) (Err 34))) ≡ Err n
           → one_of n (32 ∷ 33 ∷ 34 ∷ 35 ∷ []) ≡ true
       go true b d w e = is 34 e refl
       go false true d w e = is 34 e refl
@@ -155,7 +155,7 @@ module _ (sv : Server) (l : Lent) (session : ℕ) (wanted : Bool) (room : ℕ) w
       go false false true true e = is 32 e refl
       go false false true false e = absurd (refused_clash n (session - 1) (sym e))
 
-  pub check_through : (i : ℕ) → check_of sv l session wanted room ≡ Go i → Through sv l session wanted room i
+  pub check_through : (i : ℕ) → check_of sv l session wanted room ≡ Ok i → Through sv l session wanted room i
   unfolding check_by
   check_through i e =
       go (fits sv (length l.disk) l.map l.owner l.table l.selected l.held) refl
@@ -164,30 +164,30 @@ module _ (sv : Server) (l : Lent) (session : ℕ) (wanted : Bool) (room : ℕ) w
       go : (a : Bool) → fits sv (length l.disk) l.map l.owner l.table l.selected l.held ≡ a
           → (b : Bool)
           → sound_parts sv l.map l.owner l.table l.selected l.held ≡ b
-          → cond a (cond b (session_check sv session wanted room) (Refuse 35)) (Refuse 33) ≡ Go i
+          → cond {A = Result ℕ ℕ} a (cond b (session_check sv session wanted room) (Err 35)) (Err 33) ≡ Ok i
           → Through sv l session wanted room i
       go false p b q e = absurd (refused_clash 33 i e)
       go true p false q e = absurd (refused_clash 35 i e)
       go true p true q e = session_go i e p q
 
-  pub check_refuses : (n : ℕ) → check_of sv l session wanted room ≡ Refuse n → one_of n (32 ∷ 33 ∷ 34 ∷ 35 ∷ []) ≡ true
+  pub check_refuses : (n : ℕ) → check_of sv l session wanted room ≡ Err n → one_of n (32 ∷ 33 ∷ 34 ∷ 35 ∷ []) ≡ true
   unfolding check_by
   check_refuses n e =
       go (fits sv (length l.disk) l.map l.owner l.table l.selected l.held)
       (sound_parts sv l.map l.owner l.table l.selected l.held) e
     where
-      is : (m : ℕ) → Refuse m ≡ Refuse n → one_of m (32 ∷ 33 ∷ 34 ∷ 35 ∷ []) ≡ true → one_of n (32 ∷ 33 ∷ 34 ∷ 35 ∷ []) ≡ true
+      is : (m : ℕ) → ◌≡◌ {A = Result ℕ ℕ} (Err m) (Err n) → one_of m (32 ∷ 33 ∷ 34 ∷ 35 ∷ []) ≡ true → one_of n (32 ∷ 33 ∷ 34 ∷ 35 ∷ []) ≡ true
       is m e h = let z : m ≡ n = cc in subst (λ (k : ℕ). one_of k (32 ∷ 33 ∷ 34 ∷ 35 ∷ []) ≡ true) z h
 
       go : (a b : Bool)
-          → cond a (cond b (session_check sv session wanted room) (Refuse 35)) (Refuse 33) ≡ Refuse n
+          → cond {A = Result ℕ ℕ} a (cond b (session_check sv session wanted room) (Err 35)) (Err 33) ≡ Err n
           → one_of n (32 ∷ 33 ∷ 34 ∷ 35 ∷ []) ≡ true
       go false b e = is 33 e refl
       go true false e = is 35 e refl
       go true true e = session_refuses n e
 
   -- a call that goes through goes through with other output that has the room
-  pub through_again : (i : ℕ) (room' : ℕ) → Through sv l session wanted room i → 258 ≤ room' → session_check sv session wanted room' ≡ Go i
+  pub through_again : (i : ℕ) (room' : ℕ) → Through sv l session wanted room i → 258 ≤ room' → session_check sv session wanted room' ≡ Ok i
   unfolding session_check
   through_again i room' t h =
       rw (

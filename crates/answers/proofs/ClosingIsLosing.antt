@@ -1,4 +1,5 @@
 -- A link that the server closes leaves what a lost one leaves, and the server closes exactly where the paper says. Assumes nothing.
+use Rattle.std.specs.Prelude.{Ok}
 use mathlib.Core.Path.{◌≡◌, refl, sym, ap, ◌∙◌, subst}
 use mathlib.Core.Bool.{Bool, true, false, not}
 use mathlib.Core.List.{List, []}
@@ -20,7 +21,6 @@ use Rattle.carry.specs.declared.turn.Turn.{Turn}
 use Rattle.carry.specs.Turn.{turn_of, Mem, mem, Turned, turned}
 use Rattle.decide.proofs.Closing as decide
 use Rattle.server.specs.declared.Server.{Server}
-use Rattle.server.specs.declared.check.Check.TheVariants.{Go}
 use Rattle.server.specs.State.{Lent, lent, Outcome, outcome, done_with, link_of, with_link, with_turn, part, with_part}
 use Rattle.server.specs.Check.{check_of}
 use Rattle.server.specs.Turns.{in_use}
@@ -150,7 +150,7 @@ closes_frame s taken (packet kind info) e = unexpected kind info (not-false (exp
 closes_frame s taken too_long e = long
 
 module _ (sv : Server) (l : Lent) (session clock : ℕ) (input out : List ℕ) (i : ℕ) (t : Through sv l session true (length out) i)
-    (go_on : check_of sv l session true (length out) ≡ Go i) where
+    (go_on : check_of sv l session true (length out) ≡ Ok i) where
   step_is : receive_of sv l out session clock input ≡ step_of sv i clock input l out
   unfolding receive_of receive_by on_check
   step_is = rw go_on

@@ -1,4 +1,5 @@
 -- A receive call by its cases: refused, bytes that end no packet, and bytes that end one. Assumes nothing.
+use Rattle.std.specs.Prelude.{Result, Ok, Err}
 use mathlib.Core.Path.{◌≡◌, refl, sym, ap, ◌∙◌, subst}
 use mathlib.Core.Bool.{Bool, true, false}
 use mathlib.Core.List.{List, [], ◌∷◌, ◌++◌}
@@ -26,8 +27,6 @@ use Rattle.decide.specs.Decide.{decide_of, on_frame}
 use Rattle.decide.specs.declared.act.Act.{Act}
 use Rattle.decide.proofs.Closing.{closes}
 use Rattle.server.specs.declared.Server.{Server}
-use Rattle.server.specs.declared.check.Check.{Check}
-use Rattle.server.specs.declared.check.Check.TheVariants.{Go, Refuse}
 use Rattle.server.specs.State.{Lent, lent, outcome, done_with, link_of, with_link, with_turn, words, part, with_part}
 use Rattle.server.specs.Check.{check_of}
 use Rattle.server.specs.Turns.{hear_of, size_in, in_use, parts_of, put_back, act_of}
@@ -248,7 +247,7 @@ pub record EndsNone (sv : Server) (l : Lent) (session clock : ℕ) (input out : 
       (lent l.disk l.map l.owner l.table l.selected (with_part (i * 258) 258 heard.state.part l.held)) out
 
 pub data Receives (sv : Server) (l : Lent) (session clock : ℕ) (input out : List ℕ) : Type 0 where
-  refused : (n : ℕ) → one_of n (32 ∷ 33 ∷ 34 ∷ 35 ∷ []) ≡ true → check_of sv l session true (length out) ≡ Refuse n
+  refused : (n : ℕ) → one_of n (32 ∷ 33 ∷ 34 ∷ 35 ∷ []) ≡ true → check_of sv l session true (length out) ≡ Err n
       → receive_of sv l out session clock input ≡ outcome (done_with sv (answer.Refused n)) l out
       → Receives sv l session clock input out
   ends_none : EndsNone sv l session clock input out → Receives sv l session clock input out
@@ -258,9 +257,9 @@ pub receives : (sv : Server) (l : Lent) (session clock : ℕ) (input out : List 
 unfolding receive_of receive_by on_check
 receives sv l session clock input out = go (check_of sv l session true (length out)) refl
   where
-    go : (k : Check) → check_of sv l session true (length out) ≡ k → Receives sv l session clock input out
-    go (Refuse n) e = refused n (check_refuses sv l session true (length out) n e) e (rw e)
-    go (Go i) e = by (check_through sv l session true (length out) i e)
+    go : (k : Result ℕ ℕ) → check_of sv l session true (length out) ≡ k → Receives sv l session clock input out
+    go (Err n) e = refused n (check_refuses sv l session true (length out) n e) e (rw e)
+    go (Ok i) e = by (check_through sv l session true (length out) i e)
       where
         by : Through sv l session true (length out) i → Receives sv l session clock input out
         by t = on (heard_by_law sv l session clock input out i t)

@@ -3,7 +3,7 @@ use mathlib.Core.Path.{◌≡◌, refl, sym, ap, subst, ◌∙◌}
 use mathlib.Core.Bool.{Bool, true, false, cond}
 use mathlib.Core.List.{List, ◌++◌, append_assoc}
 use mathlib.Core.Option.{Option, none, some}
-use Rattle.std.proofs.Common.{Ok, Err}
+use Rattle.std.proofs.Common.{Ok, Err, Result}
 use Prim.Native.Nat.{ℕ, ◌+◌, ◌-◌, ◌≤◌, ◌<◌}
 use native.Mathlib.Omega.{arith}
 use lib.Dec.{ltb}
@@ -72,27 +72,27 @@ module _ (bytes steps out : List ℕ) (w : Accepted bytes steps) (h : length byt
       ∙ drop_at (take r.n zeros) (text_of w.formula ++ drop (r.n + length (text_of w.formula)) zeros) r.n k in
       ap (take (2560 - r.n)) d ∙ take_at (text_of w.formula) (drop (r.n + length (text_of w.formula)) zeros) (2560 - r.n) (sym size_is)
 
-  pub deliver_short : length out < 2560 - r.n → answers (answer.Refused 33) out ≡ delivered (text_of w.formula) out
+  pub deliver_short : length out < 2560 - r.n → answers (Err 33) out ≡ delivered (text_of w.formula) out
   unfolding delivered
   deliver_short l = rw (lt-leb (length (text_of w.formula)) (length out) (omega (arith, size_is)))
 
   pub deliver_text : 2560 - r.n ≤ length out → (now : List ℕ) → now ≡ take (2560 - r.n) (drop r.n text) ++ drop (2560 - r.n) out
-      → answers (answer.Text (2560 - r.n)) now ≡ delivered (text_of w.formula) out
+      → answers (Ok (answer.Text (2560 - r.n))) now ≡ delivered (text_of w.formula) out
   unfolding delivered
   deliver_text l now e = rw (e, slice_is, size_is, le-leb (length (text_of w.formula)) (length out) (omega (arith, size_is)))
 
 -- ---- the answer of an accepted equation
 
 module _ (f : Formula) (n m : ℕ) (out : List ℕ) where
-  pub answer_mark : m < n → answers answer.Mark out ≡ written f n m out
+  pub answer_mark : m < n → answers (Ok answer.Mark) out ≡ written f n m out
   unfolding written
   answer_mark h = rw (lt-ltb m n h)
 
-  pub answer_deeper : n ≤ m → 16 < nesting f → answers answer.Deeper out ≡ written f n m out
+  pub answer_deeper : n ≤ m → 16 < nesting f → answers (Ok answer.Deeper) out ≡ written f n m out
   unfolding written
   answer_deeper h i = rw (le-ltb m n h, lt-ltb 16 (nesting f) i)
 
-  pub answer_bytes : n ≤ m → nesting f ≤ 16 → 256 < n → answers answer.Bytes out ≡ written f n m out
+  pub answer_bytes : n ≤ m → nesting f ≤ 16 → 256 < n → answers (Ok answer.Bytes) out ≡ written f n m out
   unfolding written
   answer_bytes h i j = rw (le-ltb m n h, le-ltb 16 (nesting f) i, lt-ltb 256 n j)
 
@@ -121,7 +121,7 @@ module _ (bytes steps : List ℕ) (small : (k : ℕ) → get_or bytes k 0 < 256)
         let a = accepted bytes t.valid in
         subst (Accepted bytes) (sym t.first) (accepted_steps bytes small t.short a.tree a.parsed)
 
-    pub whole_answer : (r : Answer) (out now : List ℕ)
+    pub whole_answer : (r : Result Answer ℕ) (out now : List ℕ)
         → ((w : Accepted bytes part) → answers r now ≡ written w.formula (length bytes) (length (unmarked bytes)) out)
         → answers r now ≡ written_of bytes out
     unfolding written_of written_by accepted_steps
@@ -133,14 +133,14 @@ module _ (bytes steps : List ℕ) (small : (k : ℕ) → get_or bytes k 0 < 256)
         subst (λ (l : List ℕ). (w : Accepted bytes l) → answers r now ≡ written w.formula (length bytes) (length (unmarked bytes)) out) t.first q in
         rw (le-ltb 2047 (length bytes) t.short, a.parsed) (f s)
 
-  pub refused_answer : (n : ℕ) → parses (Err n) steps ≡ parse_of bytes (replicate 2047 0) → (out : List ℕ) → answers (answer.Refused n) out ≡ written_of bytes out
+  pub refused_answer : (n : ℕ) → parses (Err n) steps ≡ parse_of bytes (replicate 2047 0) → (out : List ℕ) → answers (Err n) out ≡ written_of bytes out
   unfolding written_of written_by validity_of refusal
   refused_answer n e out =
       let j = judged bytes (replicate 2047 0) steps n e (λ h. omega (arith, length-replicate {A = ℕ} 2047 0)) in
       by (ltb 2047 (length bytes)) refl (parse bytes) refl j.number (λ z. j.refused (sym j.number ∙ z))
     where
       by : (x : Bool) → ltb 2047 (length bytes) ≡ x → (o : Option Tree) → parse bytes ≡ o → n ≡ cond x 33 (refusal o) → (n ≡ 0 → ⊥)
-          → answers (answer.Refused n) out ≡ cond x (answers (answer.Refused 33) out) (written_by o (length bytes) (length (unmarked bytes)) out)
+          → answers (Err n) out ≡ cond x (answers (Err 33) out) (written_by o (length bytes) (length (unmarked bytes)) out)
       by true l o q j z = rw j
       by false l none q j z = unfold written_by refusal in rw j
       by false l (some t) q j z = absurd (z (unfold refusal in j))

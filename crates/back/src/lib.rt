@@ -18,6 +18,7 @@ ghost use Rattle.writing.specs.Text.{item_for, character_for, number_for, consta
 ghost use Rattle.writing.specs.Places.{nesting_at, connective_text, opening, closing, quoted, Stands};
 ghost use Rattle.writing.specs.Pieces.{Piece};
 ghost use Rattle.back.specs.Steps.{binding_of, Ready, Room, FormulaPut, Measured, Accepted};
+ghost use Rattle.refusal.specs.Refusal.{numbered};
 ghost use Rattle.back.specs.Answer.{answers, Delivers, Replies, written_of};
 
 use equation::evaluation::parse;
@@ -25,13 +26,13 @@ use equation::tokens::{Token, read_token};
 use names::bytes::is_printed;
 use names::table::row_of;
 use numbers::{hex_digit, number16, number32};
+use refusal::Refusal;
 
-// How an equation is answered: the number of bytes of its text; refused by 33 or 8; it ends in an end mark; its text would nest deeper than 16; it has
-// more than 256 bytes.
+// How an equation is answered: the number of bytes of its text; it ends in an end mark; its text would nest deeper than 16; it has more than 256 bytes.
+// Bytes that are no equation, and an output too short, are refused.
 #[derive(Clone, Copy)]
 pub enum Answer {
     Text(usize),
-    Refused(u8),
     Mark,
     Deeper,
     Bytes,
@@ -333,48 +334,46 @@ fn size_unmarked(bytes: &[u8]) -> usize
 }
 
 // Delivers the text of an accepted equation of at most 256 bytes, given with its steps.
-fn deliver(bytes: &[u8], steps: &[u16], out: &mut [u8]) -> Answer
+fn deliver(bytes: &[u8], steps: &[u16], out: &mut [u8]) -> Result<Answer, Refusal>
     requires accepted { Accepted bytes.now steps.now }
     requires bytes_len_bound { length bytes.now ≤ 256 }
-    ensures { Delivers bytes.now steps.now out.old (answers result out.new) }
+    ensures { Delivers bytes.now steps.now out.old (answers (numbered result) out.new) }
 {
     let mut text = [0u8; 2560];
     let p = put_formula(bytes, steps, steps.len(), 0, &mut text, 2560);
     let start = p.n;
     let size = 2560 - start;
     if out.len() < size {
-        return Answer::Refused(33);
+        return Err(Refusal::BadSize);
     }
     out[..size].copy_from_slice(&text[start..]);
-    Answer::Text(size)
+    Ok(Answer::Text(size))
 }
 
 // Answers an accepted equation, given with its steps.
-fn answered(bytes: &[u8], steps: &[u16], out: &mut [u8]) -> Answer
+fn answered(bytes: &[u8], steps: &[u16], out: &mut [u8]) -> Result<Answer, Refusal>
     requires { Accepted bytes.now steps.now }
-    ensures { Replies bytes.now steps.now out.old (answers result out.new) }
+    ensures { Replies bytes.now steps.now out.old (answers (numbered result) out.new) }
 {
     let size = size_unmarked(bytes);
     if size < bytes.len() {
-        return Answer::Mark;
+        return Ok(Answer::Mark);
     }
     let d = depth(steps, steps.len(), 0);
     if 16 < d.deep {
-        return Answer::Deeper;
+        return Ok(Answer::Deeper);
     }
     if 256 < bytes.len() {
-        return Answer::Bytes;
+        return Ok(Answer::Bytes);
     }
     deliver(bytes, steps, out)
 }
 
 // Writes an equation as on paper to the front of the output.
-pub fn to_text(bytes: &[u8], out: &mut [u8]) -> Answer
-    ensures { answers result out.new ≡ written_of bytes.now out.old }
+pub fn to_text(bytes: &[u8], out: &mut [u8]) -> Result<Answer, Refusal>
+    ensures { answers (numbered result) out.new ≡ written_of bytes.now out.old }
 {
     let mut steps = [0u16; 2047];
-    match parse(bytes, &mut steps) {
-        Ok(count) => answered(bytes, &steps[..count], out),
-        Err(refusal) => Answer::Refused(u8::from(refusal)),
-    }
+    let count = parse(bytes, &mut steps)?;
+    answered(bytes, &steps[..count], out)
 }

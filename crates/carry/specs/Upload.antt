@@ -6,8 +6,6 @@ use Rattle.session.specs.declared.state.Uplink.TheVariants as up
 use Rattle.session.specs.declared.reply.Reply.TheVariants.{Nothing, Go, UploadError, Ack, Nak}
 use Rattle.session.specs.State.{with_up}
 use Rattle.table.specs.Given.{next_number, upload_time, given_number}
-use Rattle.files.specs.declared.Begun.{Begun}
-use Rattle.files.specs.declared.Begun.TheVariants.{Refused, Started}
 use Rattle.files.specs.Uploads as files
 use Rattle.files.specs.Completion.{check_of, complete_of}
 use Rattle.carry.specs.declared.turn.Last.{Last}
@@ -17,9 +15,9 @@ use Rattle.carry.specs.Turn.{last_of, turn_of, Frees, frees, Writes, writes, Mov
 -- ---- UPLOAD_CMD
 
 -- "UL_GO_RESP gives number and offset"; a refused one uses no number
-unfoldable pub begun_turn : Begun → Session → Last → ℕ → Turn
-begun_turn (Refused n) s last number = turn_of s last (UploadError (files.begun_number (Refused n)))
-begun_turn (Started place) s last number = turn_of (with_up s (up.Receiving place 0 0)) (last_of number last.time) (Go number 0)
+unfoldable pub begun_turn : Result ℕ ℕ → Session → Last → ℕ → Turn
+begun_turn (Err n) s last number = turn_of s last (UploadError (files.begun_number (Err n)))
+begun_turn (Ok place) s last number = turn_of (with_up s (up.Receiving place 0 0)) (last_of number last.time) (Go number 0)
 
 unfoldable pub begun_as : ℕ → Session → Last → files.Begins → Frees
 begun_as number s last b = frees (begun_turn b.answer s last number) b.map b.owner b.table

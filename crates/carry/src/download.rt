@@ -15,6 +15,7 @@ pub fn forget(selected: &mut [u32])
 }
 
 // The link is closed: the selection is forgotten, and the partial stays as it is.
+#[tactic(auto, unfolding(crate::specs::Download::close_turn))]
 pub(crate) fn close(last: Last, selected: &mut [u32]) -> Turn
     ensures { chooses result selected.new ≡ close_turn last selected.old }
 {
@@ -23,6 +24,7 @@ pub(crate) fn close(last: Last, selected: &mut [u32]) -> Turn
 }
 
 // SELECT_CMD.
+#[tactic(auto, using(refusal::proofs::Laws::not_done), unfolding(crate::specs::Download::select_turn, crate::specs::Download::selected_as))]
 pub(crate) fn select(
     s: Session,
     last: Last,
@@ -50,6 +52,7 @@ pub(crate) fn select(
 }
 
 // DOWNLOAD_CMD of a complete file: 10, or the download begins and `passed` selected files lie behind it.
+#[tactic(auto, unfolding(crate::specs::Download::begin_turn))]
 pub(crate) fn begin(
     s: Session,
     last: Last,
@@ -76,6 +79,7 @@ pub(crate) fn begin(
 }
 
 // DIR_SHORT_CMD or DIR_LONG_CMD of complete files: the directory begins, and `passed` selected files lie behind it.
+#[tactic(auto, unfolding(crate::specs::Download::list_turn))]
 pub(crate) fn list(s: Session, last: Last, listed: Listed, long: bool, passed: usize) -> Turn
     ensures { result ≡ list_turn s last listed long passed }
 {
@@ -90,6 +94,7 @@ pub(crate) fn list(s: Session, last: Last, listed: Listed, long: bool, passed: u
 }
 
 // DL_ACK_CMD: the download is over.
+#[tactic(auto, unfolding(crate::specs::Download::confirm_turn))]
 pub(crate) fn confirm(
     s: Session,
     last: Last,

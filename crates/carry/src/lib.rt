@@ -15,6 +15,7 @@ use session::state::{Downlink, Session, Uplink};
 use turn::{Last, Turn};
 
 // Carries an act out for a session. `size` bytes of the information are the packet's; `most` is MAXSEL; `selected` is the session's part.
+#[tactic(auto, unfolding(crate::specs::Carry::carry_out, crate::specs::Carry::on_frees, crate::specs::Carry::on_writes, crate::specs::Carry::on_moves, crate::specs::Carry::on_chooses))]
 pub fn carry_out(
     what: Act,
     s: Session,

@@ -1,27 +1,29 @@
 // The acts of the uplink.
 ghost use Rattle.std.specs.Prelude.{◌≡◌};
+ghost use Rattle.refusal.specs.Refusal.{numbered};
 ghost use Rattle.carry.specs.Turn.{frees, writes, moves};
 ghost use Rattle.carry.specs.Upload.{resume_turn, begun_turn, begin_turn, store_turn, discard_turn, accept_turn, judged_at, finish_turn};
 
 use crate::turn::{Last, Turn, reply_only, uplink_only};
-use files::Begun;
+use refusal::Refusal;
 use session::reply::Reply;
 use session::state::{Session, Uplink};
 
 // A file begun or refused.
-fn begun(answer: Begun, s: Session, last: Last, number: u32) -> Turn
-    ensures { result ≡ begun_turn answer s last number }
+#[tactic(auto, unfolding(crate::specs::Upload::begun_turn))]
+fn begun(answer: Result<usize, Refusal>, s: Session, last: Last, number: u32) -> Turn
+    ensures { result ≡ begun_turn (numbered answer) s last number }
 {
     match answer {
-        Begun::Refused(n) => reply_only(s, last, Reply::UploadError(n)),
-        Begun::Started(place) => {
+        Err(refusal) => reply_only(s, last, Reply::UploadError(refusal.into())),
+        Ok(place) => {
             let up = Uplink::Receiving {
-                place: place,
+                place,
                 offset: 0,
                 received: 0,
             };
             let next = Last {
-                number: number,
+                number,
                 time: last.time,
             };
             uplink_only(s, next, up, Reply::Go(number, 0))
@@ -43,7 +45,7 @@ pub(crate) fn begin(
         ≡ begin_turn s last «length» map.old owner.old table.old }
 {
     let Some(number) = table::next_number(last.number) else {
-        return reply_only(s, last, Reply::UploadError(3));
+        return reply_only(s, last, Reply::UploadError(Refusal::UsedUp.into()));
     };
     let answer = files::begin(map, owner, table, last.number, length);
     begun(answer, s, last, number)
@@ -54,7 +56,7 @@ pub(crate) fn resume(s: Session, last: Last, place: usize, number: u32, received
     ensures { result ≡ resume_turn s last place number received }
 {
     let up = Uplink::Receiving {
-        place: place,
+        place,
         offset: received,
         received: 0,
     };
@@ -62,6 +64,7 @@ pub(crate) fn resume(s: Session, last: Last, place: usize, number: u32, received
 }
 
 // DATA: the bytes go behind those received.
+#[tactic(auto, using(refusal::proofs::Laws::not_done), unfolding(crate::specs::Upload::store_turn, crate::specs::Upload::appended_as, crate::specs::Upload::stored_as))]
 pub(crate) fn store(
     s: Session,
     last: Last,
@@ -80,19 +83,19 @@ pub(crate) fn store(
     if info.len() < size {
         return reply_only(s, last, Reply::Nothing);
     }
-    let refused = files::append(disk, owner, table, place, &info[..size]);
-    if refused != 0 {
-        return reply_only(s, last, Reply::Nak(refused));
+    if let Err(refusal) = files::append(disk, owner, table, place, &info[..size]) {
+        return reply_only(s, last, Reply::Nak(refusal.into()));
     }
     let up = Uplink::Receiving {
-        place: place,
-        offset: offset,
+        place,
+        offset,
         received: ((received as u64 + (size % 4294967296) as u64) % 4294967296) as u32,
     };
     uplink_only(s, last, up, Reply::Nothing)
 }
 
 // UL_NAK_RESP with a number: the partial is discarded, and the uplink goes to a state.
+#[tactic(auto, unfolding(crate::specs::Upload::discard_turn))]
 pub(crate) fn discard(
     s: Session,
     last: Last,
@@ -106,11 +109,13 @@ pub(crate) fn discard(
     ensures { frees result map.new owner.new table.new
         ≡ discard_turn s last place up number map.old owner.old table.old }
 {
-    files::discard(map, owner, table, place);
+    // a refusal changes nothing, and the link goes on as after a partial that was discarded
+    let _ = files::discard(map, owner, table, place);
     uplink_only(s, last, up, Reply::Nak(number))
 }
 
 // UL_ACK_RESP: the file is complete.
+#[tactic(auto, using(refusal::proofs::Laws::not_done), unfolding(crate::specs::Upload::accept_turn, crate::specs::Upload::accepted_as))]
 fn accept(
     s: Session,
     last: Last,
@@ -123,19 +128,18 @@ fn accept(
     ensures { writes result disk.new table.new
         ≡ accept_turn s last place time disk.old owner.now table.old }
 {
-    let refused = files::complete(disk, owner, table, place, time);
-    if refused != 0 {
-        return uplink_only(s, last, Uplink::Idle, Reply::Nak(refused));
+    if let Err(refusal) = files::complete(disk, owner, table, place, time) {
+        return uplink_only(s, last, Uplink::Idle, Reply::Nak(refusal.into()));
     }
     let next = Last {
         number: last.number,
-        time: time,
+        time,
     };
     uplink_only(s, next, Uplink::Idle, Reply::Ack)
 }
 
-// What DATA_END gives a file: the upload time, or the number of a refusal. The header's checks, "then 3".
-#[tactic(auto, unfolding(crate::specs::Upload::judged_at, crate::specs::Upload::timed))]
+// What DATA_END gives a file: the upload time, or why it is refused. The header's checks, "then 3".
+#[tactic(auto, using(refusal::proofs::Laws::not_done), unfolding(crate::specs::Upload::judged_at, crate::specs::Upload::timed))]
 fn judge(
     last: Last,
     place: usize,
@@ -143,17 +147,15 @@ fn judge(
     disk: &[u8],
     owner: &[u16],
     table: &[u32],
-) -> Result<u32, u8>
-    ensures { result ≡ judged_at last place clock disk.now owner.now table.now }
+) -> Result<u32, Refusal>
+    ensures { numbered result ≡ judged_at last place clock disk.now owner.now table.now }
 {
-    let refused = files::check(disk, owner, table, place);
-    if refused != 0 {
-        return Err(refused);
-    }
-    table::upload_time(clock, last.time).ok_or(3)
+    files::check(disk, owner, table, place)?;
+    table::upload_time(clock, last.time).ok_or(Refusal::UsedUp)
 }
 
 // DATA_END.
+#[tactic(auto, unfolding(crate::specs::Upload::finish_as, crate::specs::Upload::with_disk, crate::specs::Upload::with_blocks))]
 pub(crate) fn finish(
     s: Session,
     last: Last,
@@ -168,7 +170,16 @@ pub(crate) fn finish(
         ≡ finish_turn s last place clock disk.old map.old owner.old table.old }
 {
     match judge(last, place, clock, &*disk, &*owner, &*table) {
-        Err(number) => discard(s, last, place, Uplink::Idle, number, map, owner, table),
+        Err(refusal) => discard(
+            s,
+            last,
+            place,
+            Uplink::Idle,
+            refusal.into(),
+            map,
+            owner,
+            table,
+        ),
         Ok(time) => accept(s, last, place, time, disk, &*owner, table),
     }
 }

@@ -1,4 +1,5 @@
 -- A session that holds no byte of a packet: what it holds after a login, a lost link, a request and the end of a packet. Assumes nothing.
+use Rattle.std.specs.Prelude.{Result, Ok, Err}
 use mathlib.Core.Path.{◌≡◌, refl, sym, ap, ◌∙◌, subst}
 use mathlib.Core.Bool.{Bool, true, false, cond}
 use mathlib.Core.List.{List, [], ◌∷◌}
@@ -14,10 +15,8 @@ use Rattle.packet.specs.Frame.{Held, Event, none_held, byte}
 use Rattle.session.specs.declared.state.Session.{Session}
 use Rattle.session.specs.declared.reply.Reply.TheVariants as reply
 use Rattle.session.specs.State.{closed_session, fresh_session, with_held, with_selection}
-use Rattle.std.proofs.Common.{Option, Some, None}
+use Rattle.std.proofs.Common.{Option, Some, None, Result, Ok, Err}
 use Rattle.table.specs.Given.{next_number, upload_time}
-use Rattle.files.specs.declared.Begun.{Begun}
-use Rattle.files.specs.declared.Begun.TheVariants.{Refused, Started}
 use Rattle.files.specs.Uploads as filesUp
 use Rattle.files.specs.Completion.{check_of, complete_of, destinations_at}
 use Rattle.files.specs.Selection.{count_in, refusal_in, Selects, select_of}
@@ -30,8 +29,6 @@ use Rattle.carry.specs.Carry.{on_frees, on_writes, on_moves, on_chooses, carry_o
 use Rattle.decide.specs.declared.act.Act.{Act}
 use Rattle.decide.specs.declared.act.Act.TheVariants as act
 use Rattle.server.specs.declared.Server.{Server}
-use Rattle.server.specs.declared.check.Check.{Check}
-use Rattle.server.specs.declared.check.Check.TheVariants.{Go, Refuse}
 use Rattle.server.specs.State.{Lent, lent, Outcome, link_of, with_link, part, with_part}
 use Rattle.server.specs.Check as check
 use Rattle.server.specs.Turns.{put_back, act_of}
@@ -59,10 +56,10 @@ either true x y e f = e
 either false x y e f = f
 
 module _ (s : Session) (last : Last) (e : s.held ≡ 0) where
-  begun_zero : (b : Begun) (number : ℕ) → Zero (upload.begun_turn b s last number)
+  begun_zero : (b : Result ℕ ℕ) (number : ℕ) → Zero (upload.begun_turn b s last number)
   unfolding upload.begun_turn
-  begun_zero (Refused n) number = e
-  begun_zero (Started place) number = e
+  begun_zero (Err n) number = e
+  begun_zero (Ok place) number = e
 
   begin_zero : (g : Option ℕ) (size : ℕ) (map owner table : List ℕ) → Zero (upload.begin_with g s last size map owner table).turn
   unfolding upload.begin_with upload.begun_as
@@ -183,7 +180,7 @@ module _ (sv : Server) (l : Lent) (good : Good sv l) (i : ℕ) (below : i < sv.s
       go true q = own (eqb-true (session_in c) (i + 1) q)
       go false q = free_bare c (others_free sv l good c i (eqb-false (session_in c) (i + 1) q))
 
-  own_index : (session : ℕ) (wanted : Bool) (room j : ℕ) → session ≡ i + 1 → check.check_of sv l session wanted room ≡ Go j → j ≡ i
+  own_index : (session : ℕ) (wanted : Bool) (room j : ℕ) → session ≡ i + 1 → check.check_of sv l session wanted room ≡ Ok j → j ≡ i
   own_index session wanted room j own e =
       let t = check_through sv l session wanted room j e in omega (arith, t.index, t.from_one)
 
@@ -191,9 +188,9 @@ module _ (sv : Server) (l : Lent) (good : Good sv l) (i : ℕ) (below : i < sv.s
   unfolding login_of login_by on_login
   bare_login session clock out = by_session (login session clock out) (λ own. go own (check.check_of sv l session false (length out)) refl)
     where
-      go : session ≡ i + 1 → (k : Check) → check.check_of sv l session false (length out) ≡ k → Bare (on_login k sv out clock).done.server l i
-      go own (Refuse n) e = bare
-      go own (Go j) e =
+      go : session ≡ i + 1 → (k : Result ℕ ℕ) → check.check_of sv l session false (length out) ≡ k → Bare (on_login k sv out clock).done.server l i
+      go own (Err n) e = bare
+      go own (Ok j) e =
           subst (λ (k : ℕ). Bare (with_link sv k fresh_session) l i) (sym (own_index session false (length out) j own e))
           (record {
             count = ap (λ (s : Session). s.held) (get_or-set_same sv.links i fresh_session closed_session link_below);
@@ -207,12 +204,12 @@ module _ (sv : Server) (l : Lent) (good : Good sv l) (i : ℕ) (below : i < sv.s
   unfolding lose_of lose_by on_lose
   bare_lose session = by_session (lose session) (λ own. go own (check.check_of sv l session true 258) refl)
     where
-      go : session ≡ i + 1 → (k : Check) → check.check_of sv l session true 258 ≡ k
+      go : session ≡ i + 1 → (k : Result ℕ ℕ) → check.check_of sv l session true 258 ≡ k
           → Bare (on_lose k sv l.selected l.held).done.server
           (lent l.disk l.map l.owner l.table (on_lose k sv l.selected l.held).selected
           (on_lose k sv l.selected l.held).held) i
-      go own (Refuse n) e = bare
-      go own (Go j) e =
+      go own (Err n) e = bare
+      go own (Ok j) e =
           subst
           (λ (k : ℕ).
           Bare (with_link sv k closed_session)
@@ -230,7 +227,7 @@ module _ (sv : Server) (l : Lent) (good : Good sv l) (i : ℕ) (below : i < sv.s
   bare_receive session clock input out v some-ends =
       by_session (receive session clock input out) (λ own. go own (check.check_of sv l session true (length out)) refl)
     where
-      heard : (j : ℕ) → j ≡ i → (e : check.check_of sv l session true (length out) ≡ Go j) → event_at sv l j input ≡ some v
+      heard : (j : ℕ) → j ≡ i → (e : check.check_of sv l session true (length out) ≡ Ok j) → event_at sv l j input ≡ some v
           → (t : Through sv l session true (length out) j)
           → Hears (part (j * 258) 258 l.held) (link_of sv j).held input
           → Bare (receive_of sv l out session clock input).done.server (receive_of sv l out session clock input).lent j
@@ -247,10 +244,10 @@ module _ (sv : Server) (l : Lent) (good : Good sv l) (i : ℕ) (below : i < sv.s
                 (subst (λ (k : ℕ). k * 258 + 258 ≤ length l.held) (sym here) room);
           })
 
-      go : session ≡ i + 1 → (k : Check) → check.check_of sv l session true (length out) ≡ k
+      go : session ≡ i + 1 → (k : Result ℕ ℕ) → check.check_of sv l session true (length out) ≡ k
           → Bare (receive_of sv l out session clock input).done.server (receive_of sv l out session clock input).lent i
-      go own (Refuse n) e = subst (λ (o : Outcome). Bare o.done.server o.lent i) (sym (refused_receive sv l session clock input out n e)) bare
-      go own (Go j) e =
+      go own (Err n) e = subst (λ (o : Outcome). Bare o.done.server o.lent i) (sym (refused_receive sv l session clock input out n e)) bare
+      go own (Ok j) e =
           let here = own_index session true (length out) j own e in
           let t = check_through sv l session true (length out) j e in
           subst (λ (k : ℕ). Bare (receive_of sv l out session clock input).done.server (receive_of sv l out session clock input).lent k) here

@@ -1,4 +1,5 @@
 -- The cut theorem: cutting a link's bytes elsewhere changes no packet sent and no state after it. Assumes nothing.
+use Rattle.std.specs.Prelude.{Ok, Err}
 use mathlib.Core.Path.{◌≡◌, refl, sym, ap, ◌∙◌, subst}
 use mathlib.Core.Bool.{Bool, true}
 use mathlib.Core.List.{List, [], ◌++◌, append-nil}
@@ -16,7 +17,6 @@ use Rattle.session.specs.State.{closed_session}
 use Rattle.session.specs.declared.reply.Answer.{Answer}
 use Rattle.session.specs.declared.reply.Answer.TheVariants as answer
 use Rattle.server.specs.declared.Server.{Server}
-use Rattle.server.specs.declared.check.Check.TheVariants.{Go, Refuse}
 use Rattle.server.specs.State.{Lent, lent, Outcome, outcome, done_with, link_of, part}
 use Rattle.server.specs.Check.{session_check, check_of}
 use Rattle.server.specs.Calls.{step_of, on_check, receive_of, receive_by}
@@ -40,12 +40,12 @@ use Rattle.answers.proofs.Receiving as steps
 
 -- ---- by the check
 
-pub refused_receive : (sv : Server) (l : Lent) (session clock : ℕ) (input out : List ℕ) (n : ℕ) → check_of sv l session true (length out) ≡ Refuse n
+pub refused_receive : (sv : Server) (l : Lent) (session clock : ℕ) (input out : List ℕ) (n : ℕ) → check_of sv l session true (length out) ≡ Err n
     → receive_of sv l out session clock input ≡ outcome (done_with sv (answer.Refused n)) l out
 unfolding receive_of receive_by on_check
 refused_receive sv l session clock input out n e = rw e
 
-pub gone_on : (sv : Server) (l : Lent) (session clock : ℕ) (input out : List ℕ) (i : ℕ) → check_of sv l session true (length out) ≡ Go i
+pub gone_on : (sv : Server) (l : Lent) (session clock : ℕ) (input out : List ℕ) (i : ℕ) → check_of sv l session true (length out) ≡ Ok i
     → receive_of sv l out session clock input ≡ step_of sv i clock input l out
 unfolding receive_of receive_by on_check
 gone_on sv l session clock input out i e = rw e
@@ -118,13 +118,13 @@ module _ (sv : Server) (l : Lent) (good : Good sv l) (session clock clock' : ℕ
           let f = state_facts sv l good.fits good.sound in
           omega (arith, good.links, f.sizes.sessions, e.through.index, e.through.from_one, e.through.in_range)
 
-      passes : session_check sv session true (length out') ≡ Go e.i
+      passes : session_check sv session true (length out') ≡ Ok e.i
       passes = through_again sv l session true (length out) e.i (length out') e.through room'
 
-      first : check_of sv l session true (length out') ≡ Go e.i
+      first : check_of sv l session true (length out') ≡ Ok e.i
       first = good_check sv l good session true (length out') ∙ passes
 
-      second : check_of sv₁ l₁ session true (length out') ≡ Go e.i
+      second : check_of sv₁ l₁ session true (length out') ≡ Ok e.i
       second =
           good_check sv₁ l₁ good₁ session true (length out')
           ∙ session_same sv sv₁ session true (length out') refl
@@ -146,7 +146,7 @@ module _ (sv : Server) (l : Lent) (good : Good sv l) (session clock clock' : ℕ
           (receive_of (receive_of sv l out session clock xs).done.server (receive_of sv l out session clock xs).lent out' session clock' ys)
       by o e q = q ∙ ap (λ (x : Outcome). shifted (length xs) (receive_of x.done.server x.lent out' session clock' ys)) (sym e)
 
-      again : (n : ℕ) → check_of sv l session true (length out) ≡ Refuse n → check_of sv l session true (length out') ≡ Refuse n
+      again : (n : ℕ) → check_of sv l session true (length out) ≡ Err n → check_of sv l session true (length out') ≡ Err n
       again n c =
           good_check sv l good session true (length out') ∙ session_rooms sv session true (length out') (length out) room' room
           ∙ sym (good_check sv l good session true (length out)) ∙ c
@@ -196,7 +196,7 @@ module _ (sv : Server) (l : Lent) (good : Good sv l) (session clock : ℕ) (xs o
       good_check (call_of sv l c).done.server (call_of sv l c).lent goodᶜ session true (length out) ∙ session_kept
       ∙ sym (good_check sv l good session true (length out))
 
-  passed_refused : (n : ℕ) → check_of sv l session true (length out) ≡ Refuse n → Swapped sv l (receive session clock xs out) c
+  passed_refused : (n : ℕ) → check_of sv l session true (length out) ≡ Err n → Swapped sv l (receive session clock xs out) c
   unfolding seen_in
   passed_refused n e =
       let a = refused_receive sv l session clock xs out n e in
@@ -209,7 +209,7 @@ module _ (sv : Server) (l : Lent) (good : Good sv l) (session clock : ℕ) (xs o
         none_last = ap (λ (o : Outcome). seen_in session o.done.answer o.out) b;
       }
 
-  passed_none : (e : steps.EndsNone sv l session clock xs out) → check_of sv l session true (length out) ≡ Go e.i
+  passed_none : (e : steps.EndsNone sv l session clock xs out) → check_of sv l session true (length out) ≡ Ok e.i
       → Swapped sv l (receive session clock xs out) c
   unfolding seen_in
   passed_none e go_on =

@@ -1,4 +1,5 @@
 -- The pieces in which a driver lends the bytes of a link do not matter. Assumes nothing.
+use Rattle.std.specs.Prelude.{Err}
 use mathlib.Core.Path.{◌≡◌, refl, sym, ap, ◌∙◌, subst}
 use mathlib.Core.Bool.{true, false}
 use mathlib.Core.List.{List, [], ◌∷◌, ◌++◌, append_assoc, append-nil, flatten}
@@ -13,7 +14,6 @@ use Rattle.session.specs.declared.reply.Answer.{Answer}
 use Rattle.session.specs.declared.reply.Answer.TheVariants as answer
 use Rattle.session.specs.State.{closed_session}
 use Rattle.session.specs.Reply.{Told, tell}
-use Rattle.server.specs.declared.check.Check.TheVariants.{Refuse}
 use Rattle.server.specs.State.{Outcome, link_of}
 use Rattle.server.specs.Check.{check_of}
 use Rattle.history.specs.Calls.{receive, call_of, State, state, after}
@@ -59,7 +59,7 @@ module _ (session clock : ℕ) (out : List ℕ) where
     goes : Goes n o → Went n o
 
   -- a state for which every call is refused
-  stuck_refused : (st : State) (n : ℕ) → check_of st.server st.lent session true (length out) ≡ Refuse n
+  stuck_refused : (st : State) (n : ℕ) → check_of st.server st.lent session true (length out) ≡ Err n
       → (k : ℕ) (bytes : List ℕ)
       → feed k st session clock out bytes ≡ fed st []
   unfolding feed

@@ -1,4 +1,5 @@
 -- Bytes that end no packet, and the next bytes of that link: lent in two calls or in one; and bytes behind the end of a packet. Assumes nothing.
+use Rattle.std.specs.Prelude.{Result, Ok, Err}
 use mathlib.Core.Path.{◌≡◌, refl, sym, ap, ◌∙◌, subst}
 use mathlib.Core.Bool.{Bool, true, false, cond}
 use mathlib.Core.List.{List, ◌++◌}
@@ -22,8 +23,6 @@ use Rattle.session.specs.State.{with_held}
 use Rattle.session.specs.Reply.{told, tell, answered}
 use Rattle.carry.specs.Turn.{mem}
 use Rattle.server.specs.declared.Server.{Server}
-use Rattle.server.specs.declared.check.Check.{Check}
-use Rattle.server.specs.declared.check.Check.TheVariants.{Go, Refuse}
 use Rattle.server.specs.State.{Lent, lent, Outcome, outcome, done_with, link_of, part, with_part}
 use Rattle.server.specs.Check.{check_of}
 use Rattle.server.specs.Turns.{hear_of, act_of}
@@ -123,9 +122,9 @@ pub rest_untouched : (sv : Server) (l : Lent) (session clock : ℕ) (xs ys out :
 unfolding receive_of receive_by on_check
 rest_untouched sv l session clock xs ys out e q = go (check_of sv l session true (length out)) refl
   where
-    go : (k : Check) → check_of sv l session true (length out) ≡ k → on_check k sv l out clock (xs ++ ys) ≡ on_check k sv l out clock xs
-    go (Refuse n) c = refl
-    go (Go i) c =
+    go : (k : Result ℕ ℕ) → check_of sv l session true (length out) ≡ k → on_check k sv l out clock (xs ++ ys) ≡ on_check k sv l out clock xs
+    go (Err n) c = refl
+    go (Ok i) c =
         let z = (check_through sv l session true (length out) i c).index in
         step_with_law sv i clock l out (xs ++ ys) _
         (heard_end (part (i * 258) 258 l.held) (link_of sv i).held xs ys e (subst (λ (j : ℕ). event_at sv l j xs ≡ some e) (sym z) q))

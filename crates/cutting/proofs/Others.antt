@@ -1,4 +1,5 @@
 -- A call for another session, before or after bytes that end no packet. Assumes nothing.
+use Rattle.std.specs.Prelude.{Result, Ok, Err}
 use mathlib.Core.Path.{◌≡◌, refl, sym, ap, ◌∙◌}
 use mathlib.Core.Bool.{Bool, true, false, cond}
 use mathlib.Core.List.{List, []}
@@ -15,8 +16,6 @@ use Rattle.table.specs.Table.{files}
 use Rattle.carry.specs.declared.turn.Turn.{Turn}
 use Rattle.carry.specs.Turn.{mem}
 use Rattle.server.specs.declared.Server.{Server}
-use Rattle.server.specs.declared.check.Check.{Check}
-use Rattle.server.specs.declared.check.Check.TheVariants.{Go, Refuse}
 use Rattle.server.specs.State.{Lent, lent, Outcome, outcome, done_with, link_of, with_link, with_turn, part, owner_part, table_part}
 use Rattle.server.specs.Check.{in_state, session_check, check_of}
 use Rattle.server.specs.Turns.{act_of}
@@ -43,19 +42,19 @@ unfolding session_check
 session_same sv sv' session wanted room e f =
     ap
     (λ (n : ℕ).
-    cond (eqb session 0) (Refuse 34)
-    (cond (ltb n session) (Refuse 34)
-    (cond (in_state wanted (link_of sv' (session - 1)).linked) (cond (ltb room 258) (Refuse 32) (Go (session - 1))) (Refuse 34))))
+    cond {A = Result ℕ ℕ} (eqb session 0) (Err 34)
+    (cond (ltb n session) (Err 34)
+    (cond (in_state wanted (link_of sv' (session - 1)).linked) (cond (ltb room 258) (Err 32) (Ok (session - 1))) (Err 34))))
     e
     ∙ ap
     (λ (b : Bool).
-    cond (eqb session 0) (Refuse 34)
-    (cond (ltb sv.sessions session) (Refuse 34)
-    (cond (in_state wanted b) (cond (ltb room 258) (Refuse 32) (Go (session - 1))) (Refuse 34))))
+    cond {A = Result ℕ ℕ} (eqb session 0) (Err 34)
+    (cond (ltb sv.sessions session) (Err 34)
+    (cond (in_state wanted b) (cond (ltb room 258) (Err 32) (Ok (session - 1))) (Err 34))))
     f
 
 -- a call goes to the session that it names
-goes : (sv : Server) (l : Lent) (c : Call) (j k : ℕ) → check_in sv l c ≡ Go j → (session_in c ≡ k + 1 → ⊥) → j ≡ k → ⊥
+goes : (sv : Server) (l : Lent) (c : Call) (j k : ℕ) → check_in sv l c ≡ Ok j → (session_in c ≡ k + 1 → ⊥) → j ≡ k → ⊥
 goes sv l c j k e d q =
     let t = check_through sv l (session_in c) (open_in c) (room_in c) j e in
     d (omega (arith, t.index, t.from_one))
@@ -84,51 +83,51 @@ pub others_sessions : (sv : Server) (l : Lent) (c : Call) → (call_of sv l c).d
 unfolding login_of login_by on_login receive_of receive_by on_check request_of request_by on_request due_as lose_of lose_by on_lose
 others_sessions sv l (login session clock out) = go (check_of sv l session false (length out))
   where
-    go : (k : Check) → (on_login k sv out clock).done.server.sessions ≡ sv.sessions
-    go (Refuse n) = refl
-    go (Go j) = refl
+    go : (k : Result ℕ ℕ) → (on_login k sv out clock).done.server.sessions ≡ sv.sessions
+    go (Err n) = refl
+    go (Ok j) = refl
 others_sessions sv l (receive session clock input out) = go (check_of sv l session true (length out))
   where
-    go : (k : Check) → (on_check k sv l out clock input).done.server.sessions ≡ sv.sessions
-    go (Refuse n) = refl
-    go (Go j) = ap (λ (o : Outcome). o.done.server.sessions) (step_with_law sv j clock l out input _ refl) ∙ (unfold step_with answered_by in refl)
+    go : (k : Result ℕ ℕ) → (on_check k sv l out clock input).done.server.sessions ≡ sv.sessions
+    go (Err n) = refl
+    go (Ok j) = ap (λ (o : Outcome). o.done.server.sessions) (step_with_law sv j clock l out input _ refl) ∙ (unfold step_with answered_by in refl)
 others_sessions sv l (request session out) = go (check_of sv l session true (length out))
   where
-    go : (k : Check) → (on_request k sv l out).done.server.sessions ≡ sv.sessions
-    go (Refuse n) = refl
-    go (Go j) = refl
+    go : (k : Result ℕ ℕ) → (on_request k sv l out).done.server.sessions ≡ sv.sessions
+    go (Err n) = refl
+    go (Ok j) = refl
 others_sessions sv l (lose session) = go (check_of sv l session true 258)
   where
-    go : (k : Check) → (on_lose k sv l.selected l.held).done.server.sessions ≡ sv.sessions
-    go (Refuse n) = refl
-    go (Go j) = refl
+    go : (k : Result ℕ ℕ) → (on_lose k sv l.selected l.held).done.server.sessions ≡ sv.sessions
+    go (Err n) = refl
+    go (Ok j) = refl
 
 -- the other sessions stay
 pub others_link : (sv : Server) (l : Lent) (c : Call) (k : ℕ) → (session_in c ≡ k + 1 → ⊥) → link_of (call_of sv l c).done.server k ≡ link_of sv k
 unfolding login_of login_by on_login receive_of receive_by on_check request_of request_by on_request due_as lose_of lose_by on_lose
 others_link sv l (login session clock out) k d = go (check_of sv l session false (length out)) refl
   where
-    go : (a : Check) → check_of sv l session false (length out) ≡ a → link_of (on_login a sv out clock).done.server k ≡ link_of sv k
-    go (Refuse n) e = refl
-    go (Go j) e = get_or-set_other sv.links j k fresh_session closed_session (λ q. goes sv l (login session clock out) j k e d (sym q))
+    go : (a : Result ℕ ℕ) → check_of sv l session false (length out) ≡ a → link_of (on_login a sv out clock).done.server k ≡ link_of sv k
+    go (Err n) e = refl
+    go (Ok j) e = get_or-set_other sv.links j k fresh_session closed_session (λ q. goes sv l (login session clock out) j k e d (sym q))
 others_link sv l (receive session clock input out) k d = go (check_of sv l session true (length out)) refl
   where
-    go : (a : Check) → check_of sv l session true (length out) ≡ a → link_of (on_check a sv l out clock input).done.server k ≡ link_of sv k
-    go (Refuse n) e = refl
-    go (Go j) e =
+    go : (a : Result ℕ ℕ) → check_of sv l session true (length out) ≡ a → link_of (on_check a sv l out clock input).done.server k ≡ link_of sv k
+    go (Err n) e = refl
+    go (Ok j) e =
         ap (λ (o : Outcome). link_of o.done.server k) (step_with_law sv j clock l out input _ refl)
         ∙ (unfold step_with answered_by in get_or-set_other sv.links j k _ closed_session
         (λ q. goes sv l (receive session clock input out) j k e d (sym q)))
 others_link sv l (request session out) k d = go (check_of sv l session true (length out)) refl
   where
-    go : (a : Check) → check_of sv l session true (length out) ≡ a → link_of (on_request a sv l out).done.server k ≡ link_of sv k
-    go (Refuse n) e = refl
-    go (Go j) e = get_or-set_other sv.links j k _ closed_session (λ q. goes sv l (request session out) j k e d (sym q))
+    go : (a : Result ℕ ℕ) → check_of sv l session true (length out) ≡ a → link_of (on_request a sv l out).done.server k ≡ link_of sv k
+    go (Err n) e = refl
+    go (Ok j) e = get_or-set_other sv.links j k _ closed_session (λ q. goes sv l (request session out) j k e d (sym q))
 others_link sv l (lose session) k d = go (check_of sv l session true 258) refl
   where
-    go : (a : Check) → check_of sv l session true 258 ≡ a → link_of (on_lose a sv l.selected l.held).done.server k ≡ link_of sv k
-    go (Refuse n) e = refl
-    go (Go j) e = get_or-set_other sv.links j k closed_session closed_session (λ q. goes sv l (lose session) j k e d (sym q))
+    go : (a : Result ℕ ℕ) → check_of sv l session true 258 ≡ a → link_of (on_lose a sv l.selected l.held).done.server k ≡ link_of sv k
+    go (Err n) e = refl
+    go (Ok j) e = get_or-set_other sv.links j k closed_session closed_session (λ q. goes sv l (lose session) j k e d (sym q))
 
 -- their unfinished packets stay
 pub others_part : (sv : Server) (l : Lent) (c : Call) (k : ℕ) → (session_in c ≡ k + 1 → ⊥)
@@ -137,10 +136,10 @@ unfolding receive_of receive_by on_check lose_of lose_by on_lose step_with answe
 others_part sv l (login session clock out) k d = refl
 others_part sv l (receive session clock input out) k d = go (check_of sv l session true (length out)) refl
   where
-    go : (a : Check) → check_of sv l session true (length out) ≡ a
+    go : (a : Result ℕ ℕ) → check_of sv l session true (length out) ≡ a
         → part (k * 258) 258 (on_check a sv l out clock input).lent.held ≡ part (k * 258) 258 l.held
-    go (Refuse n) e = refl
-    go (Go j) e =
+    go (Err n) e = refl
+    go (Ok j) e =
         let t = check_through sv l session true (length out) j e in
         ap (λ (o : Outcome). part (k * 258) 258 o.lent.held)
         (step_with_law sv j clock l out input (frame.receive_of (part (j * 258) 258 l.held) (link_of sv j).held input) refl)
@@ -150,10 +149,10 @@ others_part sv l (receive session clock input out) k d = go (check_of sv l sessi
 others_part sv l (request session out) k d = refl
 others_part sv l (lose session) k d = go (check_of sv l session true 258) refl
   where
-    go : (a : Check) → check_of sv l session true 258 ≡ a
+    go : (a : Result ℕ ℕ) → check_of sv l session true 258 ≡ a
         → part (k * 258) 258 (on_lose a sv l.selected l.held).held ≡ part (k * 258) 258 l.held
-    go (Refuse n) e = refl
-    go (Go j) e =
+    go (Err n) e = refl
+    go (Ok j) e =
         let t = check_through sv l session true 258 j e in
         part_other j k 258 (replicate 258 0) l.held (λ q. goes sv l (lose session) j k e d q) (length-replicate {A = ℕ} 258 0)
         (through_room sv l session true 258 j t)
@@ -195,19 +194,19 @@ module _ (sv : Server) (l : Lent) (i n : ℕ) (p : List ℕ) (good : Good sv l) 
       ∙ session_same sv (hold sv i n) session wanted room refl (hold_seen sv i n link_below (λ s. s.linked) (λ s m. refl) (session - 1))
       ∙ sym (good_check sv l good session wanted room)
 
-  login_moved : (k : Check) (session clock : ℕ) (out : List ℕ) → ((j : ℕ) → k ≡ Go j → i ≡ j → ⊥)
+  login_moved : (k : Result ℕ ℕ) (session clock : ℕ) (out : List ℕ) → ((j : ℕ) → k ≡ Ok j → i ≡ j → ⊥)
       → outcome (on_login k (hold sv i n) out clock).done (keep l i p) (on_login k (hold sv i n) out clock).out
       ≡ moved i n p (outcome (on_login k sv out clock).done l (on_login k sv out clock).out)
   unfolding on_login
-  login_moved (Refuse m) session clock out d = refl
-  login_moved (Go j) session clock out d = rw (link_comm sv i j n fresh_session (d j refl))
+  login_moved (Err m) session clock out d = refl
+  login_moved (Ok j) session clock out d = rw (link_comm sv i j n fresh_session (d j refl))
 
-  request_moved : (k : Check) (out : List ℕ) → ((j : ℕ) → k ≡ Go j → i ≡ j → ⊥)
+  request_moved : (k : Result ℕ ℕ) (out : List ℕ) → ((j : ℕ) → k ≡ Ok j → i ≡ j → ⊥)
       → outcome (on_request k (hold sv i n) (keep l i p) out).done (keep l i p) (on_request k (hold sv i n) (keep l i p) out).out
       ≡ moved i n p (outcome (on_request k sv l out).done l (on_request k sv l out).out)
   unfolding on_request due_as
-  request_moved (Refuse m) out d = refl
-  request_moved (Go j) out d =
+  request_moved (Err m) out d = refl
+  request_moved (Ok j) out d =
       ap
       (λ (s : Session).
       outcome (done_with (with_link (hold sv i n) j (due s).asked.session) (due s).asked.answer) (keep l i p) (due s).out)
@@ -218,7 +217,7 @@ module _ (sv : Server) (l : Lent) (i n : ℕ) (p : List ℕ) (good : Good sv l) 
       due : Session → Due
       due s = due_of s.down s l.disk (owner_part sv l) (files (table_part sv l)) (part (j * sv.most) sv.most l.selected) out
 
-  lose_moved : (k : Check) → ((j : ℕ) → k ≡ Go j → i ≡ j → ⊥) → ((j : ℕ) → k ≡ Go j → j * 258 + 258 ≤ length l.held)
+  lose_moved : (k : Result ℕ ℕ) → ((j : ℕ) → k ≡ Ok j → i ≡ j → ⊥) → ((j : ℕ) → k ≡ Ok j → j * 258 + 258 ≤ length l.held)
       → outcome (on_lose k (hold sv i n) l.selected (keep l i p).held).done
       (lent l.disk l.map l.owner l.table (on_lose k (hold sv i n) l.selected (keep l i p).held).selected
       (on_lose k (hold sv i n) l.selected (keep l i p).held).held)
@@ -227,8 +226,8 @@ module _ (sv : Server) (l : Lent) (i n : ℕ) (p : List ℕ) (good : Good sv l) 
       (outcome (on_lose k sv l.selected l.held).done
       (lent l.disk l.map l.owner l.table (on_lose k sv l.selected l.held).selected (on_lose k sv l.selected l.held).held) [])
   unfolding on_lose
-  lose_moved (Refuse m) d r = refl
-  lose_moved (Go j) d r =
+  lose_moved (Err m) d r = refl
+  lose_moved (Ok j) d r =
       rw (
         link_comm sv i j n closed_session (d j refl),
         with_comm i j 258 p l.held (d j refl) whole here (replicate 258 0) (length-replicate {A = ℕ} 258 0) (r j refl),
@@ -249,11 +248,11 @@ module _ (sv : Server) (l : Lent) (i n : ℕ) (p : List ℕ) (good : Good sv l) 
         with_comm i j 258 p l.held d whole here h.part s r,
       )
 
-  receive_moved : (k : Check) (session clock : ℕ) (input out : List ℕ) → check_of sv l session true (length out) ≡ k → ((j : ℕ) → k ≡ Go j → i ≡ j → ⊥)
+  receive_moved : (k : Result ℕ ℕ) (session clock : ℕ) (input out : List ℕ) → check_of sv l session true (length out) ≡ k → ((j : ℕ) → k ≡ Ok j → i ≡ j → ⊥)
       → on_check k (hold sv i n) (keep l i p) out clock input ≡ moved i n p (on_check k sv l out clock input)
   unfolding on_check
-  receive_moved (Refuse m) session clock input out e d = refl
-  receive_moved (Go j) session clock input out e d =
+  receive_moved (Err m) session clock input out e d = refl
+  receive_moved (Ok j) session clock input out e d =
       let t = check_through sv l session true (length out) j e in
       let r = through_room sv l session true (length out) j t in
       step_with_law (hold sv i n) j clock (keep l i p) out input (frame.receive_of (part (j * 258) 258 l.held) (link_of sv j).held input)
@@ -268,20 +267,20 @@ module _ (sv : Server) (l : Lent) (i n : ℕ) (p : List ℕ) (good : Good sv l) 
   pub apart_call : (c : Call) → (session_in c ≡ i + 1 → ⊥) → call_of (hold sv i n) (keep l i p) c ≡ moved i n p (call_of sv l c)
   unfolding login_of login_by receive_of receive_by request_of request_by lose_of lose_by
   apart_call (login session clock out) d =
-      ap (λ (k : Check). outcome (on_login k (hold sv i n) out clock).done (keep l i p) (on_login k (hold sv i n) out clock).out)
+      ap (λ (k : Result ℕ ℕ). outcome (on_login k (hold sv i n) out clock).done (keep l i p) (on_login k (hold sv i n) out clock).out)
       (check_same session false (length out))
       ∙ login_moved (check_of sv l session false (length out)) session clock out (λ j e q. goes sv l (login session clock out) j i e d (sym q))
   apart_call (receive session clock input out) d =
-      ap (λ (k : Check). on_check k (hold sv i n) (keep l i p) out clock input) (check_same session true (length out))
+      ap (λ (k : Result ℕ ℕ). on_check k (hold sv i n) (keep l i p) out clock input) (check_same session true (length out))
       ∙ receive_moved (check_of sv l session true (length out)) session clock input out refl
       (λ j e q. goes sv l (receive session clock input out) j i e d (sym q))
   apart_call (request session out) d =
-      ap (λ (k : Check). outcome (on_request k (hold sv i n) (keep l i p) out).done (keep l i p) (on_request k (hold sv i n) (keep l i p) out).out)
+      ap (λ (k : Result ℕ ℕ). outcome (on_request k (hold sv i n) (keep l i p) out).done (keep l i p) (on_request k (hold sv i n) (keep l i p) out).out)
       (check_same session true (length out))
       ∙ request_moved (check_of sv l session true (length out)) out (λ j e q. goes sv l (request session out) j i e d (sym q))
   apart_call (lose session) d =
       ap
-      (λ (k : Check).
+      (λ (k : Result ℕ ℕ).
       outcome (on_lose k (hold sv i n) l.selected (keep l i p).held).done
       (lent l.disk l.map l.owner l.table (on_lose k (hold sv i n) l.selected (keep l i p).held).selected
       (on_lose k (hold sv i n) l.selected (keep l i p).held).held)

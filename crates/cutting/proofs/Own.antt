@@ -1,5 +1,6 @@
 -- The bytes that a session holds of an unfinished packet, and the calls that have nothing to do with them: those for another session, and its own
 -- request. A lost link forgets them. Assumes nothing.
+use Rattle.std.specs.Prelude.{Result, Ok, Err}
 use mathlib.Core.Path.{◌≡◌, refl, sym, ap, ◌∙◌, subst}
 use mathlib.Core.Bool.{Bool, true, false, cond}
 use mathlib.Core.List.{List}
@@ -15,8 +16,6 @@ use Rattle.session.specs.State.{closed_session, with_held}
 use Rattle.table.specs.declared.File.{File}
 use Rattle.table.specs.Table.{file_at, files}
 use Rattle.server.specs.declared.Server.{Server}
-use Rattle.server.specs.declared.check.Check.{Check}
-use Rattle.server.specs.declared.check.Check.TheVariants.{Go, Refuse}
 use Rattle.server.specs.State.{Lent, outcome, done_with, link_of, with_link, part, owner_part, table_part}
 use Rattle.server.specs.Check.{check_of}
 use Rattle.listing.specs.Listing.{entries_of, fill_of}
@@ -96,7 +95,7 @@ module _ (sv : Server) (l : Lent) (good : Good sv l) (i : ℕ) where
   due k out s = due_of s.down s l.disk (owner_part sv l) (files (table_part sv l)) (part (k * sv.most) sv.most l.selected) out
 
   -- a call that goes through goes to a session that is there
-  goes : (session : ℕ) (room : ℕ) (j : ℕ) → session ≡ i + 1 → check_of sv l session true room ≡ Go j → (j ≡ i) × (i < length sv.links)
+  goes : (session : ℕ) (room : ℕ) (j : ℕ) → session ≡ i + 1 → check_of sv l session true room ≡ Ok j → (j ≡ i) × (i < length sv.links)
   goes session room j own e =
       let t = check_through sv l session true room j e in
       let f = state_facts sv l good.fits good.sound in
@@ -110,23 +109,23 @@ module _ (sv : Server) (l : Lent) (good : Good sv l) (i : ℕ) where
       ∙ sym (set-set sv.links i t (with_held t n))
       ∙ ap (λ (x : Session). set (set sv.links i t) i (with_held x n)) (sym (get_or-set_same sv.links i t closed_session below)))
 
-  request_stays : (k : Check) (out : List ℕ) → ((j : ℕ) → k ≡ Go j → (j ≡ i) × (i < length sv.links))
+  request_stays : (k : Result ℕ ℕ) (out : List ℕ) → ((j : ℕ) → k ≡ Ok j → (j ≡ i) × (i < length sv.links))
       → Stays (link_of sv i) (link_of (on_request k sv l out).done.server i)
   unfolding on_request due_as
-  request_stays (Refuse m) out h = record { linked = refl; held = refl }
-  request_stays (Go j) out h =
+  request_stays (Err m) out h = record { linked = refl; held = refl }
+  request_stays (Ok j) out h =
       let p = h j refl in
       subst (λ (k : ℕ). Stays (link_of sv i) (link_of (with_link sv k (due k out (link_of sv k)).asked.session) i)) (sym p.0)
       (subst (λ (t : Session). Stays (link_of sv i) t)
       (sym (get_or-set_same sv.links i (due i out (link_of sv i)).asked.session closed_session p.1))
       (due_stays (link_of sv i).down (link_of sv i) l.disk (owner_part sv l) (files (table_part sv l)) (part (i * sv.most) sv.most l.selected) out))
 
-  request_moved : (k : Check) (out : List ℕ) (n : ℕ) (p : List ℕ) → ((j : ℕ) → k ≡ Go j → (j ≡ i) × (i < length sv.links))
+  request_moved : (k : Result ℕ ℕ) (out : List ℕ) (n : ℕ) (p : List ℕ) → ((j : ℕ) → k ≡ Ok j → (j ≡ i) × (i < length sv.links))
       → outcome (on_request k (hold sv i n) (keep l i p) out).done (keep l i p) (on_request k (hold sv i n) (keep l i p) out).out
       ≡ moved i n p (outcome (on_request k sv l out).done l (on_request k sv l out).out)
   unfolding on_request due_as
-  request_moved (Refuse m) out n p h = refl
-  request_moved (Go j) out n p h = let q = h j refl in subst (λ (k : ℕ). Moved k) (sym q.0) (here q.1)
+  request_moved (Err m) out n p h = refl
+  request_moved (Ok j) out n p h = let q = h j refl in subst (λ (k : ℕ). Moved k) (sym q.0) (here q.1)
     where
       Moved : ℕ → Type 0
       Moved k =
@@ -160,7 +159,7 @@ module _ (sv : Server) (l : Lent) (good : Good sv l) (i : ℕ) where
         packet = refl;
         moves = λ n p good' below whole.
             ap
-            (λ (k : Check).
+            (λ (k : Result ℕ ℕ).
             outcome (on_request k (hold sv i n) (keep l i p) out).done (keep l i p) (on_request k (hold sv i n) (keep l i p) out).out)
             (check_same sv l i n p good good' below whole session true (length out))
             ∙ request_moved k out n p (λ j. goes session (length out) j own);
@@ -169,7 +168,7 @@ module _ (sv : Server) (l : Lent) (good : Good sv l) (i : ℕ) where
   -- ---- a lost link
 
   pub lose_over : (session n : ℕ) (p : List ℕ) → Good (hold sv i n) (keep l i p) → i < sv.sessions → length p ≡ 258
-      → check_of sv l session true 258 ≡ Go i
+      → check_of sv l session true 258 ≡ Ok i
       → call_of (hold sv i n) (keep l i p) (lose session) ≡ call_of sv l (lose session)
   unfolding lose_of lose_by on_lose
   lose_over session n p good' below whole e =

@@ -1,4 +1,5 @@
 -- The cut theorem without rules: a history leaves what it leaves without its cuts and then the bytes that wait. Assumes nothing.
+use Rattle.std.specs.Prelude.{Result, Ok, Err}
 use mathlib.Core.Path.{◌≡◌, refl, sym, ap, ◌∙◌, subst}
 use mathlib.Core.Bool.{Bool, true, false}
 use mathlib.Core.List.{List, [], ◌++◌, append-nil, append_assoc}
@@ -15,8 +16,6 @@ use Rattle.session.specs.declared.state.Session.{Session}
 use Rattle.session.specs.declared.reply.Answer.{Answer}
 use Rattle.session.specs.declared.reply.Answer.TheVariants as answer
 use Rattle.session.specs.State.{closed_session}
-use Rattle.server.specs.declared.check.Check.{Check}
-use Rattle.server.specs.declared.check.Check.TheVariants.{Go, Refuse}
 use Rattle.server.specs.declared.Server.{Server}
 use Rattle.server.specs.State.{Outcome, outcome, done_with, link_of, part}
 use Rattle.server.specs.Making.{new_server, empty_of, make_of}
@@ -376,13 +375,13 @@ module _ (s : Start) (lawful : legal s ≡ true) where
           let q : answer.Sent r.taken (2 + length r.info) ≡ answer.Refused n = sym r.answered ∙ e in
           let z : ◌≡◌ {A = ℕ} 0 1 = cc in absurd (omega arith)
 
-      by_check : ((n : ℕ) → (call_of (after s h).server (after s h).lent c).done.answer ≡ answer.Refused n → ⊥) → (k : Check)
+      by_check : ((n : ℕ) → (call_of (after s h).server (after s h).lent c).done.answer ≡ answer.Refused n → ⊥) → (k : Result ℕ ℕ)
           → check_in (after s h).server (after s h).lent c ≡ k
           → Told h (uncut_of s h)
           → Told (h ▸ c) (with_call (uncut_of s h) c)
-      by_check not (Refuse n) e t =
+      by_check not (Err n) e t =
           absurd (not n (ap (λ (o : Outcome). o.done.answer) (refused_call (after s h).server (after s h).lent c n e)))
-      by_check not (Go i) e t =
+      by_check not (Ok i) e t =
           call_told h (uncut_of s h) t c i (check_through (after s h).server (after s h).lent (session_in c) (open_in c) (room_in c) i e)
 
       go : (a : Answer) → (call_of (after s h).server (after s h).lent c).done.answer ≡ a → Told h (uncut_of s h)

@@ -1,4 +1,5 @@
 -- One call on words that are a state: it is the server's own call on the server that they stand for, or it lacks room for its counts. Assumes nothing.
+use Rattle.std.specs.Prelude.{Ok, Err}
 use mathlib.Core.Path.{◌≡◌, refl, sym, ap, ◌∙◌}
 use mathlib.Core.Bool.{Bool, true, cond}
 use mathlib.Core.List.{List}
@@ -16,7 +17,6 @@ use Rattle.server.specs.Check.{sizes_fit}
 use Rattle.server.specs.Calls.{Opened, Lost}
 use Rattle.server.proofs.Answering.{is_refused}
 use Rattle.server.proofs.CheckLaws.{both_true}
-use Rattle.embed.specs.declared.words.Ready.TheVariants.{Go, Refuse}
 use Rattle.embed.specs.Words.{encode_of, server_at, is_state, ready_of}
 use Rattle.embed.specs.Calls.{told, tell_of, received, received_by, on_receive, receive_by, on_open, open_by, on_request, request_by, on_lose, lose_by, filled, with_counts, fits_at, map_fits, on_free, free_by}
 use Rattle.embed.proofs.Reading.{written_back}
@@ -30,7 +30,7 @@ use Rattle.driver.specs.Driver.{call_by}
 -- ---- the driver's own mistake: counts too short
 
 ready_is : (fit : Bool) (w : List ℕ) (counts : ℕ) → 54 ≤ length w → is_state w ≡ true
-    → ready_of fit w counts ≡ cond (ltb counts 2) (Refuse 33) (cond fit Go (Refuse 33))
+    → ready_of fit w counts ≡ cond (ltb counts 2) (Err 33) (cond fit (Ok tt) (Err 33))
 unfolding ready_of
 ready_is fit w counts h e = rw (le-ltb (length w) 54 h, e)
 

@@ -1,4 +1,5 @@
 -- A driver whose memory nobody else writes makes a history, and plays the machine. Assumes nothing.
+use Rattle.std.specs.Prelude.{Ok, Err}
 use mathlib.Core.Path.{◌≡◌, refl, sym, ap, ◌∙◌, subst}
 use mathlib.Core.Bool.{Bool, true, false, cond}
 use mathlib.Core.List.{List}
@@ -131,9 +132,9 @@ module _ (s : Start) (words : List ℕ) where
           → (cond a (begun 33 words slices)
           (begun_by words
           (cond b
-          (makes (record { refused = 0; server = new_server s.blocks s.files s.sessions s.most })
+          (makes (Ok (new_server s.blocks s.files s.sessions s.most))
           (empty_of s.blocks s.files s.sessions s.most s.lent.map s.lent.owner s.lent.table s.lent.selected s.lent.held))
-          (makes (record { refused = 33; server = new_server s.blocks s.files s.sessions s.most }) slices)))
+          (makes (Err 33) slices)))
           ).code ≡ 0
           → Room
       go true p b q e = absurd (omega arith)

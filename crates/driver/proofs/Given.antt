@@ -1,5 +1,6 @@
 -- What a call leaves of the last number and time given, and of a session without a link: the two stay numbers of 32 bits where the clock of a receive call
 -- is one, and the session is the closed one. Assumes nothing.
+use Rattle.std.specs.Prelude.{Result}
 use mathlib.Core.Path.{◌≡◌, refl, sym, ◌∙◌}
 use mathlib.Core.Bool.{true, false}
 use mathlib.Core.List.{List, [], ◌∷◌}
@@ -14,11 +15,9 @@ use Rattle.session.specs.declared.state.Downlink.TheVariants as down
 use Rattle.session.specs.declared.reply.Reply.{Reply}
 use Rattle.session.specs.State.{closed_session, fresh_session}
 use Rattle.table.specs.declared.File.{File}
-use Rattle.std.proofs.Common.{Option, Some, None}
+use Rattle.std.proofs.Common.{Option, Some, None, Result, Ok, Err}
 use Rattle.table.specs.Table.{file_at}
 use Rattle.table.specs.Given.{next_number, upload_time}
-use Rattle.files.specs.declared.Begun.{Begun}
-use Rattle.files.specs.declared.Begun.TheVariants.{Refused, Started}
 use Rattle.files.specs.Uploads as files
 use Rattle.files.specs.Completion.{check_of, complete_of, destinations_at}
 use Rattle.files.specs.Selection.{refusal_in, select_of}
@@ -31,7 +30,6 @@ use Rattle.carry.specs.Upload as upload
 use Rattle.carry.specs.Download as download
 use Rattle.carry.specs.Carry.{on_frees, on_writes, on_moves, on_chooses, carry_out}
 use Rattle.server.specs.declared.Server.{Server}
-use Rattle.server.specs.declared.check.Check.{Check}
 use Rattle.server.specs.State.{Lent, link_of}
 use Rattle.server.specs.Turns.{put_back, act_of}
 use Rattle.server.specs.Calls.{answered_by, heard_by, step_of, on_check, receive_of, on_login, login_of, on_lose, lose_of, due_as, on_request, request_of, login_by, request_by, receive_by, lose_by}
@@ -85,10 +83,10 @@ module _ (s : Session) (last : Last) (fits : LastFits last) (linked : s.linked �
   gives : (x : Session) (given : Last) (r : Reply) → LastFits given → x.linked ≡ true → Keeps (turn_of x given r)
   gives x given r f e = record { last = f; rests = linked_rests x e }
 
-  begun_keeps : (b : Begun) (number : ℕ) → number < 4294967296 → Keeps (upload.begun_turn b s last number)
+  begun_keeps : (b : Result ℕ ℕ) (number : ℕ) → number < 4294967296 → Keeps (upload.begun_turn b s last number)
   unfolding upload.begun_turn
-  begun_keeps (Refused n) number h = stays s _ linked
-  begun_keeps (Started place) number h = gives _ (last_of number last.time) _ (record { number = h; time = fits.time }) linked
+  begun_keeps (Err n) number h = stays s _ linked
+  begun_keeps (Ok place) number h = gives _ (last_of number last.time) _ (record { number = h; time = fits.time }) linked
 
   begin_keeps : (g : Option ℕ) → Below g → (size : ℕ) (map owner table : List ℕ) → Keeps (upload.begin_with g s last size map owner table).turn
   unfolding upload.begin_with upload.begun_as
@@ -207,17 +205,17 @@ module _ (sv : Server) (l : Lent) (g : Good sv l) (k : Kept sv) where
   pub call_kept : (c : Call) → Clocked c → Kept (call_of sv l c).done.server
   unfolding receive_of receive_by on_check login_of login_by on_login lose_of lose_by on_lose request_of request_by on_request due_as
   call_kept (login session clock out) c =
-      checked sv l g session false (length out) (λ (x : Check). Kept (on_login x sv out clock).done.server) k k
+      checked sv l g session false (length out) (λ (x : Result ℕ ℕ). Kept (on_login x sv out clock).done.server) k k
       (λ i inside linked room. record { last = k.last; rests = moved i fresh_session (linked_rests fresh_session refl) })
   call_kept (receive session clock input out) c =
-      checked sv l g session true (length out) (λ (x : Check). Kept (on_check x sv l out clock input).done.server) k k
+      checked sv l g session true (length out) (λ (x : Result ℕ ℕ). Kept (on_check x sv l out clock input).done.server) k k
       (λ i inside linked room. step_kept i clock input out linked c)
   call_kept (request session out) c =
-      checked sv l g session true (length out) (λ (x : Check). Kept (on_request x sv l out).done.server) k k
+      checked sv l g session true (length out) (λ (x : Result ℕ ℕ). Kept (on_request x sv l out).done.server) k k
       (λ i inside linked room. record {
         last = k.last;
         rests = moved i _ (linked_rests _ (due_linked (link_of sv i).down (link_of sv i) l.disk _ _ _ out linked));
       })
   call_kept (lose session) c =
-      checked sv l g session true 258 (λ (x : Check). Kept (on_lose x sv l.selected l.held).done.server) k k
+      checked sv l g session true 258 (λ (x : Result ℕ ℕ). Kept (on_lose x sv l.selected l.held).done.server) k k
       (λ i inside linked room. record { last = k.last; rests = moved i closed_session (λ e. refl) })

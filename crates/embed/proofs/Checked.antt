@@ -1,4 +1,5 @@
 -- What a call that goes through has been lent, and numbers written at the front of a slice.
+use Rattle.std.specs.Prelude.{⊤, Result, Ok, Err}
 use mathlib.Core.Path.{◌≡◌, refl, ap, ◌∙◌}
 use mathlib.Core.Bool.{Bool, true, false, cond}
 use mathlib.Core.List.{List, [], ◌∷◌, ◌++◌}
@@ -15,8 +16,6 @@ use Rattle.server.specs.Check.{sizes_fit}
 use Rattle.server.proofs.CheckLaws.{sizes_true, both_true}
 use lib.Dec.{ltb}
 use borrow.Author.Tests.{ltb-false, leb-true}
-use Rattle.embed.specs.declared.words.Ready.{Ready}
-use Rattle.embed.specs.declared.words.Ready.TheVariants.{Go, Refuse}
 use Rattle.embed.specs.Words.{is_state, ready_of}
 use Rattle.embed.specs.Calls.{with_counts, map_fits}
 
@@ -27,19 +26,19 @@ pub record GoesThrough (fit : Bool) (state : List ℕ) (counts : ℕ) : Type 0 w
   pub fits : fit ≡ true
   pub words : is_state state ≡ true
 
-abbrev refused : Ready → ℕ
-refused Go = 0
-refused (Refuse n) = 1
+abbrev refused : Result ⊤ ℕ → ℕ
+refused (Ok done) = 0
+refused (Err n) = 1
 
-pub ready_go : (fit : Bool) (state : List ℕ) (counts : ℕ) → ready_of fit state counts ≡ Go → GoesThrough fit state counts
+pub ready_go : (fit : Bool) (state : List ℕ) (counts : ℕ) → ready_of fit state counts ≡ Ok tt → GoesThrough fit state counts
 unfolding ready_of
 ready_go fit state counts e = go (ltb (length state) 54) refl (ltb counts 2) refl fit refl (is_state state) refl e
   where
-    clash : {n : ℕ} → Refuse n ≡ Go → ⊥
+    clash : {n : ℕ} → ◌≡◌ {A = Result ⊤ ℕ} (Err n) (Ok tt) → ⊥
     clash e = let z : ◌≡◌ {A = ℕ} 1 0 = ap refused e in omega arith
 
     go : (a : Bool) → ltb (length state) 54 ≡ a → (b : Bool) → ltb counts 2 ≡ b → (f : Bool) → fit ≡ f → (d : Bool) → is_state state ≡ d
-        → cond a (Refuse 33) (cond b (Refuse 33) (cond f (cond d Go (Refuse 35)) (Refuse 33))) ≡ Go
+        → cond {A = Result ⊤ ℕ} a (Err 33) (cond b (Err 33) (cond f (cond d (Ok tt) (Err 35)) (Err 33))) ≡ Ok tt
         → GoesThrough fit state counts
     go true p b q f o d r e = absurd (clash e)
     go false p true q f o d r e = absurd (clash e)

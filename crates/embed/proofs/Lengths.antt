@@ -1,4 +1,5 @@
 -- The second count is at most 258 where a call is not refused: the packet is within the output.
+use Rattle.std.specs.Prelude.{⊤, Result, Ok, Err}
 use mathlib.Core.Path.{◌≡◌, refl, ap, ◌∙◌}
 use mathlib.Core.Bool.{Bool, true, false, cond}
 use mathlib.Core.List.{List}
@@ -19,8 +20,6 @@ use Rattle.session.specs.Reply as replies
 use Rattle.table.specs.declared.File.{File}
 use Rattle.table.specs.Table.{file_at}
 use Rattle.server.specs.declared.Server.{Server}
-use Rattle.server.specs.declared.check.Check.{Check}
-use Rattle.server.specs.declared.check.Check.TheVariants as check
 use Rattle.server.specs.State.{Lent, link_of, Outcome}
 use Rattle.server.specs.Check.{check_of}
 use Rattle.sending.specs.Sending.{Due, least_of, data_of, sending_of, listed_as, due_of}
@@ -29,8 +28,6 @@ use Rattle.listing.specs.Listing.{entries_of}
 use Rattle.listing.proofs.FillLaws.{fill_size}
 use Rattle.server.specs.Calls.{answered_by, heard_by, step_of, on_check, receive_of, Opened, on_login, login_of, due_as, on_request, request_of, login_by, request_by, receive_by}
 use Rattle.server.proofs.Answering.{is_refused}
-use Rattle.embed.specs.declared.words.Ready.{Ready}
-use Rattle.embed.specs.declared.words.Ready.TheVariants as ready
 use Rattle.embed.specs.Words.{server_at, ready_of}
 use Rattle.embed.specs.Ends.{Local}
 use Rattle.embed.specs.Calls as calls
@@ -105,20 +102,20 @@ due_size (down.Listing l long done sent) s disk owner fs selected out =
 -- ---- the calls of the server
 
 module _ (sv : Server) (l : Lent) (out : List ℕ) where
-  on_receive_law : (k : Check) (clock : ℕ) (input : List ℕ) → size_of (on_check k sv l out clock input).done.answer ≤ 258
+  on_receive_law : (k : Result ℕ ℕ) (clock : ℕ) (input : List ℕ) → size_of (on_check k sv l out clock input).done.answer ≤ 258
   unfolding on_check step_of heard_by answered_by
-  on_receive_law (check.Refuse n) clock input = omega arith
-  on_receive_law (check.Go i) clock input = answered_size _ _ out
+  on_receive_law (Err n) clock input = omega arith
+  on_receive_law (Ok i) clock input = answered_size _ _ out
 
-  on_login_law : (k : Check) (clock : ℕ) → size_of (on_login k sv out clock).done.answer ≤ 258
+  on_login_law : (k : Result ℕ ℕ) (clock : ℕ) → size_of (on_login k sv out clock).done.answer ≤ 258
   unfolding on_login
-  on_login_law (check.Refuse n) clock = omega arith
-  on_login_law (check.Go i) clock = answered_size (reply.Login clock) 0 out
+  on_login_law (Err n) clock = omega arith
+  on_login_law (Ok i) clock = answered_size (reply.Login clock) 0 out
 
-  on_request_law : (k : Check) → size_of (on_request k sv l out).done.answer ≤ 258
+  on_request_law : (k : Result ℕ ℕ) → size_of (on_request k sv l out).done.answer ≤ 258
   unfolding on_request due_as
-  on_request_law (check.Refuse n) = omega arith
-  on_request_law (check.Go i) = due_size (link_of sv i).down (link_of sv i) l.disk _ _ _ out
+  on_request_law (Err n) = omega arith
+  on_request_law (Ok i) = due_size (link_of sv i).down (link_of sv i) l.disk _ _ _ out
 
 -- ---- the calls
 
@@ -141,14 +138,14 @@ tell_bound (answer.Closed taken) sv state counts k h e = omega arith
 tell_bound (answer.Refused n) sv state counts (open_way p) h e = absurd (let z : ◌≡◌ {A = ℕ} 0 1 = cc in omega arith)
 tell_bound (answer.Refused n) sv state counts (shut_way m q p) h e = let z : n ≡ m = cc in absurd (omega (arith, z, q.0, e))
 
-by_ready : {R : Type 0} (code_of size_in : R → ℕ) (fit : Bool) (state : List ℕ) (counts : ℕ) (f : Ready → R) → ((n : ℕ) → code_of (f (ready.Refuse n)) ≡ n)
-    → (code_of (f ready.Go) ≤ 2 → size_in (f ready.Go) ≤ 258)
+by_ready : {R : Type 0} (code_of size_in : R → ℕ) (fit : Bool) (state : List ℕ) (counts : ℕ) (f : Result ⊤ ℕ → R) → ((n : ℕ) → code_of (f (Err n)) ≡ n)
+    → (code_of (f (Ok tt)) ≤ 2 → size_in (f (Ok tt)) ≤ 258)
     → code_of (f (ready_of fit state counts)) ≤ 2 → size_in (f (ready_of fit state counts)) ≤ 258
 by_ready code_of size_in fit state counts f kept gone = go (ready_of fit state counts) (ready_number_law fit state counts)
   where
-    go : (k : Ready) → Local (ready_number k) → code_of (f k) ≤ 2 → size_in (f k) ≤ 258
-    go (ready.Refuse n) h c = absurd (omega (arith, kept n, h.0, c))
-    go ready.Go h c = gone c
+    go : (k : Result ⊤ ℕ) → Local (ready_number k) → code_of (f k) ≤ 2 → size_in (f k) ≤ 258
+    go (Err n) h c = absurd (omega (arith, kept n, h.0, c))
+    go (Ok done) h c = gone c
 
 module _ (state counts : List ℕ) (l : Lent) (session : ℕ) (out : List ℕ) where
   pub receive_length : (clock : ℕ) (input : List ℕ) → (calls.receive_by state counts l out session clock input).told.code ≤ 2
@@ -156,7 +153,7 @@ module _ (state counts : List ℕ) (l : Lent) (session : ℕ) (out : List ℕ) w
   unfolding calls.receive_by calls.on_receive receive_of receive_by
   receive_length clock input =
       by_ready (λ (r : calls.Received). r.told.code) (λ (r : calls.Received). get_or r.told.counts 1 0) (calls.fits_at state l) state (length counts)
-      (λ (k : Ready). calls.on_receive k state counts l out session clock input) (λ n. refl)
+      (λ (k : Result ⊤ ℕ). calls.on_receive k state counts l out session clock input) (λ n. refl)
       (tell_bound _ _ state counts (known (λ (o : Outcome). o.done.answer) _ _ (λ n. refl)
       (receive_ended (server_at state) l session out clock input))
       (on_receive_law (server_at state) l out (check_of (server_at state) l session true (length out)) clock input))
@@ -166,7 +163,7 @@ module _ (state counts : List ℕ) (l : Lent) (session : ℕ) (out : List ℕ) w
   unfolding calls.open_by calls.on_open login_of login_by
   open_length clock =
       by_ready (λ (r : calls.Sent). r.told.code) (λ (r : calls.Sent). get_or r.told.counts 1 0) (calls.fits_at state l) state (length counts)
-      (λ (k : Ready). calls.on_open k state counts l out session clock) (λ n. refl)
+      (λ (k : Result ⊤ ℕ). calls.on_open k state counts l out session clock) (λ n. refl)
       (tell_bound _ _ state counts (known (λ (o : Opened). o.done.answer) _ _ (λ n. refl) (login_ended (server_at state) l session out clock))
       (on_login_law (server_at state) l out (check_of (server_at state) l session false (length out)) clock))
 
@@ -175,6 +172,6 @@ module _ (state counts : List ℕ) (l : Lent) (session : ℕ) (out : List ℕ) w
   unfolding calls.request_by calls.on_request request_of request_by
   request_length =
       by_ready (λ (r : calls.Sent). r.told.code) (λ (r : calls.Sent). get_or r.told.counts 1 0) (calls.fits_at state l) state (length counts)
-      (λ (k : Ready). calls.on_request k state counts l out session) (λ n. refl)
+      (λ (k : Result ⊤ ℕ). calls.on_request k state counts l out session) (λ n. refl)
       (tell_bound _ _ state counts (known (λ (o : Opened). o.done.answer) _ _ (λ n. refl) (request_ended (server_at state) l session out))
       (on_request_law (server_at state) l out (check_of (server_at state) l session true (length out))))

@@ -1,5 +1,6 @@
 -- A receive that is not refused takes at least one byte, where it is lent any, and no more than it is lent: so whoever hands in the rest again
 -- comes to the end of the bytes.
+use Rattle.std.specs.Prelude.{⊤, Result, Ok, Err}
 use mathlib.Core.Path.{◌≡◌, refl, sym, subst}
 use mathlib.Core.Bool.{Bool, true, false, cond}
 use mathlib.Core.List.{List, [], ◌∷◌}
@@ -22,16 +23,12 @@ use Rattle.links.proofs.Facts.{LinkTested, selection_of, packet_of, sound_facts,
 use Rattle.table.specs.Table.{files}
 use Rattle.files.specs.Sound.{sound_test}
 use Rattle.server.specs.declared.Server.{Server}
-use Rattle.server.specs.declared.check.Check.{Check}
-use Rattle.server.specs.declared.check.Check.TheVariants as check
 use Rattle.server.specs.State.{Lent, link_of, words, part}
 use Rattle.server.specs.Check.{fits, sound_parts, in_state, session_check, check_by, check_of}
 use Rattle.server.specs.Turns.{hear_of}
 use Rattle.server.specs.Calls.{answered_by, heard_by, step_of, on_check, receive_of, receive_by}
 use Rattle.server.proofs.CheckLaws.{check_go, both_true}
 use Rattle.server.proofs.Answering.{is_refused, step_not}
-use Rattle.embed.specs.declared.words.Ready.{Ready}
-use Rattle.embed.specs.declared.words.Ready.TheVariants as ready
 use Rattle.embed.specs.Words.{server_at, ready_of}
 use Rattle.embed.specs.Ends.{Local, Takes}
 use Rattle.embed.specs.Calls as calls
@@ -103,14 +100,14 @@ record Seen (sv : Server) (l : Lent) (i : ℕ) : Type 0 where
   sound : sound_parts sv l.map l.owner l.table l.selected l.held ≡ true
   linked : (link_of sv i).linked ≡ true
 
-session_linked : (sv : Server) (session out i : ℕ) → session_check sv session true out ≡ check.Go i → (link_of sv i).linked ≡ true
+session_linked : (sv : Server) (session out i : ℕ) → session_check sv session true out ≡ Ok i → (link_of sv i).linked ≡ true
 unfolding session_check in_state
 session_linked sv session out i e =
     go (eqb session 0) (ltb sv.sessions session) (link_of sv (session - 1)).linked refl (ltb out 258) e
   where
     go : (a b c : Bool) → (link_of sv (session - 1)).linked ≡ c → (d : Bool)
-        → cond a (check.Refuse 34) (cond b (check.Refuse 34) (cond c (cond d (check.Refuse 32) (check.Go (session - 1))) (check.Refuse 34)))
-        ≡ check.Go i
+        → cond {A = Result ℕ ℕ} a (Err 34) (cond b (Err 34) (cond c (cond d (Err 32) (Ok (session - 1))) (Err 34)))
+        ≡ Ok i
         → (link_of sv i).linked ≡ true
     go true b c p d e = let z : ◌≡◌ {A = ℕ} 0 1 = cc in absurd (omega arith)
     go false true c p d e = let z : ◌≡◌ {A = ℕ} 0 1 = cc in absurd (omega arith)
@@ -118,14 +115,14 @@ session_linked sv session out i e =
     go false false true p true e = let z : ◌≡◌ {A = ℕ} 0 1 = cc in absurd (omega arith)
     go false false true p false e = let s : session - 1 ≡ i = cc in subst (λ (k : ℕ). (link_of sv k).linked ≡ true) s p
 
-check_seen : (sv : Server) (l : Lent) (session out i : ℕ) → check_of sv l session true out ≡ check.Go i → Seen sv l i
+check_seen : (sv : Server) (l : Lent) (session out i : ℕ) → check_of sv l session true out ≡ Ok i → Seen sv l i
 unfolding check_by
 check_seen sv l session out i e =
     go (fits sv (length l.disk) l.map l.owner l.table l.selected l.held)
     (sound_parts sv l.map l.owner l.table l.selected l.held) refl e
   where
     go : (a b : Bool) → sound_parts sv l.map l.owner l.table l.selected l.held ≡ b
-        → cond a (cond b (session_check sv session true out) (check.Refuse 35)) (check.Refuse 33) ≡ check.Go i
+        → cond {A = Result ℕ ℕ} a (cond b (session_check sv session true out) (Err 35)) (Err 33) ≡ Ok i
         → Seen sv l i
     go false b p e = let z : ◌≡◌ {A = ℕ} 0 1 = cc in absurd (omega arith)
     go true false p e = let z : ◌≡◌ {A = ℕ} 0 1 = cc in absurd (omega arith)
@@ -155,7 +152,7 @@ part_length held i n h k =
     length-take-le 258 (drop (i * 258) held) (omega (arith, length-drop (i * 258) held, part_end i n 258 h, k))
 
 step_takes : (sv : Server) (session i clock : ℕ) (input : List ℕ) (l : Lent) (out : List ℕ)
-    → check_of sv l session true (length out) ≡ check.Go i
+    → check_of sv l session true (length out) ≡ Ok i
     → Takes (length input) (taken_of (step_of sv i clock input l out).done.answer)
 step_takes sv session i clock input l out e =
     let p = check_go _ sv session true (length out) (length l.disk) l.map l.owner l.table l.selected l.held i e in
@@ -178,12 +175,12 @@ module _ (state counts : List ℕ) (l : Lent) (out : List ℕ) (session clock : 
   refused_by_law : (n : ℕ) → Local n → n ≤ 2 → ⊥
   refused_by_law n h k = omega (arith, h.0, h.1, k)
 
-  checked_takes : (k : Check) → check_of (server_at state) l session true (length out) ≡ k → Local (check_number k)
+  checked_takes : (k : Result ℕ ℕ) → check_of (server_at state) l session true (length out) ≡ k → Local (check_number k)
       → (calls.received_by state counts (on_check k (server_at state) l out clock input)).told.code ≤ 2
       → Takes (length input) (get_or (calls.received_by state counts (on_check k (server_at state) l out clock input)).told.counts 0 0)
   unfolding on_check calls.tell_of
-  checked_takes (check.Refuse n) e h c = absurd (refused_by_law n h c)
-  checked_takes (check.Go i) e h c =
+  checked_takes (Err n) e h c = absurd (refused_by_law n h c)
+  checked_takes (Ok i) e h c =
       let sv = server_at state in
       let p = check_go _ sv session true (length out) (length l.disk) l.map l.owner l.table l.selected l.held i e in
       subst (λ (n : ℕ). Takes (length input) n)
@@ -191,12 +188,12 @@ module _ (state counts : List ℕ) (l : Lent) (out : List ℕ) (session clock : 
       (step_not sv i clock input l out p.out)))
       (step_takes sv session i clock input l out e)
 
-  ready_takes : (k : Ready) → Local (ready_number k)
+  ready_takes : (k : Result ⊤ ℕ) → Local (ready_number k)
       → (calls.on_receive k state counts l out session clock input).told.code ≤ 2
       → Takes (length input) (get_or (calls.on_receive k state counts l out session clock input).told.counts 0 0)
   unfolding calls.on_receive receive_of receive_by
-  ready_takes (ready.Refuse n) h c = absurd (refused_by_law n h c)
-  ready_takes ready.Go h c =
+  ready_takes (Err n) h c = absurd (refused_by_law n h c)
+  ready_takes (Ok done) h c =
       checked_takes (check_of (server_at state) l session true (length out)) refl
       (check_number_law (server_at state) l session true (length out)) c
 

@@ -1,4 +1,5 @@
 -- Words and servers: a server is read back from its words, and what words are read as has those words.
+use Rattle.std.specs.Prelude.{Ok}
 use mathlib.Core.Path.{◌≡◌, refl, sym, ap, subst, ◌∙◌}
 use mathlib.Core.Bool.{Bool, true, false, cond}
 use mathlib.Core.List.{List, [], ◌∷◌, ◌++◌, append_assoc}
@@ -18,7 +19,6 @@ use Rattle.session.specs.declared.state.Listed.TheVariants as listed
 use Rattle.session.specs.State.{closed_session}
 use Rattle.server.specs.declared.Server.{Server}
 use Rattle.server.specs.State.{link_of}
-use Rattle.embed.specs.declared.words.Ready.TheVariants.{Go}
 use Rattle.embed.specs.Words.{up_words, down_words, flag, session_words, head_words, words_of, encode_of}
 use Rattle.embed.specs.Words.{low, up_of, down_of, session_at, server_at, same_words, is_state, ready_of}
 use Rattle.embed.specs.Fit.{up_offset, up_received, down_offset, down_sent, UpFits, DownFits, SessionFits, LastFits, ServerFits}
@@ -237,7 +237,7 @@ written_back state e =
     ap (λ (l : List ℕ). l ++ drop 54 state) (sym (same_eq (take 54 state) (words_of (server_at state)) e)) ∙ take-append-drop 54 state
 
 pub ready_again : (sv : Server) (state : List ℕ) (counts : ℕ) → ServerFits sv → 54 ≤ length state → 2 ≤ counts
-    → ready_of true (encode_of sv state) counts ≡ Go
+    → ready_of true (encode_of sv state) counts ≡ Ok tt
 unfolding ready_of
 ready_again sv state counts f h k =
     rw (le-ltb (length (encode_of sv state)) 54 (omega (arith, length_encoded sv state h, h)), le-ltb counts 2 k, encoded_state sv state f)

@@ -1,18 +1,15 @@
 -- The calls for programs in other languages. Each is the server's call on the state that the words are read as; the answer is a number, and the
 -- words and the counts are written only where the call is not refused. Assumes nothing.
-use Rattle.std.specs.Prelude.{Bool, false, cond, List, [], ◌∷◌, ◌++◌, ℕ, ◌+◌, ◌*◌, eqb, leb, ltb, length, take, drop}
+use Rattle.std.specs.Prelude.{Bool, false, cond, List, [], ◌∷◌, ◌++◌, ℕ, ◌+◌, ◌*◌, eqb, leb, ltb, length, take, drop, ⊤, Result, Ok, Err}
 use Rattle.session.specs.declared.reply.Answer.{Answer}
 use Rattle.session.specs.declared.reply.Answer.TheVariants as answer
 use Rattle.blocks.specs.FreeMap.{free_count}
 use Rattle.server.specs.declared.Server.{Server}
 use Rattle.server.specs.declared.Done.{Done}
-use Rattle.server.specs.declared.Made.{Made}
 use Rattle.server.specs.State.{Lent, lent, Outcome, words}
 use Rattle.server.specs.Check.{sizes_fit, fits}
 use Rattle.server.specs.Making.{Emptied, Makes, make_of}
 use Rattle.server.specs.Calls.{receive_of, Opened, login_of, request_of, Lost, lose_of}
-use Rattle.embed.specs.declared.words.Ready.{Ready}
-use Rattle.embed.specs.declared.words.Ready.TheVariants.{Go, Refuse}
 use Rattle.embed.specs.Words.{encode_of, server_at, ready_of}
 
 -- ---- the answer as a number: 0 quiet, 1 a packet is in the output, 2 closed, else the number of a local refusal
@@ -46,7 +43,7 @@ done_of d state counts = tell_of d.answer d.server state counts
 abbrev pub fits_at : List ℕ → Lent → Bool
 fits_at state l = fits (server_at state) (length l.disk) l.map l.owner l.table l.selected l.held
 
-abbrev pub ready_for : List ℕ → List ℕ → Lent → Ready
+abbrev pub ready_for : List ℕ → List ℕ → Lent → Result ⊤ ℕ
 ready_for state counts l = ready_of (fits_at state l) state (length counts)
 
 -- ---- receive
@@ -63,9 +60,9 @@ received t l out = record { told = t; lent = l; out = out }
 abbrev pub received_by : List ℕ → List ℕ → Outcome → Received
 received_by state counts o = received (done_of o.done state counts) o.lent o.out
 
-unfoldable pub on_receive : Ready → List ℕ → List ℕ → Lent → List ℕ → ℕ → ℕ → List ℕ → Received
-on_receive (Refuse n) state counts l out session clock input = received (told n state counts) l out
-on_receive Go state counts l out session clock input = received_by state counts (receive_of (server_at state) l out session clock input)
+unfoldable pub on_receive : Result ⊤ ℕ → List ℕ → List ℕ → Lent → List ℕ → ℕ → ℕ → List ℕ → Received
+on_receive (Err n) state counts l out session clock input = received (told n state counts) l out
+on_receive (Ok done) state counts l out session clock input = received_by state counts (receive_of (server_at state) l out session clock input)
 
 unfoldable pub receive_by : List ℕ → List ℕ → Lent → List ℕ → ℕ → ℕ → List ℕ → Received
 receive_by state counts l out session clock input =
@@ -84,16 +81,16 @@ sent t out = record { told = t; out = out }
 abbrev pub sent_by : List ℕ → List ℕ → Opened → Sent
 sent_by state counts o = sent (done_of o.done state counts) o.out
 
-unfoldable pub on_open : Ready → List ℕ → List ℕ → Lent → List ℕ → ℕ → ℕ → Sent
-on_open (Refuse n) state counts l out session clock = sent (told n state counts) out
-on_open Go state counts l out session clock = sent_by state counts (login_of (server_at state) l out session clock)
+unfoldable pub on_open : Result ⊤ ℕ → List ℕ → List ℕ → Lent → List ℕ → ℕ → ℕ → Sent
+on_open (Err n) state counts l out session clock = sent (told n state counts) out
+on_open (Ok done) state counts l out session clock = sent_by state counts (login_of (server_at state) l out session clock)
 
 unfoldable pub open_by : List ℕ → List ℕ → Lent → List ℕ → ℕ → ℕ → Sent
 open_by state counts l out session clock = on_open (ready_for state counts l) state counts l out session clock
 
-unfoldable pub on_request : Ready → List ℕ → List ℕ → Lent → List ℕ → ℕ → Sent
-on_request (Refuse n) state counts l out session = sent (told n state counts) out
-on_request Go state counts l out session = sent_by state counts (request_of (server_at state) l out session)
+unfoldable pub on_request : Result ⊤ ℕ → List ℕ → List ℕ → Lent → List ℕ → ℕ → Sent
+on_request (Err n) state counts l out session = sent (told n state counts) out
+on_request (Ok done) state counts l out session = sent_by state counts (request_of (server_at state) l out session)
 
 unfoldable pub request_by : List ℕ → List ℕ → Lent → List ℕ → ℕ → Sent
 request_by state counts l out session = on_request (ready_for state counts l) state counts l out session
@@ -112,9 +109,9 @@ gone t selected held = record { told = t; selected = selected; held = held }
 abbrev pub gone_by : List ℕ → List ℕ → Lost → Gone
 gone_by state counts o = gone (done_of o.done state counts) o.selected o.held
 
-unfoldable pub on_lose : Ready → List ℕ → List ℕ → Lent → ℕ → Gone
-on_lose (Refuse n) state counts l session = gone (told n state counts) l.selected l.held
-on_lose Go state counts l session = gone_by state counts (lose_of (server_at state) l session)
+unfoldable pub on_lose : Result ⊤ ℕ → List ℕ → List ℕ → Lent → ℕ → Gone
+on_lose (Err n) state counts l session = gone (told n state counts) l.selected l.held
+on_lose (Ok done) state counts l session = gone_by state counts (lose_of (server_at state) l session)
 
 unfoldable pub lose_by : List ℕ → List ℕ → Lent → ℕ → Gone
 lose_by state counts l session = on_lose (ready_for state counts l) state counts l session
@@ -131,11 +128,17 @@ abbrev pub begun : ℕ → List ℕ → Emptied → Begun
 begun code state l = record { code = code; state = state; lent = l }
 
 -- the words are written only where the server is made
-unfoldable pub keep_of : Made → List ℕ → List ℕ
-keep_of m state = cond (eqb m.refused 0) (encode_of m.server state) state
+unfoldable pub keep_of : Result Server ℕ → List ℕ → List ℕ
+keep_of (Ok sv) state = encode_of sv state
+keep_of (Err n) state = state
+
+-- the number of what making answers: 0 for a server
+abbrev pub code_of : Result Server ℕ → ℕ
+code_of (Ok sv) = 0
+code_of (Err n) = n
 
 abbrev pub begun_by : List ℕ → Makes → Begun
-begun_by state m = begun m.made.refused (keep_of m.made state) m.lent
+begun_by state m = begun (code_of m.made) (keep_of m.made state) m.lent
 
 -- "33 local: .. a lent buffer too short"; `disk` is the storage's length
 unfoldable pub make_by : ℕ → ℕ → ℕ → ℕ → List ℕ → ℕ → Emptied → Begun
@@ -173,9 +176,9 @@ map_fits sv map = cond (sizes_fit sv.blocks sv.files sv.sessions sv.most) (leb (
 abbrev pub free_in : Server → List ℕ → List ℕ → List ℕ
 free_in sv map counts = with_counts (free_count (take (words sv.blocks) map)) sv.blocks counts
 
-unfoldable pub on_free : Ready → List ℕ → List ℕ → List ℕ → Filled
-on_free (Refuse n) state map counts = filled n counts
-on_free Go state map counts = filled 0 (free_in (server_at state) map counts)
+unfoldable pub on_free : Result ⊤ ℕ → List ℕ → List ℕ → List ℕ → Filled
+on_free (Err n) state map counts = filled n counts
+on_free (Ok done) state map counts = filled 0 (free_in (server_at state) map counts)
 
 unfoldable pub free_by : List ℕ → List ℕ → List ℕ → Filled
 free_by state map counts = on_free (ready_of (map_fits (server_at state) (length map)) state (length counts)) state map counts

@@ -1,6 +1,6 @@
 -- The server's state as 64-bit words in the caller's memory: 6 words of the server, then 12 words for each of the four sessions. A word that a
 -- case does not use is 0. Assumes nothing.
-use Rattle.std.specs.Prelude.{Bool, true, false, cond, List, [], ◌∷◌, ◌++◌, ℕ, ◌+◌, ◌%◌, eqb, ltb, length, get_or, take, drop}
+use Rattle.std.specs.Prelude.{Bool, true, false, cond, List, [], ◌∷◌, ◌++◌, ℕ, ◌+◌, ◌%◌, eqb, ltb, length, get_or, take, drop, ⊤, Result, Ok, Err}
 use Rattle.session.specs.declared.state.Session.{Session}
 use Rattle.session.specs.declared.state.Uplink.{Uplink}
 use Rattle.session.specs.declared.state.Uplink.TheVariants as up
@@ -11,8 +11,6 @@ use Rattle.session.specs.declared.state.Listed.TheVariants as listed
 use Rattle.carry.specs.Turn.{last_of}
 use Rattle.server.specs.declared.Server.{Server}
 use Rattle.server.specs.State.{link_of}
-use Rattle.embed.specs.declared.words.Ready.{Ready}
-use Rattle.embed.specs.declared.words.Ready.TheVariants.{Go, Refuse}
 
 -- ---- a server's words
 
@@ -115,7 +113,7 @@ is_state state = same_words (take 54 state) (words_of (server_at state))
 -- "33 local: a size or length outside the table .. or a lent buffer too short", "35 local: in the state handed in, .. facts .. are broken":
 -- "Order: 33, 35". Words that are no state are refused by 35, where nothing is to be refused by 33. `counts` is the length of what is lent for
 -- the counts; `fit`: the sizes in words 0 to 3 are in the table, and all else that is lent has room for them.
-unfoldable pub ready_of : Bool → List ℕ → ℕ → Ready
+unfoldable pub ready_of : Bool → List ℕ → ℕ → Result ⊤ ℕ
 ready_of fit state counts =
-    cond (ltb (length state) 54) (Refuse 33)
-    (cond (ltb counts 2) (Refuse 33) (cond fit (cond (is_state state) Go (Refuse 35)) (Refuse 33)))
+    cond (ltb (length state) 54) (Err 33)
+    (cond (ltb counts 2) (Err 33) (cond fit (cond (is_state state) (Ok tt) (Err 35)) (Err 33)))

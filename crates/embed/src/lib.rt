@@ -11,11 +11,10 @@ ghost use Rattle.std.specs.Prelude.{◌≡◌, true, ◌≤◌, length};
 ghost use Rattle.server.specs.State.{lent};
 ghost use Rattle.server.specs.Making.{emptied};
 ghost use Rattle.embed.specs.Words.{is_state};
-ghost use Rattle.embed.specs.Calls.{told, tell_of, received, receive_by, sent, open_by, request_by, gone, lose_by, begun, keep_of, make_by, filled, memory_by, with_counts, map_fits, free_in, free_by};
+ghost use Rattle.embed.specs.Calls.{told, tell_of, received, receive_by, sent, open_by, request_by, gone, lose_by, begun, make_by, filled, memory_by, with_counts, map_fits, free_in, free_by};
 
-use server::{Made, Server};
+use server::Server;
 use session::reply::Answer;
-use words::Ready;
 
 // ---- memory
 
@@ -28,6 +27,7 @@ pub fn figmorella_state_words() -> usize
 
 // How long each slice must be for these sizes, in 7 numbers: state, disk, map, owner, table, selected, held. 0, or 33 for sizes outside
 // the table or a short `need`.
+// A number and no `Result`, here as in `figmorella_make`: C is told it.
 pub fn figmorella_memory(
     blocks: usize,
     files: usize,
@@ -91,18 +91,6 @@ fn tell(answer: Answer, server: Server, state: &mut [u64], counts: &mut [usize])
 
 // ---- calls
 
-// The words are written where the server is made.
-fn keep(made: Made, state: &mut [u64])
-    requires { 54 ≤ length state.old }
-    ensures state_after { state.new ≡ keep_of made state.old }
-    ensures state_after_2 { made.refused ≡ 0 → is_state state.new ≡ true }
-{
-    let server = made.server;
-    if made.refused == 0 {
-        words::encode(server, state);
-    }
-}
-
 // A server with these sizes, over an empty store: 0, or 33 and nothing changed.
 pub fn figmorella_make(
     blocks: usize,
@@ -124,11 +112,16 @@ pub fn figmorella_make(
     if state.len() < 54 {
         return 33;
     }
-    let made = making::make(
+    match making::make(
         blocks, files, sessions, most, disk, map, owner, table, selected, held,
-    );
-    keep(made, state);
-    made.refused
+    ) {
+        // nothing is written
+        Err(refused) => refused.into(),
+        Ok(server) => {
+            words::encode(server, state);
+            0
+        }
+    }
 }
 
 // A link is there: the session begins, and LOGIN_RESP goes out.
@@ -149,7 +142,7 @@ pub fn figmorella_open(
         ≡ open_by state.old counts.old (lent disk.now map.now owner.now table.now selected.now held.now) out.old session clock }
     ensures state_after { is_state state.old ≡ true → is_state state.new ≡ true }
 {
-    let k = words::check(
+    match words::check(
         &*state,
         counts.len(),
         disk.len(),
@@ -158,10 +151,9 @@ pub fn figmorella_open(
         table.len(),
         selected.len(),
         held.len(),
-    );
-    match k {
-        Ready::Refuse(n) => n,
-        Ready::Go => {
+    ) {
+        Err(refusal) => refusal.into(),
+        Ok(()) => {
             let server = words::server_at(&*state);
             let done = tested::login(
                 server, disk, map, owner, table, selected, held, out, session, clock,
@@ -192,7 +184,7 @@ pub fn figmorella_receive(
         ≡ receive_by state.old counts.old (lent disk.old map.old owner.old table.old selected.old held.old) out.old session clock input.now }
     ensures state_after { is_state state.old ≡ true → is_state state.new ≡ true }
 {
-    let k = words::check(
+    match words::check(
         &*state,
         counts.len(),
         disk.len(),
@@ -201,10 +193,9 @@ pub fn figmorella_receive(
         table.len(),
         selected.len(),
         held.len(),
-    );
-    match k {
-        Ready::Refuse(n) => n,
-        Ready::Go => {
+    ) {
+        Err(refusal) => refusal.into(),
+        Ok(()) => {
             let server = words::server_at(&*state);
             let done = tested::receive(
                 server, disk, map, owner, table, selected, held, out, session, clock, input,
@@ -233,7 +224,7 @@ pub fn figmorella_request(
         ≡ request_by state.old counts.old (lent disk.now map.now owner.now table.now selected.now held.now) out.old session }
     ensures state_after { is_state state.old ≡ true → is_state state.new ≡ true }
 {
-    let k = words::check(
+    match words::check(
         &*state,
         counts.len(),
         disk.len(),
@@ -242,10 +233,9 @@ pub fn figmorella_request(
         table.len(),
         selected.len(),
         held.len(),
-    );
-    match k {
-        Ready::Refuse(n) => n,
-        Ready::Go => {
+    ) {
+        Err(refusal) => refusal.into(),
+        Ok(()) => {
             let server = words::server_at(&*state);
             let done = tested::request(
                 server, disk, map, owner, table, selected, held, out, session,
@@ -273,7 +263,7 @@ pub fn figmorella_lose(
         ≡ lose_by state.old counts.old (lent disk.now map.now owner.now table.now selected.old held.old) session }
     ensures state_after { is_state state.old ≡ true → is_state state.new ≡ true }
 {
-    let k = words::check(
+    match words::check(
         &*state,
         counts.len(),
         disk.len(),
@@ -282,10 +272,9 @@ pub fn figmorella_lose(
         table.len(),
         selected.len(),
         held.len(),
-    );
-    match k {
-        Ready::Refuse(n) => n,
-        Ready::Go => {
+    ) {
+        Err(refusal) => refusal.into(),
+        Ok(()) => {
             let server = words::server_at(&*state);
             let done = tested::lose(server, disk, map, owner, table, selected, held, session);
             let closed = done.server;
@@ -312,10 +301,9 @@ fn free_in(server: Server, map: &[u64], counts: &mut [usize])
 pub fn figmorella_free(state: &[u64], map: &[u64], counts: &mut [usize]) -> u8
     ensures { filled result counts.new ≡ free_by state.now map.now counts.old }
 {
-    let k = words::check_map(state, counts.len(), map.len());
-    match k {
-        Ready::Refuse(n) => n,
-        Ready::Go => {
+    match words::check_map(state, counts.len(), map.len()) {
+        Err(refusal) => refusal.into(),
+        Ok(()) => {
             free_in(words::server_at(state), map, counts);
             0
         }

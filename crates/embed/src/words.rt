@@ -1,24 +1,18 @@
 // The server's state as 64-bit words in the caller's memory. `server_at` and `encode` alone know where a word stands.
-ghost use Rattle.std.specs.Prelude.{◌≡◌, [], ◌∷◌, true, cond, ◌+◌, ◌≤◌, ◌<◌, length};
+ghost use Rattle.std.specs.Prelude.{◌≡◌, [], ◌∷◌, true, cond, Ok, Err, ◌+◌, ◌≤◌, ◌<◌, length};
 ghost use Rattle.std.proofs.lemmas.List.Edits.{sets};
 ghost use Rattle.session.specs.declared.state.Downlink.TheVariants as down;
+ghost use Rattle.refusal.specs.Refusal.{numbered};
 ghost use Rattle.server.specs.Check.{fits_in};
-ghost use Rattle.embed.specs.declared.words.Ready.TheVariants as ready;
 ghost use Rattle.embed.specs.Fit.{UpFits, DownFits, SessionFits, LastFits};
 ghost use Rattle.embed.specs.Words.{flag, up_words, listing_case, listed_word, down_words, session_words, head_words, encode_of, low, up_of, down_of, session_at, server_at, same_words, is_state, ready_of};
 ghost use Rattle.embed.specs.Calls.{map_fits};
 
 use carry::turn::Last;
+use refusal::Refusal;
 use server::Server;
 use server::check::Lengths;
 use session::state::{Downlink, Listed, Session, Uplink};
-
-// The words are a state, or the call is refused.
-#[derive(Clone, Copy)]
-pub enum Ready {
-    Go,
-    Refuse(u8),
-}
 
 // ---- numbers
 
@@ -310,17 +304,17 @@ fn is_state(state: &[u64]) -> bool
 }
 
 // What is lent fits the sizes in the words, or 33; the words are a state, or 35.
-fn judge(state: &[u64], fit: bool) -> Ready
+fn judge(state: &[u64], fit: bool) -> Result<(), Refusal>
     requires { 54 ≤ length state.now }
-    ensures { result ≡ cond fit (cond (is_state state.now) ready.Go (ready.Refuse 35)) (ready.Refuse 33) }
+    ensures { numbered result ≡ cond fit (cond (is_state state.now) (Ok tt) (Err 35)) (Err 33) }
 {
-    if fit {
-        if is_state(state) {
-            return Ready::Go;
-        }
-        return Ready::Refuse(35);
+    if !fit {
+        return Err(Refusal::BadSize);
     }
-    Ready::Refuse(33)
+    if !is_state(state) {
+        return Err(Refusal::Unsound);
+    }
+    Ok(())
 }
 
 // The room for the words and for the counts, the sizes and the lengths of all else that is lent, 33; the words, 35.
@@ -333,14 +327,14 @@ pub(crate) fn check(
     table: usize,
     selected: usize,
     held: usize,
-) -> Ready
-    ensures { result ≡ ready_of (fits_in (server_at state.now) disk map owner table selected held) state.now counts }
+) -> Result<(), Refusal>
+    ensures { numbered result ≡ ready_of (fits_in (server_at state.now) disk map owner table selected held) state.now counts }
 {
     if state.len() < 54 {
-        return Ready::Refuse(33);
+        return Err(Refusal::BadSize);
     }
     if counts < 2 {
-        return Ready::Refuse(33);
+        return Err(Refusal::BadSize);
     }
     let n = Lengths {
         disk: disk,
@@ -365,14 +359,14 @@ fn map_fits(server: Server, map: usize) -> bool
 }
 
 // The same where the map alone is lent besides.
-pub(crate) fn check_map(state: &[u64], counts: usize, map: usize) -> Ready
-    ensures { result ≡ ready_of (map_fits (server_at state.now) map) state.now counts }
+pub(crate) fn check_map(state: &[u64], counts: usize, map: usize) -> Result<(), Refusal>
+    ensures { numbered result ≡ ready_of (map_fits (server_at state.now) map) state.now counts }
 {
     if state.len() < 54 {
-        return Ready::Refuse(33);
+        return Err(Refusal::BadSize);
     }
     if counts < 2 {
-        return Ready::Refuse(33);
+        return Err(Refusal::BadSize);
     }
     let server = server_at(state);
     judge(state, map_fits(server, map))

@@ -15,7 +15,7 @@ use Rattle.blocks.specs.Answers.{reserve_number, reserve_map, reserve_owner}
 use Rattle.blocks.proofs.Owners.{counts_entry}
 use Rattle.blocks.proofs.Laws.{reserve_leaves}
 use Rattle.table.specs.declared.File.{File}
-use Rattle.std.proofs.Common.{Option, Some, None}
+use Rattle.std.proofs.Common.{Option, Some, None, Result, Ok, Err}
 use Rattle.table.specs.Table.{no_file, files, put_table, free_of}
 use Rattle.table.specs.Given.{most_given, next_number, blocks_for}
 use Rattle.table.proofs.Records.{length_files, files_put, length_put, get_put, get_put_other, uploaded_none}
@@ -24,8 +24,6 @@ use Rattle.table.proofs.Finding.{free_found}
 use Rattle.table.proofs.Ordering.{in_order_same}
 use Rattle.table.proofs.Keeping.{number_le, sound_new}
 use Rattle.table.proofs.Giving.{number_given}
-use Rattle.files.specs.declared.Begun.{Begun}
-use Rattle.files.specs.declared.Begun.TheVariants.{Refused, Started}
 use Rattle.files.specs.View.{record_at, bytes_at, view_at}
 use Rattle.files.specs.Uploads.{Begins, begins, new_file, begin_at, begin_in, begin_with, begin_of}
 use Rattle.files.specs.Sound.{places, Sound}
@@ -37,7 +35,7 @@ use Rattle.files.proofs.Soundness.{sound_of, store_is, counts_same, view_same, n
 pub record NotBegun (map owner table : List ℕ) (last size : ℕ) : Type 0 where
   pub number : ℕ
   pub nonzero : number ≡ 0 → ⊥
-  pub is : begin_of map owner table last size ≡ begins (Refused number) map owner table
+  pub is : begin_of map owner table last size ≡ begins (Err number) map owner table
 
 pub record HasBegun (map owner table : List ℕ) (last size : ℕ) : Type 0 where
   pub place : ℕ
@@ -45,7 +43,7 @@ pub record HasBegun (map owner table : List ℕ) (last size : ℕ) : Type 0 wher
   pub found : free_of (files table) ≡ Some place
   pub room : reserve_number map (length owner) place (blocks_for size) ≡ 0
   pub is : begin_of map owner table last size
-      ≡ begins (Started place) (reserve_map map owner place (blocks_for size)) (reserve_owner map owner place (blocks_for size))
+      ≡ begins (Ok place) (reserve_map map owner place (blocks_for size)) (reserve_owner map owner place (blocks_for size))
       (put_table table place (new_file (last + 1) size))
 
 module _ (map owner table : List ℕ) (last size : ℕ) where
@@ -60,10 +58,10 @@ module _ (map owner table : List ℕ) (last size : ℕ) where
         given = g ∙ ap Some q;
         found = f;
         room = z;
-        is = e ∙ done k _ (begins (Refused k) map owner table) z
-            ∙ ap (λ (m : ℕ). begins (Started p) (reserve_map map owner p (blocks_for size)) (reserve_owner map owner p (blocks_for size)) (put_table table p (new_file m size))) q;
+        is = e ∙ done k _ (begins (Err k) map owner table) z
+            ∙ ap (λ (m : ℕ). begins (Ok p) (reserve_map map owner p (blocks_for size)) (reserve_owner map owner p (blocks_for size)) (put_table table p (new_file m size))) q;
       }))
-      (λ z. inl (record { number = k; nonzero = z; is = e ∙ refused k _ (begins (Refused k) map owner table) z }))
+      (λ z. inl (record { number = k; nonzero = z; is = e ∙ refused k _ (begins (Err k) map owner table) z }))
 
   in_table : (n : ℕ) → next_number last ≡ Some n → begin_of map owner table last size ≡ begin_in (free_of (files table)) n size map owner table
       → (f : Option ℕ) → free_of (files table) ≡ f → NotBegun map owner table last size ⊎ HasBegun map owner table last size
@@ -98,7 +96,7 @@ pub record BeginLeaves (map owner table : List ℕ) (last latest size place : �
 module _ (map owner table : List ℕ) (last latest : ℕ) (s : Sound map owner table last latest) (size : ℕ) where
   begun_leaves : (h : HasBegun map owner table last size)
       → BeginLeaves map owner table last latest size h.place
-      (begins (Started h.place) (reserve_map map owner h.place (blocks_for size)) (reserve_owner map owner h.place (blocks_for size))
+      (begins (Ok h.place) (reserve_map map owner h.place (blocks_for size)) (reserve_owner map owner h.place (blocks_for size))
       (put_table table h.place (new_file (last + 1) size)))
   begun_leaves h =
       let p = h.place in
@@ -135,32 +133,32 @@ module _ (map owner table : List ℕ) (last latest : ℕ) (s : Sound map owner t
           counts_entry o (p + 1) (omega (arith, files_most map owner table last latest s)) ∙ e
           ∙ omega (arith, free_blocks map owner table last latest s p z)
 
-  pub begin_leaves : (p : ℕ) → (begin_of map owner table last size).answer ≡ Started p
+  pub begin_leaves : (p : ℕ) → (begin_of map owner table last size).answer ≡ Ok p
       → BeginLeaves map owner table last latest size p (begin_of map owner table last size)
   begin_leaves p e = ⊎_elim (λ n. absurd (none n)) some (begin_cases map owner table last size)
     where
       none : NotBegun map owner table last size → ⊥
-      none n = let q : Refused n.number ≡ Started p = sym (ap (λ (b : Begins). b.answer) n.is) ∙ e in let z : ◌≡◌ {A = ℕ} 0 1 = cc in omega arith
+      none n = let q : ◌≡◌ {A = Result ℕ ℕ} (Err n.number) (Ok p) = sym (ap (λ (b : Begins). b.answer) n.is) ∙ e in let z : ◌≡◌ {A = ℕ} 0 1 = cc in omega arith
 
       some : HasBegun map owner table last size → BeginLeaves map owner table last latest size p (begin_of map owner table last size)
       some h =
-          let q : Started h.place ≡ Started p = sym (ap (λ (b : Begins). b.answer) h.is) ∙ e in
+          let q : ◌≡◌ {A = Result ℕ ℕ} (Ok h.place) (Ok p) = sym (ap (λ (b : Begins). b.answer) h.is) ∙ e in
           let r : h.place ≡ p = cc in
           subst (λ (n : ℕ). BeginLeaves map owner table last latest size n (begin_of map owner table last size)) r
           (subst (λ (b : Begins). BeginLeaves map owner table last latest size h.place b) (sym h.is) (begun_leaves h))
 
 -- a refusal leaves everything as it was
-pub begin_kept : (map owner table : List ℕ) (last size n : ℕ) → (begin_of map owner table last size).answer ≡ Refused n
-    → begin_of map owner table last size ≡ begins (Refused n) map owner table
+pub begin_kept : (map owner table : List ℕ) (last size n : ℕ) → (begin_of map owner table last size).answer ≡ Err n
+    → begin_of map owner table last size ≡ begins (Err n) map owner table
 begin_kept map owner table last size n e = ⊎_elim none some (begin_cases map owner table last size)
   where
-    none : NotBegun map owner table last size → begin_of map owner table last size ≡ begins (Refused n) map owner table
+    none : NotBegun map owner table last size → begin_of map owner table last size ≡ begins (Err n) map owner table
     none r =
-        let q : Refused r.number ≡ Refused n = sym (ap (λ (b : Begins). b.answer) r.is) ∙ e in
-        r.is ∙ ap (λ (a : Begun). begins a map owner table) q
+        let q : ◌≡◌ {A = Result ℕ ℕ} (Err r.number) (Err n) = sym (ap (λ (b : Begins). b.answer) r.is) ∙ e in
+        r.is ∙ ap (λ (a : Result ℕ ℕ). begins a map owner table) q
 
-    some : HasBegun map owner table last size → begin_of map owner table last size ≡ begins (Refused n) map owner table
-    some h = absurd (let q : Started h.place ≡ Refused n = sym (ap (λ (b : Begins). b.answer) h.is) ∙ e in let z : ◌≡◌ {A = ℕ} 0 1 = cc in omega arith)
+    some : HasBegun map owner table last size → begin_of map owner table last size ≡ begins (Err n) map owner table
+    some h = absurd (let q : ◌≡◌ {A = Result ℕ ℕ} (Ok h.place) (Err n) = sym (ap (λ (b : Begins). b.answer) h.is) ∙ e in let z : ◌≡◌ {A = ℕ} 0 1 = cc in omega arith)
 
 -- ---- when it is refused
 
@@ -172,7 +170,7 @@ module _ (map owner table : List ℕ) (last latest : ℕ) (s : Sound map owner t
   place_found : (p : ℕ) → free_of (files table) ≡ Some p → p < 256
   place_found p e = omega (arith, (free_found (files table) p e).below, length-map (files table) (λ (f : File). f.number), files_most map owner table last latest s)
 
-  pub begin_used_up : last ≡ most_given → begin_of map owner table last size ≡ begins (Refused 3) map owner table
+  pub begin_used_up : last ≡ most_given → begin_of map owner table last size ≡ begins (Err 3) map owner table
   unfolding begin_with
   begin_used_up e =
       let g : next_number last ≡ None = rw (eq-eqb last most_given e) in
@@ -181,7 +179,7 @@ module _ (map owner table : List ℕ) (last latest : ℕ) (s : Sound map owner t
   given_is : (last ≡ most_given → ⊥) → next_number last ≡ Some (last + 1)
   given_is n = rw (ne_eqb last most_given n)
 
-  pub begin_no_place : (last ≡ most_given → ⊥) → free_of (files table) ≡ None → begin_of map owner table last size ≡ begins (Refused 13) map owner table
+  pub begin_no_place : (last ≡ most_given → ⊥) → free_of (files table) ≡ None → begin_of map owner table last size ≡ begins (Err 13) map owner table
   unfolding begin_with begin_in
   begin_no_place n e =
       ap (λ (g : Option ℕ). begin_with g size map owner table) (given_is n) ∙ ap (λ (f : Option ℕ). begin_in f (last + 1) size map owner table) e
@@ -192,17 +190,17 @@ module _ (map owner table : List ℕ) (last latest : ℕ) (s : Sound map owner t
       ap (λ (g : Option ℕ). begin_with g size map owner table) (given_is n) ∙ ap (λ (f : Option ℕ). begin_in f (last + 1) size map owner table) e
 
   pub begin_few_blocks : (last ≡ most_given → ⊥) → (p : ℕ) → free_of (files table) ≡ Some p → free_count map < blocks_for size
-      → begin_of map owner table last size ≡ begins (Refused 13) map owner table
+      → begin_of map owner table last size ≡ begins (Err 13) map owner table
   unfolding begin_at
   begin_few_blocks n p e h =
       let k = reserve_number map (length owner) p (blocks_for size) in
       let z : k ≡ 13 = reserve_is p (place_found p e) ∙ rw (lt-leb (blocks_for size) (free_count map) h) in
-      at_found n p e ∙ refused k _ (begins (Refused k) map owner table) (λ y. omega arith) ∙ ap (λ (m : ℕ). begins (Refused m) map owner table) z
+      at_found n p e ∙ refused k _ (begins (Err k) map owner table) (λ y. omega arith) ∙ ap (λ (m : ℕ). begins (Err m) map owner table) z
 
   pub begin_done : (last ≡ most_given → ⊥) → (p : ℕ) → free_of (files table) ≡ Some p → blocks_for size ≤ free_count map
-      → (begin_of map owner table last size).answer ≡ Started p
+      → (begin_of map owner table last size).answer ≡ Ok p
   unfolding begin_at
   begin_done n p e h =
       let k = reserve_number map (length owner) p (blocks_for size) in
       let z : k ≡ 0 = reserve_is p (place_found p e) ∙ rw (le-leb (blocks_for size) (free_count map) h) in
-      ap (λ (b : Begins). b.answer) (at_found n p e ∙ done k _ (begins (Refused k) map owner table) z)
+      ap (λ (b : Begins). b.answer) (at_found n p e ∙ done k _ (begins (Err k) map owner table) z)

@@ -4,10 +4,9 @@ use mathlib.Core.List.{List}
 use Prim.Native.Nat.{ℕ}
 use lib.ListN.{length}
 use Rattle.blocks.specs.Answers.{reserve_number}
-use Rattle.std.proofs.Common.{Option, Some, None}
+use Rattle.std.proofs.Common.{Option, Some, None, Err}
 use Rattle.table.specs.Table.{files, free_of, free_number}
 use Rattle.table.specs.Given.{next_number, given_number, blocks_for}
-use Rattle.files.specs.declared.Begun.TheVariants.{Refused}
 use Rattle.files.specs.Uploads.{Begins, begins, begin_at, begin_in, begin_with, begin_of, begun_number, after}
 use Rattle.files.proofs.Calls.{done, refused, by_number}
 
@@ -27,8 +26,8 @@ module _ (map owner : List ℕ) (size : ℕ) where
   at_number place n table =
       let k = reserve_number map (length owner) place (blocks_for size) in
       by_number k
-      (λ z. ap (λ (b : Begins). begun_number b.answer) (done k _ (begins (Refused k) map owner table) z) ∙ sym z)
-      (λ z. ap (λ (b : Begins). begun_number b.answer) (refused k _ (begins (Refused k) map owner table) z))
+      (λ z. ap (λ (b : Begins). begun_number b.answer) (done k _ (begins (Err k) map owner table) z) ∙ sym z)
+      (λ z. ap (λ (b : Begins). begun_number b.answer) (refused k _ (begins (Err k) map owner table) z))
 
   in_number : (found : Option ℕ) (n : ℕ) (table : List ℕ) → begun_number (begin_in found n size map owner table).answer ≡ room_in found
   unfolding begin_in

@@ -1,24 +1,22 @@
 -- A file begun, received and discarded (document 01, "Uplink", "Lost link"). Each definition gives the answer and what every lent slice
 -- holds afterwards; a refusal leaves all as it was.
-use Rattle.std.specs.Prelude.{ℕ, ◌+◌, cond, List, length, eqb, ltb, Option, Some, None}
+use Rattle.std.specs.Prelude.{ℕ, ◌+◌, cond, List, length, eqb, ltb, Option, Some, None, Result, Ok, Err}
 use Rattle.blocks.specs.Answers.{reserve_number, reserve_map, reserve_owner, release_number, release_map, release_owner, window_number, write_disk}
 use Rattle.table.specs.declared.File.{File}
 use Rattle.table.specs.Table.{no_file, files, put_table, free_of, free_number}
 use Rattle.table.specs.Given.{next_number, given_number, blocks_for}
-use Rattle.files.specs.declared.Begun.{Begun}
-use Rattle.files.specs.declared.Begun.TheVariants.{Refused, Started}
 use Rattle.files.specs.View.{record_at}
 
 -- ---- a new file
 
 -- the answer, and the map, the owners and the table afterwards
 pub record Begins : Type 0 where
-  pub answer : Begun
+  pub answer : Result ℕ ℕ
   pub map : List ℕ
   pub owner : List ℕ
   pub table : List ℕ
 
-abbrev pub begins : Begun → List ℕ → List ℕ → List ℕ → Begins
+abbrev pub begins : Result ℕ ℕ → List ℕ → List ℕ → List ℕ → Begins
 begins answer map owner table = record { answer = answer; map = map; owner = owner; table = table }
 
 -- a new file's record: nothing received, no upload time
@@ -29,18 +27,18 @@ new_file number size = record { number = number; size = size; received = 0; time
 unfoldable pub begin_at : ℕ → ℕ → ℕ → List ℕ → List ℕ → List ℕ → Begins
 begin_at place number size map owner table =
     cond (eqb (reserve_number map (length owner) place (blocks_for size)) 0)
-    (begins (Started place) (reserve_map map owner place (blocks_for size)) (reserve_owner map owner place (blocks_for size))
+    (begins (Ok place) (reserve_map map owner place (blocks_for size)) (reserve_owner map owner place (blocks_for size))
     (put_table table place (new_file number size)))
-    (begins (Refused (reserve_number map (length owner) place (blocks_for size))) map owner table)
+    (begins (Err (reserve_number map (length owner) place (blocks_for size))) map owner table)
 
 -- the lowest free place; 13 ".. or no free file place"
 unfoldable pub begin_in : Option ℕ → ℕ → ℕ → List ℕ → List ℕ → List ℕ → Begins
-begin_in None number size map owner table = begins (Refused (free_number None)) map owner table
+begin_in None number size map owner table = begins (Err (free_number None)) map owner table
 begin_in (Some place) number size map owner table = begin_at place number size map owner table
 
 -- 3 "file numbers .. are used up"
 unfoldable pub begin_with : Option ℕ → ℕ → List ℕ → List ℕ → List ℕ → Begins
-begin_with None size map owner table = begins (Refused (given_number None)) map owner table
+begin_with None size map owner table = begins (Err (given_number None)) map owner table
 begin_with (Some number) size map owner table = begin_in (free_of (files table)) number size map owner table
 
 -- ".. and gets the number after the last one given"
@@ -48,9 +46,9 @@ abbrev pub begin_of : List ℕ → List ℕ → List ℕ → ℕ → ℕ → Beg
 begin_of map owner table last size = begin_with (next_number last) size map owner table
 
 -- document 01's number for an answer: 0 for a file that was begun
-abbrev pub begun_number : Begun → ℕ
-begun_number (Refused n) = n
-begun_number (Started place) = 0
+abbrev pub begun_number : Result ℕ ℕ → ℕ
+begun_number (Err n) = n
+begun_number (Ok place) = 0
 
 -- ---- a file's place
 

@@ -3,9 +3,9 @@
 // The store is four lent slices: `map`, `owner` and `disk` of the block store and the file `table`. The file at place p has the blocks with
 // owner p + 1; its record has its number, its announced length, the bytes received and its upload time, 0 while it is partial.
 //
-// Every function takes any slices and asks nothing of its caller. A refusal is a number of document 01's table and leaves everything as it
-// was. No function but `sound` checks the whole store: what the others do where it is broken is defined too, and the laws in proofs/ say
-// what they do where it is sound: it stays sound, no file but the call's own changes, and the local refusals 33 and 35 do not appear.
+// Every function takes any slices and asks nothing of its caller. A refusal leaves everything as it was. No function but `sound` checks the
+// whole store: what the others do where it is broken is defined too, and the laws in proofs/ say what they do where it is sound: it stays
+// sound, no file but the call's own changes, and the local refusals 33 and 35 do not appear.
 #![tactic(auto)]
 
 ghost use Rattle.std.specs.Prelude.{◌≡◌, ◌+◌, ◌≤◌, ◌<◌, IfOk, cond, ◌++◌, length, set, take, drop, replicate};
@@ -13,8 +13,7 @@ ghost use Rattle.std.proofs.lemmas.List.Edits.{sets};
 ghost use Rattle.refusal.specs.Refusal.{number_of, numbered};
 ghost use Rattle.equation.specs.Parsed.{steps_of};
 ghost use Rattle.stored.specs.Answers.{truth_at};
-ghost use Rattle.table.specs.Table.{files, free_of};
-ghost use Rattle.files.specs.Uploads.{begins, begin_at, begin_in, begin_of, after, place_number, writes, room_number, append_of, frees, discard_of};
+ghost use Rattle.files.specs.Uploads.{begins, begin_at, begin_of, after, place_number, writes, room_number, append_of, frees, discard_of};
 ghost use Rattle.files.specs.Completion.{check_of, complete_of, destinations_at};
 ghost use Rattle.files.specs.Selection.{is_yes, numbers_at, chosen, select_number, selects, select_of};
 ghost use Rattle.files.specs.Sound.{sound_test};
@@ -25,14 +24,8 @@ use table::File;
 
 // ---- a new file
 
-// What beginning a file answers: the number of a refusal, or the place of the file.
-#[derive(Clone, Copy)]
-pub enum Begun {
-    Refused(u8),
-    Started(usize),
-}
-
 // A new file at a place.
+#[tactic(auto, using(refusal::proofs::Laws::not_done), unfolding(crate::specs::Uploads::begin_at, blocks::specs::Answers::reserve_map, blocks::specs::Answers::reserve_owner))]
 fn begin_at(
     map: &mut [u64],
     owner: &mut [u16],
@@ -40,198 +33,157 @@ fn begin_at(
     place: usize,
     number: u32,
     size: u32,
-) -> Begun
-    ensures { begins result map.new owner.new table.new ≡ begin_at place number size map.old owner.old table.old }
+) -> Result<usize, Refusal>
+    ensures { begins (numbered result) map.new owner.new table.new ≡ begin_at place number size map.old owner.old table.old }
 {
     if 256 <= place {
-        return Begun::Refused(33);
+        return Err(Refusal::BadSize);
     }
-    let refused = refusal::number_of(blocks::reserve(
-        map,
-        owner,
-        place as u16,
-        table::blocks_for(size),
-    ));
-    if refused == 0 {
-        // not refused: the place is one of the table
-        let _ = table::put(
-            table,
-            place,
-            File {
-                number,
-                size,
-                received: 0,
-                time: 0,
-            },
-        );
-        return Begun::Started(place);
-    }
-    Begun::Refused(refused)
-}
-
-// A new file with this number at the lowest free place.
-fn begin_in(map: &mut [u64], owner: &mut [u16], table: &mut [u32], number: u32, size: u32) -> Begun
-    ensures { begins result map.new owner.new table.new ≡ begin_in (free_of (files table.old)) number size map.old owner.old table.old }
-{
-    let found = table::free_place(table);
-    match found {
-        None => Begun::Refused(13),
-        Some(place) => begin_at(map, owner, table, place, number, size),
-    }
+    blocks::reserve(map, owner, place as u16, table::blocks_for(size))?;
+    let file = File {
+        number,
+        size,
+        received: 0,
+        time: 0,
+    };
+    // not refused: the place is one of the table
+    let _ = table::put(table, place, file);
+    Ok(place)
 }
 
 // A new file of an announced length, `last` being the last number given: it gets the next number, the lowest free place and the lowest free
 // blocks. 3 where numbers are used up, 13 where no place is free or too few blocks are.
-pub fn begin(map: &mut [u64], owner: &mut [u16], table: &mut [u32], last: u32, size: u32) -> Begun
-    ensures { begins result map.new owner.new table.new ≡ begin_of map.old owner.old table.old last size }
+#[tactic(auto, unfolding(crate::specs::Uploads::begin_with, crate::specs::Uploads::begin_in))]
+pub fn begin(
+    map: &mut [u64],
+    owner: &mut [u16],
+    table: &mut [u32],
+    last: u32,
+    size: u32,
+) -> Result<usize, Refusal>
+    ensures { begins (numbered result) map.new owner.new table.new ≡ begin_of map.old owner.old table.old last size }
 {
-    let given = table::next_number(last);
-    match given {
-        None => Begun::Refused(3),
-        Some(number) => begin_in(map, owner, table, number, size),
-    }
+    let number = table::next_number(last).ok_or(Refusal::UsedUp)?;
+    let place = table::free_place(table).ok_or(Refusal::NoRoom)?;
+    begin_at(map, owner, table, place, number, size)
 }
 
 // ---- a file's place
 
-// 33 for a place past the 256th, 35 for one with no file, else 0.
-fn place_number(place: usize, file: File) -> u8
-    ensures { result ≡ place_number place file }
+// 33 for a place past the 256th, 35 for one with no file.
+#[tactic(auto, unfolding(crate::specs::Uploads::place_number))]
+fn place_holds(place: usize, file: File) -> Result<(), Refusal>
+    ensures value { number_of result ≡ place_number place file }
+    ensures below { IfOk result (λ done. place < 256) }
 {
     if 256 <= place {
-        return 33;
+        return Err(Refusal::BadSize);
     }
     if file.number == 0 {
-        return 35;
+        return Err(Refusal::Unsound);
     }
-    0
+    Ok(())
 }
 
 // ---- further bytes
 
 // Whether the place has a file and n more bytes do not pass its announced length.
-fn room_number(place: usize, file: File, n: usize) -> u8
-    ensures { result ≡ after (place_number place file) (room_number file n) }
+#[tactic(auto, using(refusal::proofs::Laws::not_done), unfolding(crate::specs::Uploads::room_number))]
+fn room_for(place: usize, file: File, n: usize) -> Result<(), Refusal>
+    ensures value { number_of result ≡ after (place_number place file) (room_number file n) }
+    ensures within { IfOk result (λ done. (place < 256) × (file.received + n ≤ file.size)) }
 {
-    let refused = place_number(place, file);
-    if refused != 0 {
-        return refused;
+    place_holds(place, file)?;
+    if file.size < file.received || ((file.size - file.received) as usize) < n {
+        return Err(Refusal::BodySum);
     }
-    if file.size < file.received {
-        return 16;
-    }
-    if ((file.size - file.received) as usize) < n {
-        return 16;
-    }
-    0
+    Ok(())
 }
 
-// The bytes go behind those received: 0. 16 where they would pass the announced length, 35 where the place has no file.
-pub fn append(disk: &mut [u8], owner: &[u16], table: &mut [u32], place: usize, bytes: &[u8]) -> u8
-    ensures { writes result disk.new table.new ≡ append_of disk.old owner.now table.old place bytes.now }
+// The bytes go behind those received. 16 where they would pass the announced length, 35 where the place has no file.
+#[tactic(auto, using(refusal::proofs::Laws::not_done), unfolding(crate::specs::Uploads::append_of, crate::specs::Uploads::append_number, blocks::specs::Answers::write_disk))]
+pub fn append(
+    disk: &mut [u8],
+    owner: &[u16],
+    table: &mut [u32],
+    place: usize,
+    bytes: &[u8],
+) -> Result<(), Refusal>
+    ensures { writes (number_of result) disk.new table.new ≡ append_of disk.old owner.now table.old place bytes.now }
 {
     let file = table::get(table, place);
-    let over = room_number(place, file, bytes.len());
-    if over != 0 {
-        return over;
-    }
-    let wrote = refusal::number_of(blocks::write(
-        disk,
-        owner,
-        place as u16,
-        file.received as usize,
-        bytes,
-    ));
-    if wrote == 0 {
-        let more = bytes.len() as u32;
-        // not refused: the place is one of the table
-        let _ = table::put(
-            table,
-            place,
-            File {
-                number: file.number,
-                size: file.size,
-                received: file.received + more,
-                time: file.time,
-            },
-        );
-    }
-    wrote
+    room_for(place, file, bytes.len())?;
+    blocks::write(disk, owner, place as u16, file.received as usize, bytes)?;
+    let longer = File {
+        received: file.received + bytes.len() as u32,
+        ..file
+    };
+    // not refused: the place is one of the table
+    let _ = table::put(table, place, longer);
+    Ok(())
 }
 
 // ---- a file discarded
 
-// The file's blocks become free and its record empty: 0. 35 where the place has no file.
-pub fn discard(map: &mut [u64], owner: &mut [u16], table: &mut [u32], place: usize) -> u8
-    ensures { frees result map.new owner.new table.new ≡ discard_of map.old owner.old table.old place }
+// The file's blocks become free and its record empty. 35 where the place has no file.
+#[tactic(auto, using(refusal::proofs::Laws::not_done), unfolding(crate::specs::Uploads::discard_of, crate::specs::Uploads::discard_number, blocks::specs::Answers::release_map, blocks::specs::Answers::release_owner))]
+pub fn discard(
+    map: &mut [u64],
+    owner: &mut [u16],
+    table: &mut [u32],
+    place: usize,
+) -> Result<(), Refusal>
+    ensures { frees (number_of result) map.new owner.new table.new ≡ discard_of map.old owner.old table.old place }
 {
-    let file = table::get(table, place);
-    let refused = place_number(place, file);
-    if refused != 0 {
-        return refused;
-    }
-    let released = refusal::number_of(blocks::release(map, owner, place as u16));
-    if released == 0 {
-        // not refused: the place is one of the table
-        let _ = table::put(
-            table,
-            place,
-            File {
-                number: 0,
-                size: 0,
-                received: 0,
-                time: 0,
-            },
-        );
-    }
-    released
+    place_holds(place, table::get(table, place))?;
+    blocks::release(map, owner, place as u16)?;
+    let empty = File {
+        number: 0,
+        size: 0,
+        received: 0,
+        time: 0,
+    };
+    // not refused: the place is one of the table
+    let _ = table::put(table, place, empty);
+    Ok(())
 }
 
 // ---- a file completed
 
-// The number that DATA_END gives for the file, 0 for accepted. One pass over its bytes.
-pub fn check(disk: &[u8], owner: &[u16], table: &[u32], place: usize) -> u8
-    ensures { result ≡ check_of disk.now owner.now table.now place }
+// Whether DATA_END accepts the file, or why not. One pass over its bytes.
+#[tactic(auto, using(refusal::proofs::Laws::not_done), unfolding(crate::specs::Completion::check_of))]
+pub fn check(disk: &[u8], owner: &[u16], table: &[u32], place: usize) -> Result<(), Refusal>
+    ensures { number_of result ≡ check_of disk.now owner.now table.now place }
 {
     let file = table::get(table, place);
-    let refused = place_number(place, file);
-    if refused != 0 {
-        return refused;
-    }
-    refusal::number_of(stored::check(disk, owner, place as u16, file.received as usize, file.size))
+    place_holds(place, file)?;
+    stored::check(disk, owner, place as u16, file.received as usize, file.size)
 }
 
-// Sets the four fields in the file's header and the upload time in its record: 0. Where the items are refused nothing changes.
-pub fn complete(disk: &mut [u8], owner: &[u16], table: &mut [u32], place: usize, time: u32) -> u8
-    ensures { writes result disk.new table.new ≡ complete_of disk.old owner.now table.old place time }
+// Sets the four fields in the file's header and the upload time in its record. Where the items are refused nothing changes.
+#[tactic(auto, using(refusal::proofs::Laws::not_done), unfolding(crate::specs::Completion::complete_of, crate::specs::Completion::complete_number, stored::specs::Answers::set_disk))]
+pub fn complete(
+    disk: &mut [u8],
+    owner: &[u16],
+    table: &mut [u32],
+    place: usize,
+    time: u32,
+) -> Result<(), Refusal>
+    ensures { writes (number_of result) disk.new table.new ≡ complete_of disk.old owner.now table.old place time }
 {
     let file = table::get(table, place);
-    let refused = place_number(place, file);
-    if refused != 0 {
-        return refused;
-    }
-    let done = refusal::number_of(stored::set_fields(
+    place_holds(place, file)?;
+    stored::set_fields(
         disk,
         owner,
         place as u16,
         file.received as usize,
         file.number,
         time,
-    ));
-    if done == 0 {
-        // not refused: the place is one of the table
-        let _ = table::put(
-            table,
-            place,
-            File {
-                number: file.number,
-                size: file.size,
-                received: file.received,
-                time,
-            },
-        );
-    }
-    done
+    )?;
+    // not refused: the place is one of the table
+    let _ = table::put(table, place, File { time, ..file });
+    Ok(())
 }
 
 // The number of the file's destinations, 0 where its header is refused.
@@ -252,6 +204,7 @@ pub fn destinations(disk: &[u8], owner: &[u16], table: &[u32], place: usize) -> 
 // ---- a selection
 
 // Whether the equation is true on the file at a place; the steps are the equation's.
+#[tactic(auto, using(crate::proofs::Calls::truth_past, crate::proofs::Calls::yes_is, stored::proofs::Laws::truth_by_law))]
 fn meets(eq: &[u8], steps: &[u16], disk: &[u8], owner: &[u16], place: usize, received: u32) -> bool
     requires { steps.now ≡ steps_of eq.now }
     ensures { result ≡ is_yes (truth_at eq.now disk.now owner.now place received) }
@@ -352,6 +305,7 @@ pub fn select(
 
 // Whether the store has the facts of refusal 35; `last` is the last file number given and `latest` the last upload time. Linear in blocks
 // and files, but that a number or a time which is not below all later ones is compared with each of them.
+#[tactic(auto, unfolding(crate::specs::Sound::sound_test))]
 pub fn sound(map: &[u64], owner: &[u16], table: &[u32], last: u32, latest: u32) -> bool
     ensures { result ≡ sound_test map.now owner.now table.now last latest }
 {

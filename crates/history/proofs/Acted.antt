@@ -21,13 +21,11 @@ use Rattle.session.specs.State.{with_up, with_down, with_next, with_selection}
 use Rattle.session.specs.Expected.{takes_command}
 use Rattle.blocks.proofs.Owners.{blocks_le}
 use Rattle.table.specs.declared.File.{File}
-use Rattle.std.proofs.Common.{Option, Some, None}
+use Rattle.std.proofs.Common.{Option, Some, None, Result, Ok, Err}
 use Rattle.table.specs.Table.{no_file, files, numbers, uploaded}
 use Rattle.table.specs.Given.{next_number, upload_time}
 use Rattle.table.proofs.Finding.{find_own}
 use Rattle.table.proofs.Records.{get_put_other, uploaded_file, uploaded_time}
-use Rattle.files.specs.declared.Begun.{Begun}
-use Rattle.files.specs.declared.Begun.TheVariants.{Refused, Started}
 use Rattle.files.specs.View.{View, record_at}
 use Rattle.files.specs.Uploads as uploads
 use Rattle.files.specs.Completion.{check_of, completed, complete_number, complete_of, destinations_at}
@@ -197,7 +195,7 @@ module _ (links : List Session) (most : ℕ) (m : Mem) (s : Session) (last : Las
 
     -- a new file stands where none was
     begun_new : (p : ℕ) → BeginLeaves m.map m.owner m.table last.number last.time size p b
-        → Done (turned (upload.begun_turn (Started p) s last number) begun_mem)
+        → Done (turned (upload.begun_turn (Ok p) s last number) begun_mem)
     unfolding upload.begun_turn
     begun_new p l =
         record {
@@ -215,11 +213,11 @@ module _ (links : List Session) (most : ℕ) (m : Mem) (s : Session) (last : Las
           held = λ b. refl;
         }
 
-    begun : (a : Begun) → b.answer ≡ a → Done (turned (upload.begun_turn a s last number) begun_mem)
+    begun : (a : Result ℕ ℕ) → b.answer ≡ a → Done (turned (upload.begun_turn a s last number) begun_mem)
     unfolding upload.begun_turn
-    begun (Refused n) e =
+    begun (Err n) e =
         quiet _ (ap (λ (x : uploads.Begins). x.table) (begin_kept m.map m.owner m.table last.number size n e)) refl refl r
-    begun (Started p) e = begun_new p (begin_leaves m.map m.owner m.table last.number last.time stored.sound size p e)
+    begun (Ok p) e = begun_new p (begin_leaves m.map m.owner m.table last.number last.time stored.sound size p e)
 
   begin_done : (size : ℕ) (g : Option ℕ) → Done (on_frees m (upload.begin_with g s last size m.map m.owner m.table))
   unfolding upload.begin_with upload.begun_as on_frees

@@ -1,4 +1,5 @@
 -- A good state as facts: the sizes and the room, the store's soundness and the sessions', with what calls keep of them, and back.
+use Rattle.std.specs.Prelude.{Result, Ok, Err}
 use mathlib.Core.Path.{◌≡◌, refl}
 use mathlib.Core.Bool.{Bool, true, false, cond}
 use Prim.Native.Nat.{ℕ, ◌-◌, ◌≤◌, ◌<◌}
@@ -14,8 +15,6 @@ use Rattle.links.specs.Sound.{links_sound}
 use Rattle.links.proofs.Facts.{LinksFacts}
 use Rattle.links.proofs.Facts as links
 use Rattle.server.specs.declared.Server.{Server}
-use Rattle.server.specs.declared.check.Check.{Check}
-use Rattle.server.specs.declared.check.Check.TheVariants.{Go, Refuse}
 use Rattle.server.specs.State.{Lent, link_of, map_part, owner_part, table_part}
 use Rattle.server.specs.Check.{sizes_fit, room_fits, fits, sound_parts, in_state, session_check, check_by, check_of}
 use Rattle.server.proofs.CheckLaws.{sizes_true, Room, room_true, both_true}
@@ -104,8 +103,8 @@ module _ (sv : Server) (l : Lent) where
   good_check g session wanted out = rw (g.fits, g.sound)
 
   -- what holds of 34, of 32 and of a session that is there and as wanted, holds of the check
-  pub checked : Good sv l → (session : ℕ) (wanted : Bool) (out : ℕ) (P : Check → Type 0) → P (Refuse 34) → P (Refuse 32)
-      → ((i : ℕ) → i < sv.sessions → (link_of sv i).linked ≡ wanted → 258 ≤ out → P (Go i))
+  pub checked : Good sv l → (session : ℕ) (wanted : Bool) (out : ℕ) (P : Result ℕ ℕ → Type 0) → P (Err 34) → P (Err 32)
+      → ((i : ℕ) → i < sv.sessions → (link_of sv i).linked ≡ wanted → 258 ≤ out → P (Ok i))
       → P (check_of sv l session wanted out)
   unfolding session_check
   checked g session wanted out P a b c =
@@ -117,7 +116,7 @@ module _ (sv : Server) (l : Lent) where
           → in_state wanted (link_of sv (session - 1)).linked ≡ v
           → (w : Bool)
           → ltb out 258 ≡ w
-          → P (cond t (Refuse 34) (cond u (Refuse 34) (cond v (cond w (Refuse 32) (Go (session - 1))) (Refuse 34))))
+          → P (cond t (Err 34) (cond u (Err 34) (cond v (cond w (Err 32) (Ok (session - 1))) (Err 34))))
       go true d u e v f w h = a
       go false d true e v f w h = a
       go false d false e false f w h = a

@@ -1,4 +1,5 @@
 -- Every call leaves a good state good, changes the files in one way and no size.
+use Rattle.std.specs.Prelude.{Result, Ok}
 use mathlib.Core.Path.{◌≡◌, refl}
 use mathlib.Core.Bool.{true, false}
 use mathlib.Core.List.{List}
@@ -9,8 +10,6 @@ use Rattle.session.specs.State.{closed_session, fresh_session}
 use Rattle.table.specs.Table.{files}
 use Rattle.links.proofs.Facts.{part_end}
 use Rattle.server.specs.declared.Server.{Server}
-use Rattle.server.specs.declared.check.Check.{Check}
-use Rattle.server.specs.declared.check.Check.TheVariants.{Go}
 use Rattle.server.specs.State.{Lent, lent, link_of, part, with_part, owner_part, table_part}
 use Rattle.server.specs.Turns.{parts_of}
 use Rattle.sending.specs.Sending.{due_of}
@@ -32,14 +31,14 @@ module _ (sv : Server) (l : Lent) (g : Good sv l) (i : ℕ) (inside : i < sv.ses
   facts : Facts sv l
   facts = good_facts sv l g
 
-  login_leaves : (clock : ℕ) (out : List ℕ) → Leaves sv l (on_login (Go i) sv out clock).done.server l
+  login_leaves : (clock : ℕ) (out : List ℕ) → Leaves sv l (on_login (Ok i) sv out clock).done.server l
   unfolding on_login
   login_leaves clock out =
       leaves_store sv l g i fresh_session l.selected l.held refl refl
       (login_links (files (table_part sv l)) sv.sessions sv.most l.selected l.held sv.links i facts.sessions inside
       facts.links)
 
-  lose_leaves : Leaves sv l (on_lose (Go i) sv l.selected l.held).done.server (lent_lost l (on_lose (Go i) sv l.selected l.held))
+  lose_leaves : Leaves sv l (on_lose (Ok i) sv l.selected l.held).done.server (lent_lost l (on_lose (Ok i) sv l.selected l.held))
   unfolding on_lose
   lose_leaves =
       let x : i * sv.most + sv.most ≤ length l.selected =
@@ -52,7 +51,7 @@ module _ (sv : Server) (l : Lent) (g : Good sv l) (i : ℕ) (inside : i < sv.ses
       (lose_links (files (table_part sv l)) sv.sessions sv.most l.selected l.held sv.links i facts.sessions inside
       facts.links)
 
-  request_leaves : (link_of sv i).linked ≡ true → (out : List ℕ) → Leaves sv l (on_request (Go i) sv l out).done.server l
+  request_leaves : (link_of sv i).linked ≡ true → (out : List ℕ) → Leaves sv l (on_request (Ok i) sv l out).done.server l
   unfolding on_request due_as
   request_leaves linked out =
       leaves_store sv l g i
@@ -68,7 +67,7 @@ module _ (sv : Server) (l : Lent) (g : Good sv l) where
   login_call : (session clock : ℕ) (out : List ℕ) → Leaves sv l (login_of sv l out session clock).done.server l
   unfolding login_of login_by on_login
   login_call session clock out =
-      checked sv l g session false (length out) (λ (k : Check). Leaves sv l (on_login k sv out clock).done.server l)
+      checked sv l g session false (length out) (λ (k : Result ℕ ℕ). Leaves sv l (on_login k sv out clock).done.server l)
       (leaves_all sv l g) (leaves_all sv l g)
       (λ i inside linked room. login_leaves sv l g i inside clock out)
 
@@ -77,14 +76,14 @@ module _ (sv : Server) (l : Lent) (g : Good sv l) where
   unfolding receive_of receive_by on_check
   receive_call session clock input out =
       checked sv l g session true (length out)
-      (λ (k : Check). Leaves sv l (on_check k sv l out clock input).done.server (on_check k sv l out clock input).lent)
+      (λ (k : Result ℕ ℕ). Leaves sv l (on_check k sv l out clock input).done.server (on_check k sv l out clock input).lent)
       (leaves_all sv l g) (leaves_all sv l g)
       (λ i inside linked room. step_leaves sv l g i inside linked clock input out)
 
   request_call : (session : ℕ) (out : List ℕ) → Leaves sv l (request_of sv l out session).done.server l
   unfolding request_of request_by on_request
   request_call session out =
-      checked sv l g session true (length out) (λ (k : Check). Leaves sv l (on_request k sv l out).done.server l)
+      checked sv l g session true (length out) (λ (k : Result ℕ ℕ). Leaves sv l (on_request k sv l out).done.server l)
       (leaves_all sv l g) (leaves_all sv l g)
       (λ i inside linked room. request_leaves sv l g i inside linked out)
 
@@ -92,7 +91,7 @@ module _ (sv : Server) (l : Lent) (g : Good sv l) where
   unfolding lose_of lose_by on_lose
   lose_call session =
       checked sv l g session true 258
-      (λ (k : Check). Leaves sv l (on_lose k sv l.selected l.held).done.server (lent_lost l (on_lose k sv l.selected l.held)))
+      (λ (k : Result ℕ ℕ). Leaves sv l (on_lose k sv l.selected l.held).done.server (lent_lost l (on_lose k sv l.selected l.held)))
       (leaves_all sv l g) (leaves_all sv l g)
       (λ i inside linked room. lose_leaves sv l g i inside)
 

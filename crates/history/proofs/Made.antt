@@ -1,5 +1,6 @@
 -- A server just made is good: the empty store is sound, and no session is open.
-use mathlib.Core.Path.{◌≡◌, refl, sym, ◌∙◌, subst}
+use Rattle.std.specs.Prelude.{Result, Ok, Err, IsOk}
+use mathlib.Core.Path.{◌≡◌, refl, ap, sym, ◌∙◌, subst}
 use mathlib.Core.Bool.{true}
 use mathlib.Core.List.{List, ◌++◌}
 use Prim.Native.Nat.{ℕ, ◌*◌, ◌≤◌}
@@ -7,6 +8,8 @@ use native.Mathlib.Omega.{arith}
 use borrow.Author.Tests.{le-leb, eq-eqb}
 use lib.ListN.{length, take, drop, replicate, length-replicate}
 use lib.Seq.{length-take-le}
+use Rattle.refusal.specs.declared.Refusal.{Refusal}
+use Rattle.refusal.specs.Refusal.{numbered}
 use Rattle.blocks.specs.Owners.{map_of}
 use Rattle.blocks.specs.Check.{words_for}
 use Rattle.blocks.specs.Answers.{make_map, make_owner}
@@ -17,10 +20,10 @@ use Rattle.links.proofs.Facts.{closed_facts}
 use Rattle.server.specs.declared.Server.{Server}
 use Rattle.server.specs.State.{Lent, lent, words, table_part}
 use Rattle.server.specs.Check.{sizes_fit}
-use Rattle.server.specs.Making.{new_server, empty_of, make_of, zeroed}
+use Rattle.server.specs.Making.{Emptied, Makes, makes, new_server, empty_of, make_of, zeroed}
 use Rattle.server.proofs.CheckLaws.{sizes_true, Room, room_true, both_true}
 use Rattle.server.proofs.CheckLaws as check
-use Rattle.history.specs.Calls.{Start, legal, made, State, state}
+use Rattle.history.specs.Calls.{Start, legal, making, made, State, state}
 use Rattle.history.specs.Good.{Good}
 use Rattle.history.proofs.Parts.{front_back, front_length}
 use Rattle.history.proofs.GoodFacts.{least_blocks, facts_good}
@@ -92,3 +95,15 @@ module _ (s : Start) where
     where
       go : Sized → Good (made s).server (made s).lent
       go z = subst (λ (t : State). Good t.server t.lent) (sym (made_is e z)) (left_good e z)
+
+-- making with legal sizes, in slices that have room, is not refused
+abbrev is_made : Result Server ℕ → ℕ
+is_made (Ok sv) = 1
+is_made (Err n) = 0
+
+pub made_ok : (s : Start) (r : Result Server Refusal) (l : Emptied) → legal s ≡ true → makes (numbered r) l ≡ making s → IsOk r
+unfolding make_of
+made_ok s (Ok sv) l h e = refl
+made_ok s (Err refusal) l h e =
+    let m : is_made (making s).made ≡ 1 = rw h in
+    let z : ◌≡◌ {A = ℕ} 0 1 = ap (λ (x : Makes). is_made x.made) e ∙ m in absurd (omega arith)

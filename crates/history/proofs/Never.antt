@@ -1,4 +1,5 @@
 -- For a good state no call answers 33 or 35: what is refused locally is refused by 34 or 32.
+use Rattle.std.specs.Prelude.{Result}
 use mathlib.Core.Path.{◌≡◌, refl, subst}
 use mathlib.Core.Bool.{Bool, true, false, cond}
 use mathlib.Core.List.{List, ◌++◌}
@@ -21,8 +22,6 @@ use Rattle.session.specs.Reply.{tell, answered}
 use Rattle.table.specs.declared.File.{File}
 use Rattle.table.specs.Table.{files, file_at}
 use Rattle.server.specs.declared.Server.{Server}
-use Rattle.server.specs.declared.check.Check.{Check}
-use Rattle.server.specs.declared.check.Check.TheVariants.{Go}
 use Rattle.server.specs.State.{Lent, link_of, part, owner_part, table_part}
 use Rattle.server.specs.Turns.{hear_of}
 use Rattle.listing.specs.declared.Filled.{Filled}
@@ -126,19 +125,19 @@ module _ (sv : Server) (l : Lent) (g : Good sv l) where
   login_local : (session clock : ℕ) (out : List ℕ) → LocalOnly (login_of sv l out session clock).done.answer
   unfolding login_of login_by on_login
   login_local session clock out =
-      checked sv l g session false (length out) (λ (k : Check). LocalOnly (on_login k sv out clock).done.answer) by_34 by_32
+      checked sv l g session false (length out) (λ (k : Result ℕ ℕ). LocalOnly (on_login k sv out clock).done.answer) by_34 by_32
       (λ i inside linked room. none_local _ (reply_unrefused (reply.Login clock) 0 out room))
 
   receive_local : (session clock : ℕ) (input out : List ℕ) → LocalOnly (receive_of sv l out session clock input).done.answer
   unfolding receive_of receive_by on_check step_of heard_by answered_by
   receive_local session clock input out =
-      checked sv l g session true (length out) (λ (k : Check). LocalOnly (on_check k sv l out clock input).done.answer) by_34 by_32
+      checked sv l g session true (length out) (λ (k : Result ℕ ℕ). LocalOnly (on_check k sv l out clock input).done.answer) by_34 by_32
       (λ i inside linked room. none_local _ (reply_unrefused _ (hear_of l.held i (link_of sv i).held input).framed.taken out room))
 
   request_local : (session : ℕ) (out : List ℕ) → LocalOnly (request_of sv l out session).done.answer
   unfolding request_of request_by on_request due_as
   request_local session out =
-      checked sv l g session true (length out) (λ (k : Check). LocalOnly (on_request k sv l out).done.answer) by_34 by_32
+      checked sv l g session true (length out) (λ (k : Result ℕ ℕ). LocalOnly (on_request k sv l out).done.answer) by_34 by_32
       (λ i inside linked room.
       none_local _
       (due_unrefused (link_of sv i).down (link_of sv i) l.disk (owner_part sv l) (files (table_part sv l)) (part (i * sv.most) sv.most l.selected) out
@@ -147,7 +146,7 @@ module _ (sv : Server) (l : Lent) (g : Good sv l) where
   lose_local : (session : ℕ) → LocalOnly (lose_of sv l session).done.answer
   unfolding lose_of lose_by on_lose
   lose_local session =
-      checked sv l g session true 258 (λ (k : Check). LocalOnly (on_lose k sv l.selected l.held).done.answer) by_34 by_32
+      checked sv l g session true 258 (λ (k : Result ℕ ℕ). LocalOnly (on_lose k sv l.selected l.held).done.answer) by_34 by_32
       (λ i inside linked room. none_local _ (quiet 0))
 
   pub local_only : (c : Call) → LocalOnly (call_of sv l c).done.answer

@@ -1,6 +1,6 @@
 -- The calls of a driver, and the state after a history of them (demand 3): "From an empty store, after any calls, links lost at any byte and
 -- clocks running backwards included". Assumes nothing.
-use Rattle.std.specs.Prelude.{Bool, List, [], ℕ, length}
+use Rattle.std.specs.Prelude.{Bool, List, [], ℕ, length, Result, Ok, Err}
 use Rattle.server.specs.declared.Server.{Server}
 use Rattle.server.specs.State.{Lent, lent, Outcome, outcome}
 use Rattle.server.specs.Check.{fits}
@@ -51,10 +51,15 @@ making s =
     make_of s.blocks s.files s.sessions s.most (length s.lent.disk) s.lent.map s.lent.owner s.lent.table
     s.lent.selected s.lent.held
 
+-- the server that making answers; where it is refused, the one with these sizes
+abbrev pub server_in : Start → Result Server ℕ → Server
+server_in s (Ok sv) = sv
+server_in s (Err n) = new_server s.blocks s.files s.sessions s.most
+
 -- "From an empty store"
 unfoldable pub made : Start → State
 made s =
-    state (making s).made.server
+    state (server_in s (making s).made)
     (lent s.lent.disk (making s).lent.map (making s).lent.owner (making s).lent.table (making s).lent.selected
     (making s).lent.held)
 

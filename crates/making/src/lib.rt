@@ -2,12 +2,14 @@
 #![tactic(auto)]
 
 ghost use Rattle.std.specs.Prelude.{◌≡◌, ◌*◌, ◌≤◌, length};
+ghost use Rattle.refusal.specs.Refusal.{numbered};
 ghost use Rattle.server.specs.State.{words};
 ghost use Rattle.server.specs.Making.{new_server, EmptyPre, emptied, empty_of, makes, make_of};
 
 use carry::turn::Last;
+use refusal::Refusal;
+use server::Server;
 use server::check::Lengths;
-use server::{Made, Server};
 
 // Nothing given yet, and no session open.
 fn new_server(blocks: usize, files: usize, sessions: usize, most: usize) -> Server
@@ -64,20 +66,17 @@ pub fn make(
     table: &mut [u32],
     selected: &mut [u32],
     held: &mut [u8],
-) -> Made
-    ensures { makes result (emptied map.new owner.new table.new selected.new held.new)
+) -> Result<Server, Refusal>
+    ensures { makes (numbered result) (emptied map.new owner.new table.new selected.new held.new)
         ≡ make_of blocks files sessions most (length disk.now) map.old owner.old table.old selected.old held.old }
 {
     let server = new_server(blocks, files, sessions, most);
     let n = Lengths::of(disk, map, owner, table, selected, held);
-    if server::check::fits_all(server, n) {
-        empty(
-            blocks, files, sessions, most, map, owner, table, selected, held,
-        );
-        return Made { refused: 0, server };
+    if !server::check::fits_all(server, n) {
+        return Err(Refusal::BadSize);
     }
-    Made {
-        refused: 33,
-        server,
-    }
+    empty(
+        blocks, files, sessions, most, map, owner, table, selected, held,
+    );
+    Ok(server)
 }

@@ -22,6 +22,7 @@ pub(crate) fn is_same(x: &[u8], y: &[u8]) -> bool
 }
 
 // Whether a TAB is among bytes. All are looked at, with no early end: the least distance from it is found for many bytes at once.
+// `input` has the same for the newline, stated by a definition of its own (`line_length`): one function for both would need a third.
 fn has_tab(bytes: &[u8]) -> bool
     ensures { result ≡ nat_lt (fields_end 0 bytes.now) (length bytes.now) }
 {

@@ -1,4 +1,5 @@
 -- Laws on the rows of the table of names, and on the search of a name. Assumes nothing.
+use Rattle.std.proofs.Common.{Ok, Err}
 use mathlib.Core.Path.{◌≡◌, refl, sym, ap, ◌∙◌}
 use mathlib.Core.Bool.{Bool, true, false, cond}
 use mathlib.Core.List.{List, [], ◌∷◌, map}
@@ -15,7 +16,6 @@ use Rattle.text.specs.Match.{lower}
 use Rattle.names.specs.Names.{Named, items, small, width_in, usual_width}
 use Rattle.names.specs.Rows.{in23, row_for, nameless, row_at, row_in, row_of, shared, found_in, found}
 use Rattle.names.specs.declared.table.Row.{Row}
-use Rattle.names.specs.declared.table.Found.TheVariants.{Known, Unknown}
 
 -- ---- the rows
 
@@ -178,7 +178,7 @@ module _ (text : List ℕ) (k most same : ℕ) (r : Row) (e : r ≡ row_at k) (h
   here : same ≡ shared (small (get_or items k nameless)) text
   here = s ∙ ap (λ (l : List ℕ). shared l text) (row_letters k r e)
 
-  pub name_known : same ≡ r.size → Known r.id r.size ≡ found text
+  pub name_known : same ≡ r.size → Ok (r.id, r.size) ≡ found text
   unfolding found_in
   name_known i =
       let z : eqb (shared (small (get_or items k nameless)) text) (length (small (get_or items k nameless))) ≡ true =
@@ -192,7 +192,7 @@ module _ (text : List ℕ) (k most same : ℕ) (r : Row) (e : r ≡ row_at k) (h
       ne_eqb _ _ (λ y. i (here ∙ y ∙ sym (row_size k r e))) in
       inv ∙ rw (rows_from_law k h, z, add-one k, n, here)
 
-pub name_unknown : (text : List ℕ) (k most : ℕ) → 28 ≤ k → found text ≡ found_in (drop k items) most text → Unknown most ≡ found text
+pub name_unknown : (text : List ℕ) (k most : ℕ) → 28 ≤ k → found text ≡ found_in (drop k items) most text → Err most ≡ found text
 unfolding found_in
 name_unknown text k most h inv = sym (inv ∙ rw (no_rows k h))
 

@@ -1,4 +1,5 @@
 -- The search of a name at the front of a text: a name that is found stands there, and where none is found no name goes on. Assumes nothing.
+use Rattle.std.proofs.Common.{Result, Ok, Err}
 use mathlib.Core.Path.{◌≡◌, refl, sym, ap, ◌∙◌}
 use mathlib.Core.Bool.{Bool, true, false, ◌||◌, cond}
 use mathlib.Core.List.{List, [], ◌∷◌, ◌++◌, map}
@@ -14,7 +15,6 @@ use Rattle.lines.specs.Commands.{same}
 use Rattle.lines.proofs.FieldLaws.{same_equal}
 use Rattle.names.specs.Names.{Named, small, begins_with, id_in, id_named, starts_in}
 use Rattle.names.specs.Rows.{shared, found_in}
-use Rattle.names.specs.declared.table.Found.TheVariants.{Known, Unknown}
 use Rattle.names.proofs.Tests as tests
 use Rattle.names.proofs.NameLaws as names
 
@@ -84,17 +84,21 @@ pub record KnownAt (bs : List ℕ) (id n : ℕ) : Type 0 where
   pub five : 5 ≤ n
   pub within : n ≤ length bs
 
-pub found_known : (xs : List Named) (m : ℕ) (bs : List ℕ) (id n : ℕ) → names.AllListed xs → found_in xs m bs ≡ Known id n → KnownAt bs id n
+known_same : (p q : ℕ × ℕ) → ◌≡◌ {A = Result (ℕ × ℕ) ℕ} (Ok p) (Ok q) → p ≡ q
+known_same p q e = cc
+
+pub found_known : (xs : List Named) (m : ℕ) (bs : List ℕ) (id n : ℕ) → names.AllListed xs → found_in xs m bs ≡ Ok (id, n) → KnownAt bs id n
 unfolding found_in names.AllListed
 found_known [] m bs id n h e = let z : ◌≡◌ {A = ℕ} 0 1 = cc in absurd (omega arith)
 found_known (x ∷ xs) m bs id n h e =
     by (found_known xs (max m (shared (small x) bs)) bs id n h.1) (eqb (shared (small x) bs) (length (small x))) refl e
   where
-    by : (found_in xs (max m (shared (small x) bs)) bs ≡ Known id n → KnownAt bs id n) → (t : Bool) → eqb (shared (small x) bs) (length (small x)) ≡ t
-        → cond t (Known x.id (length (small x))) (found_in xs (max m (shared (small x) bs)) bs) ≡ Known id n → KnownAt bs id n
+    by : (found_in xs (max m (shared (small x) bs)) bs ≡ Ok (id, n) → KnownAt bs id n) → (t : Bool) → eqb (shared (small x) bs) (length (small x)) ≡ t
+        → cond t (Ok (x.id, length (small x))) (found_in xs (max m (shared (small x) bs)) bs) ≡ Ok (id, n) → KnownAt bs id n
     by ih true f z =
-        let i : x.id ≡ id = cc in
-        let k : length (small x) ≡ n = cc in
+        let p : ◌≡◌ {A = ℕ × ℕ} (x.id, length (small x)) (id, n) = known_same (x.id, length (small x)) (id, n) z in
+        let i : x.id ≡ id = ap (λ (q : ℕ × ℕ). q.0) p in
+        let k : length (small x) ≡ n = ap (λ (q : ℕ × ℕ). q.1) p in
         let s : shared (small x) bs ≡ n = eqb-true (shared (small x) bs) (length (small x)) f ∙ k in
         record {
           letters = small x;
@@ -126,7 +130,7 @@ better x m bs h n b = by (ltb m (shared (small x) bs)) refl
         rw z (some_letters (small x) h.walks refl (omega (arith, shared_most (small x) bs)))
     by false e = let z : max m (shared (small x) bs) ≡ m = omega (arith, ltb-false m (shared (small x) bs) e) in rw z b
 
-pub found_unknown : (xs : List Named) (m : ℕ) (bs : List ℕ) (most : ℕ) → names.AllListed xs → Best bs m → found_in xs m bs ≡ Unknown most
+pub found_unknown : (xs : List Named) (m : ℕ) (bs : List ℕ) (most : ℕ) → names.AllListed xs → Best bs m → found_in xs m bs ≡ Err most
     → UnknownAt xs m bs most
 unfolding found_in names.AllListed starts_in
 found_unknown [] m bs most h b e = let z : m ≡ most = cc in rw (← z) (record { least = omega arith; best = b; no_more_law = λ i. refl })
@@ -137,10 +141,10 @@ found_unknown (x ∷ xs) m bs most h b e =
         → begins_with (map lower (take (suc most) bs)) (small x) || starts_in xs (map lower (take (suc most) bs)) ≡ false
     other y z = rw (tests.no (begins_with (map lower (take (suc most) bs)) (small x)) y, z)
 
-    by : (Best bs (max m (shared (small x) bs)) → found_in xs (max m (shared (small x) bs)) bs ≡ Unknown most → UnknownAt xs
+    by : (Best bs (max m (shared (small x) bs)) → found_in xs (max m (shared (small x) bs)) bs ≡ Err most → UnknownAt xs
         (max m (shared (small x) bs)) bs most)
         → (t : Bool) → eqb (shared (small x) bs) (length (small x)) ≡ t
-        → cond t (Known x.id (length (small x))) (found_in xs (max m (shared (small x) bs)) bs) ≡ Unknown most → UnknownAt (x ∷ xs) m bs most
+        → cond t (Ok (x.id, length (small x))) (found_in xs (max m (shared (small x) bs)) bs) ≡ Err most → UnknownAt (x ∷ xs) m bs most
     by ih true f z = let y : ◌≡◌ {A = ℕ} 0 1 = cc in absurd (omega arith)
     by ih false f z =
         let u = ih (better x m bs h.0 (eqb-false (shared (small x) bs) (length (small x)) f) b) z in

@@ -1,11 +1,9 @@
 -- The table of names as the code has it, and the search of a name at the front of a text. Assumes nothing.
-use Rattle.std.specs.Prelude.{cond, List, [], ◌∷◌, ◌++◌, ℕ, suc, ◌-◌, max, eqb, length, get_or, replicate}
+use Rattle.std.specs.Prelude.{cond, List, [], ◌∷◌, ◌++◌, ℕ, suc, ◌-◌, max, eqb, length, get_or, replicate, Result, Ok, Err}
 use Rattle.packet.specs.Names.{bytes_of}
 use Rattle.text.specs.Match.{lower}
 use Rattle.names.specs.Names.{Named, named, items, small}
 use Rattle.names.specs.declared.table.Row.{Row}
-use Rattle.names.specs.declared.table.Found.{Found}
-use Rattle.names.specs.declared.table.Found.TheVariants.{Known, Unknown}
 
 -- a name in 23 bytes, the length of the longest
 abbrev pub in23 : List ℕ → List ℕ
@@ -36,10 +34,10 @@ shared (c ∷ cs) [] = 0
 shared (c ∷ cs) (b ∷ bs) = cond (eqb (lower b) c) (suc (shared cs bs)) 0
 
 -- the name that bytes begin with, by its id and its length; or how many bytes a name begins with, `most` those of the names before
-unfoldable pub found_in : List Named → ℕ → List ℕ → Found
-found_in [] most bs = Unknown most
+unfoldable pub found_in : List Named → ℕ → List ℕ → Result (ℕ × ℕ) ℕ
+found_in [] most bs = Err most
 found_in (x ∷ xs) most bs =
-    cond (eqb (shared (small x) bs) (length (small x))) (Known x.id (length (small x))) (found_in xs (max most (shared (small x) bs)) bs)
+    cond (eqb (shared (small x) bs) (length (small x))) (Ok (x.id, length (small x))) (found_in xs (max most (shared (small x) bs)) bs)
 
-abbrev pub found : List ℕ → Found
+abbrev pub found : List ℕ → Result (ℕ × ℕ) ℕ
 found bs = found_in items 0 bs

@@ -1,25 +1,15 @@
 // Kinds of bytes.
 ghost use Rattle.std.specs.Prelude.{◌≡◌, get_or};
-ghost use Rattle.text.specs.Match.{lower};
 ghost use Rattle.lines.specs.Numerals.{digit};
 ghost use Rattle.names.specs.Kinds.{is_blank, is_printed, hex_of};
+
+use text::lowered;
 
 // The byte at a place of a text, 0 behind its end.
 pub fn byte_of(text: &[u8], i: usize) -> u8
     ensures { result ≡ get_or text.now i 0 }
 {
     text.get(i).copied().unwrap_or(0)
-}
-
-// A byte, an ASCII letter lowered.
-#[tactic(auto, unfolding(text::specs::Match::lower))]
-pub fn lowered(b: u8) -> u8
-    ensures { result ≡ lower b }
-{
-    match b {
-        b'A'..=b'Z' => b + 32,
-        _ => b,
-    }
 }
 
 // A byte is a decimal digit.

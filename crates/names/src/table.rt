@@ -4,7 +4,7 @@ ghost use Rattle.text.specs.Match.{lower};
 ghost use Rattle.names.specs.Names.{items, small};
 ghost use Rattle.names.specs.Rows.{nameless, row_at, row_of, shared, found};
 
-use crate::bytes::lowered;
+use text::lowered;
 
 // A name in capitals, the first `size` of the letters, with its id and usual width; of size 0 where there is none.
 #[derive(Clone, Copy)]
@@ -13,13 +13,6 @@ pub struct Row {
     pub size: usize,
     pub id: u16,
     pub width: u8,
-}
-
-// The name that a text begins with, by its id and its length; or how many bytes of the text a name begins with.
-#[derive(Clone, Copy)]
-pub enum Found {
-    Known(u16, usize),
-    Unknown(usize),
 }
 
 const NAMES: [[u8; 23]; 28] = [
@@ -131,8 +124,8 @@ fn shares_a_letter(k: usize, text: &[u8]) -> bool
     lowered(text[0]) == FIRSTS[k]
 }
 
-// The name that a text begins with.
-pub fn find_name(text: &[u8]) -> Found
+// The name that a text begins with, by its id and its length. Refused by how many bytes of the text a name begins with: there it is wrong.
+pub fn find_name(text: &[u8]) -> Result<(u16, usize), usize>
     ensures { result ≡ found text.now }
 {
     let mut most = 0;
@@ -143,10 +136,10 @@ pub fn find_name(text: &[u8]) -> Found
             let size = row.size;
             let same = shared_letters(&letters[..size], text);
             if same == size {
-                return Found::Known(row.id, size);
+                return Ok((row.id, size));
             }
             most = most.max(same);
         }
     }
-    Found::Unknown(most)
+    Err(most)
 }

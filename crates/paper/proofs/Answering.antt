@@ -25,7 +25,7 @@ module _ (text out buffer : List ℕ) where
     pub place_within : w.at ≤ length text
     place_within = (first_wrong text w.at w.reason wrong_outcome).within
 
-    pub text_wrong : answers (answer.Wrong (w.at + 1) w.reason) out ≡ bytes_of text out
+    pub text_wrong : answers (Ok (answer.Wrong (w.at + 1) w.reason)) out ≡ bytes_of text out
     unfolding answered
     text_wrong = rw wrong_outcome
 
@@ -33,7 +33,7 @@ module _ (text out buffer : List ℕ) where
     sum_is : SumIs text 0 16 buffer 0 e m now
     sum_is = subst (λ (r : Reading). SumRead text 0 16 buffer 0 r now) z s
 
-    pub text_over : e < length text → answers (answer.Wrong (e + 1) reason.Connective) out ≡ bytes_of text out
+    pub text_over : e < length text → answers (Ok (answer.Wrong (e + 1) reason.Connective)) out ≡ bytes_of text out
     unfolding answered
     text_over h =
         let f = sum_is in

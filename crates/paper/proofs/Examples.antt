@@ -1,5 +1,6 @@
 -- Worked texts at the limits of the result, computed: 256 bytes are given, 257 are refused, and 256 are not written where there is room for 255. What texts
 -- mean, and where and why they are wrong, is computed in crates/grammar/proofs/Examples.antt. Assumes nothing.
+use Rattle.std.proofs.Common.{Ok, Err}
 use mathlib.Core.Path.{◌≡◌, refl}
 use mathlib.Core.List.{List, [], ◌∷◌, ◌++◌, map}
 use Prim.Native.Nat.{ℕ}
@@ -43,12 +44,12 @@ joined n = titled n ++ letters.bytes_of "&&PRIORITY>2"
 
 rows : List Row
 rows =
-    row (titled 252) (replicate 257 0) (answers (answer.Bytes 256) (titled_bytes 252 ++ 0 ∷ []))
-    ∷ row (titled 252) (replicate 256 0) (answers (answer.Bytes 256) (titled_bytes 252))
-    ∷ row (titled 253) (replicate 257 0) (answers answer.Long (replicate 257 0))
-    ∷ row (titled 252) (replicate 255 0) (answers (answer.Refused 33) (replicate 255 0))
-    ∷ row (joined 246) (replicate 256 0) (answers (answer.Bytes 256) (titled_bytes 246 ++ (144 ∷ 24 ∷ 0 ∷ 1 ∷ 2 ∷ 1 ∷ [])))
-    ∷ row (joined 247) (replicate 257 0) (answers answer.Long (replicate 257 0))
+    row (titled 252) (replicate 257 0) (answers (Ok (answer.Bytes 256)) (titled_bytes 252 ++ 0 ∷ []))
+    ∷ row (titled 252) (replicate 256 0) (answers (Ok (answer.Bytes 256)) (titled_bytes 252))
+    ∷ row (titled 253) (replicate 257 0) (answers (Ok answer.Long) (replicate 257 0))
+    ∷ row (titled 252) (replicate 255 0) (answers (Err 33) (replicate 255 0))
+    ∷ row (joined 246) (replicate 256 0) (answers (Ok (answer.Bytes 256)) (titled_bytes 246 ++ (144 ∷ 24 ∷ 0 ∷ 1 ∷ 2 ∷ 1 ∷ [])))
+    ∷ row (joined 247) (replicate 257 0) (answers (Ok answer.Long) (replicate 257 0))
     ∷ []
 
 computed : map said rows ≡ map want rows

@@ -1,4 +1,5 @@
 -- Bytes put one after the other, and the result's delivery. Assumes nothing.
+use Rattle.std.proofs.Common.{Ok, Err}
 use mathlib.Core.Path.{◌≡◌, refl}
 use mathlib.Core.Bool.{Bool, true, false, cond}
 use mathlib.Core.List.{List, [], ◌∷◌, ◌++◌}
@@ -44,10 +45,10 @@ unfolding delivered_from delivered
 from_buffer buffer bytes out m l e = rw e (by (leb (length bytes) 256) refl)
   where
     by : (t : Bool) → leb (length bytes) 256 ≡ t
-        → cond t (cond (leb (length bytes) (length out)) (answers (answer.Bytes (length bytes))
-        (take (length bytes) (sets buffer 0 bytes) ++ drop (length bytes) out)) (answers (answer.Refused 33) out)) (answers answer.Long out)
-        ≡ cond t (cond (leb (length bytes) (length out)) (answers (answer.Bytes (length bytes)) (bytes ++ drop (length bytes) out))
-        (answers (answer.Refused 33) out)) (answers answer.Long out)
+        → cond t (cond (leb (length bytes) (length out)) (answers (Ok (answer.Bytes (length bytes)))
+        (take (length bytes) (sets buffer 0 bytes) ++ drop (length bytes) out)) (answers (Err 33) out)) (answers (Ok answer.Long) out)
+        ≡ cond t (cond (leb (length bytes) (length out)) (answers (Ok (answer.Bytes (length bytes))) (bytes ++ drop (length bytes) out))
+        (answers (Err 33) out)) (answers (Ok answer.Long) out)
     by false h = refl
     by true h =
         let fit : 0 + length bytes ≤ length buffer = omega (arith, leb-true (length bytes) 256 h) in

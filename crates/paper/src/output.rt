@@ -3,9 +3,11 @@ ghost use Rattle.std.specs.Prelude.{◌≡◌, true, ◌++◌, [], ◌∷◌, �
 ghost use Rattle.std.proofs.lemmas.List.Edits.{sets};
 ghost use Rattle.numbers.specs.Numbers.{two, four};
 ghost use Rattle.equation.specs.Relation.{width};
+ghost use Rattle.refusal.specs.Refusal.{numbered};
 ghost use Rattle.paper.specs.Answer.{answers, delivered_from};
 
 use crate::Answer;
+use refusal::Refusal;
 
 // A further byte, where there is room for it; and how many there are then.
 pub(crate) fn put(out: &mut [u8], n: usize, b: u8) -> usize
@@ -60,16 +62,16 @@ pub(crate) fn put_number(out: &mut [u8], n: usize, size: u8, v: u32) -> usize
 
 // The first m bytes of a buffer, delivered.
 #[tactic(auto, unfolding(crate::specs::Answer::delivered_from))]
-pub(crate) fn deliver(bytes: &[u8], m: usize, out: &mut [u8]) -> Answer
+pub(crate) fn deliver(bytes: &[u8], m: usize, out: &mut [u8]) -> Result<Answer, Refusal>
     requires { length bytes.now ≡ 256 }
-    ensures { answers result out.new ≡ delivered_from bytes.now m out.old }
+    ensures { answers (numbered result) out.new ≡ delivered_from bytes.now m out.old }
 {
     if 256 < m {
-        return Answer::Long;
+        return Ok(Answer::Long);
     }
     if out.len() < m {
-        return Answer::Refused(33);
+        return Err(Refusal::BadSize);
     }
     out[..m].copy_from_slice(&bytes[..m]);
-    Answer::Bytes(m)
+    Ok(Answer::Bytes(m))
 }

@@ -1,6 +1,8 @@
 -- A program's own start: its memory is large enough, and its turns begin at the server just made. Assumes nothing.
-use Rattle.std.proofs.Common.{◌≡◌, ℕ, ◌≤◌, true, false, List, length, refl, arith}
-use Rattle.server.specs.declared.Made.{Made}
+use Rattle.std.proofs.Common.{◌≡◌, ℕ, ◌≤◌, true, false, List, length, refl, arith, Result, Ok}
+use Rattle.refusal.specs.declared.Refusal.{Refusal}
+use Rattle.refusal.specs.Refusal.{numbered}
+use Rattle.server.specs.declared.Server.{Server}
 use Rattle.server.specs.State.{Lent, lent}
 use Rattle.server.specs.Check.{sizes_fit, room_fits}
 use Rattle.server.specs.Making.{makes, emptied}
@@ -40,17 +42,18 @@ ready room few m s =
       };
     }
 
-pub new_going : (p : Pass) (m : Made) → p ≡ new_of m.server → over_of p.stage ≡ false
+pub new_going : (p : Pass) (sv : Server) → p ≡ new_of sv → over_of p.stage ≡ false
 unfolding over_of
-new_going p m e = rw e
+new_going p sv e = rw e
 
-pub made_played : (room : ℕ) (more : More) (l : Lent) (input bytes text : List ℕ) (m : Made) (map owner table selected held : List ℕ) (p : Pass) (after : Passing)
-    → makes m (emptied map owner table selected held) ≡ making (start_of l)
-    → p ≡ new_of m.server
+pub made_played : (room : ℕ) (more : More) (l : Lent) (input bytes text : List ℕ) (r : Result Server Refusal) (sv : Server) (map owner table selected held : List ℕ) (p : Pass) (after : Passing)
+    → makes (numbered r) (emptied map owner table selected held) ≡ making (start_of l)
+    → r ≡ Ok sv
+    → p ≡ new_of sv
     → Played room more p (memory (lent l.disk map owner table selected held) input bytes text) after
     → PlayedAll room more (memory l input bytes text) after
 unfolding made
-made_played room more l input bytes text m map owner table selected held p after e f h = rw (← e, ← f) h
+made_played room more l input bytes text r sv map owner table selected held p after e g f h = rw (← e, g, ← f) h
 
 -- ---- what every run prints, the program's own does
 

@@ -1,21 +1,19 @@
 -- Answers of several cases as one number: a refusal's number of document 01's table as it is, which is below 256, and 256 plus the place
 -- or the count of an answer that is no refusal.
 use Rattle.std.specs.Prelude.{ℕ, ◌+◌, Bool, cond, List, Result, Ok, Err}
-use Rattle.files.specs.declared.Begun.{Begun}
-use Rattle.files.specs.declared.Begun.TheVariants.{Refused, Started}
 use Rattle.files.specs.Uploads.{Begins, begun_number}
 use Rattle.files.specs.Selection.{Selects}
 
 -- ---- a new file
 
 -- the place of a file that was begun, 0 for a refusal
-unfoldable pub place_of : Begun → ℕ
-place_of (Refused n) = 0
-place_of (Started place) = place
+unfoldable pub place_of : Result ℕ ℕ → ℕ
+place_of (Err n) = 0
+place_of (Ok place) = place
 
-unfoldable pub begun_code : Begun → ℕ
-begun_code (Refused n) = begun_number (Refused n)
-begun_code (Started place) = 256 + place
+unfoldable pub begun_code : Result ℕ ℕ → ℕ
+begun_code (Err n) = begun_number (Err n)
+begun_code (Ok place) = 256 + place
 
 -- the number answered, and the map, the owners and the table afterwards
 pub record Began : Type 0 where

@@ -16,18 +16,18 @@ ghost use Rattle.files.specs.Selection.{count_in, select_of};
 ghost use Rattle.files.specs.Sound.{sound_test};
 ghost use Rattle.probe.specs.Codes.{place_of, begun_code, selection_code, sound_code, began, began_of, picked, picked_of};
 
-use files::Begun;
 use refusal::Refusal;
 
 // ---- answers as numbers
 
-fn begun_code(answer: Begun) -> u32
-    requires { place_of answer < 256 }
-    ensures { result ≡ begun_code answer }
+#[tactic(auto, unfolding(crate::specs::Codes::begun_code, crate::specs::Codes::place_of))]
+fn begun_code(answer: Result<usize, Refusal>) -> u32
+    requires { place_of (numbered answer) < 256 }
+    ensures { result ≡ begun_code (numbered answer) }
 {
     match answer {
-        Begun::Refused(n) => n as u32,
-        Begun::Started(place) => 256 + place as u32,
+        Ok(place) => 256 + place as u32,
+        Err(refusal) => u32::from(u8::from(refusal)),
     }
 }
 
@@ -105,7 +105,7 @@ pub extern "C" fn store_append(
 ) -> u8
     ensures { writes result disk.new table.new ≡ append_of disk.old owner.now table.old place bytes.now }
 {
-    files::append(disk, owner, table, place, bytes)
+    refusal::number_of(files::append(disk, owner, table, place, bytes))
 }
 
 // A file discarded, as `files::discard`.
@@ -118,7 +118,7 @@ pub extern "C" fn store_discard(
 ) -> u8
     ensures { frees result map.new owner.new table.new ≡ discard_of map.old owner.old table.old place }
 {
-    files::discard(map, owner, table, place)
+    refusal::number_of(files::discard(map, owner, table, place))
 }
 
 // The number that DATA_END gives for a file, as `files::check`.
@@ -126,7 +126,7 @@ pub extern "C" fn store_discard(
 pub extern "C" fn store_check(disk: &[u8], owner: &[u16], table: &[u32], place: usize) -> u8
     ensures { result ≡ check_of disk.now owner.now table.now place }
 {
-    files::check(disk, owner, table, place)
+    refusal::number_of(files::check(disk, owner, table, place))
 }
 
 // A file completed, as `files::complete`.
@@ -140,7 +140,7 @@ pub extern "C" fn store_complete(
 ) -> u8
     ensures { writes result disk.new table.new ≡ complete_of disk.old owner.now table.old place time }
 {
-    files::complete(disk, owner, table, place, time)
+    refusal::number_of(files::complete(disk, owner, table, place, time))
 }
 
 // ---- the whole store

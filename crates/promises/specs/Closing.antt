@@ -1,6 +1,6 @@
 -- Closing a link (demand 2): when the server does it, and that it leaves what losing the link leaves. The statements hold for EVERY server and
 -- everything lent. Assumes nothing.
-use Rattle.std.specs.Prelude.{◌≡◌, false, List, ℕ, ◌*◌, length}
+use Rattle.std.specs.Prelude.{◌≡◌, false, List, ℕ, ◌*◌, length, Ok}
 use Rattle.std.proofs.Math.Option.{Option, some}
 use Rattle.packet.specs.Machine.{call}
 use Rattle.packet.specs.Frame.{Event, packet, too_long, byte}
@@ -8,7 +8,6 @@ use Rattle.session.specs.declared.state.Session.{Session}
 use Rattle.session.specs.declared.reply.Answer.TheVariants as answer
 use Rattle.session.specs.Expected.{expected}
 use Rattle.server.specs.declared.Server.{Server}
-use Rattle.server.specs.declared.check.Check.TheVariants.{Go}
 use Rattle.server.specs.State.{Lent, link_of, part}
 use Rattle.history.specs.Calls.{receive, lose, call_of}
 use Rattle.promises.specs.Parts.{check_in}
@@ -38,7 +37,7 @@ pub data Unwelcome (s : Session) : Option Event → Type 0 where
   long : Unwelcome s (some too_long)
   unexpected : (kind : ℕ) (info : List ℕ) → expected s.up s.down kind (length info) ≡ false → Unwelcome s (some (packet kind info))
 
--- THE RULE: a call that is not refused locally (`Go i`: it goes to session i, counted from 0) closes the link exactly where its bytes end in such a
+-- THE RULE: a call that is not refused locally (`Ok i`: it goes to session i, counted from 0) closes the link exactly where its bytes end in such a
 -- thing. "The server closes a link in no other case (H)."
 pub record ClosesExactly (sv : Server) (l : Lent) (session clock : ℕ) (input out : List ℕ) (i : ℕ) : Type 0 where
   pub closes : Unwelcome (link_of sv i) (event_at sv l i input)
@@ -49,4 +48,4 @@ pub record ClosesExactly (sv : Server) (l : Lent) (session clock : ℕ) (input o
 abbrev pub EveryClosing : Type 0
 EveryClosing =
     (sv : Server) (l : Lent) (session clock : ℕ) (input out : List ℕ) (i : ℕ)
-    → check_in sv l (receive session clock input out) ≡ Go i → ClosesExactly sv l session clock input out i
+    → check_in sv l (receive session clock input out) ≡ Ok i → ClosesExactly sv l session clock input out i

@@ -1,7 +1,7 @@
 -- Demand 1: "Every byte sequence, clock reading and lent buffer gets an answer. The program always ends, asks nothing of its caller beforehand,
 -- and refuses by a number from the table or closes the link. A refusal leaves the files, the session and the output buffer as that table says."
 -- The statements hold for EVERY server and everything lent, also for a state that no calls made. crates/worked shows them at work. Assumes nothing.
-use Rattle.std.specs.Prelude.{◌≡◌, true, List, [], ◌∷◌, ◌++◌, ℕ, ◌+◌, ◌*◌, ◌-◌, ◌≤◌, ◌<◌, length, drop, replicate}
+use Rattle.std.specs.Prelude.{◌≡◌, true, List, [], ◌∷◌, ◌++◌, ℕ, ◌+◌, ◌*◌, ◌-◌, ◌≤◌, ◌<◌, length, drop, replicate, Ok, Err}
 use Rattle.packet.specs.Packet.{packet_of}
 use Rattle.session.specs.declared.state.Uplink.{Uplink}
 use Rattle.session.specs.declared.state.Uplink.TheVariants as up
@@ -111,10 +111,10 @@ OnlyByTheCaller =
 pub record MakingAnswers (blocks files sessions most disk : ℕ) (map owner table selected held : List ℕ) : Type 0 where
   pub by33 : (fits (new_server blocks files sessions most) disk map owner table selected held ≡ true → ⊥)
       → make_of blocks files sessions most disk map owner table selected held
-      ≡ makes (record { refused = 33; server = new_server blocks files sessions most }) (emptied map owner table selected held)
+      ≡ makes (Err 33) (emptied map owner table selected held)
   pub by_none : fits (new_server blocks files sessions most) disk map owner table selected held ≡ true
       → make_of blocks files sessions most disk map owner table selected held
-      ≡ makes (record { refused = 0; server = new_server blocks files sessions most })
+      ≡ makes (Ok (new_server blocks files sessions most))
       (empty_of blocks files sessions most map owner table selected held)
 
 abbrev pub EveryMaking : Type 0

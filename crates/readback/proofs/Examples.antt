@@ -5,6 +5,7 @@ use Prim.Native.Nat.{ℕ, zero, suc}
 use lib.ListN.{length, replicate}
 use Rattle.packet.specs.Names.{bytes_of}
 use Rattle.back.specs.Answer.{Answers, answers, written_of}
+use Rattle.std.proofs.Common.{Result, Ok, Err}
 use Rattle.back.specs.declared.Answer.{Answer}
 use Rattle.back.specs.declared.Answer.TheVariants as answer
 use Rattle.numbers.specs.Numbers.{number}
@@ -29,18 +30,18 @@ record Row : Type 0 where
   says : Answers
 
 row : List ℕ → List ℕ → Row
-row bytes text = record { bytes = bytes; room = length text; says = answers (answer.Text (length text)) text }
+row bytes text = record { bytes = bytes; room = length text; says = answers (Ok (answer.Text (length text))) text }
 
 -- the same with room for so many bytes more, which stay as they are
 roomy : List ℕ → List ℕ → ℕ → Row
 roomy bytes text more =
-    record { bytes = bytes; room = length (text ++ replicate more 0); says = answers (answer.Text (length text)) (text ++ replicate more 0) }
+    record { bytes = bytes; room = length (text ++ replicate more 0); says = answers (Ok (answer.Text (length text))) (text ++ replicate more 0) }
 
 -- too little room: nothing is written
 short : List ℕ → ℕ → Row
-short bytes room = record { bytes = bytes; room = room; says = answers (answer.Refused 33) (replicate room 0) }
+short bytes room = record { bytes = bytes; room = room; says = answers (Err 33) (replicate room 0) }
 
-none : List ℕ → Answer → Row
+none : List ℕ → Result Answer ℕ → Row
 none bytes a = record { bytes = bytes; room = 0; says = answers a [] }
 
 said : Row → Answers
@@ -81,17 +82,17 @@ rows =
     ∷ row (192 ∷ 4 ∷ 0 ∷ 1 ∷ 255 ∷ []) (bytes_of "FILE_SIZE >= 255:1")
     ∷ row (208 ∷ 24 ∷ 0 ∷ 4 ∷ 0 ∷ 0 ∷ 0 ∷ 0 ∷ []) (bytes_of "PRIORITY <= 0:4")
     ∷ row (quoted (65 ∷ 34 ∷ 92 ∷ 31 ∷ 255 ∷ [])) (bytes_of "TITLE == \"A\\\"\\\\\\x1f\\xff\"")
-    ∷ none (replicate 2048 0) (answer.Refused 33)
-    ∷ none [] (answer.Refused 8)
-    ∷ none (more 1 ++ 0 ∷ []) answer.Mark
+    ∷ none (replicate 2048 0) (Err 33)
+    ∷ none [] (Err 8)
+    ∷ none (more 1 ++ 0 ∷ []) (Ok answer.Mark)
     ∷ roomy (more 1) (bytes_of "PRIORITY > 1") 3
     ∷ short (more 1) 11
     ∷ row (right 17) (right_text 17)
-    ∷ none (right 18) answer.Deeper
-    ∷ none (right 60) answer.Deeper
-    ∷ none (right 18 ++ 0 ∷ []) answer.Mark
-    ∷ none (quoted (replicate 252 97)) (answer.Refused 33)
-    ∷ none (quoted (replicate 253 97)) answer.Bytes
+    ∷ none (right 18) (Ok answer.Deeper)
+    ∷ none (right 60) (Ok answer.Deeper)
+    ∷ none (right 18 ++ 0 ∷ []) (Ok answer.Mark)
+    ∷ none (quoted (replicate 252 97)) (Err 33)
+    ∷ none (quoted (replicate 253 97)) (Ok answer.Bytes)
     ∷ []
 
 computed : map said rows ≡ map want rows

@@ -19,6 +19,7 @@ use Rattle.grammar.proofs.Complete.{complete}
 use Rattle.writing.specs.Text.{text_of, nesting}
 use Rattle.writing.specs.Places.{formula_of}
 use Rattle.back.specs.Answer.{Answers, answers, delivered, written, written_by, written_of}
+use Rattle.std.proofs.Common.{Result, Ok, Err}
 use Rattle.back.specs.declared.Answer.{Answer}
 use Rattle.back.specs.declared.Answer.TheVariants as answer
 use Rattle.writing.proofs.Derived.{AllWhole, text_reads, pairs_of, fewest, flattest}
@@ -49,23 +50,37 @@ moved : (x y : List ℕ) (f : Formula) → x ≡ y → Reads x f → Reads y f
 moved x y f e r = record { sum = r.sum; good = r.good; nested = r.nested; is_text = r.is_text ∙ e; is_formula = r.is_formula }
 
 -- answers of different kinds are not the same
+abbrev kind_of : Result Answer ℕ → ℕ
+kind_of (Ok (answer.Text k)) = 0
+kind_of (Err n) = 1
+kind_of (Ok answer.Mark) = 2
+kind_of (Ok answer.Deeper) = 3
+kind_of (Ok answer.Bytes) = 4
+
 abbrev kind : Answers → ℕ
-kind r = elim r.answer as (λ a. ℕ) [ answer.Text k ↦ 0 | answer.Refused n ↦ 1 | answer.Mark ↦ 2 | answer.Deeper ↦ 3 | answer.Bytes ↦ 4 ]
+kind r = kind_of r.answer
 
 -- the bytes of a text
-abbrev size_of : Answers → ℕ
-size_of r = elim r.answer as (λ a. ℕ) [ answer.Text k ↦ k | answer.Refused n ↦ 0 | answer.Mark ↦ 0 | answer.Deeper ↦ 0 | answer.Bytes ↦ 0 ]
+abbrev size_in : Result Answer ℕ → ℕ
+size_in (Ok (answer.Text k)) = k
+size_in (Err n) = 0
+size_in (Ok answer.Mark) = 0
+size_in (Ok answer.Deeper) = 0
+size_in (Ok answer.Bytes) = 0
 
-text_told : (f : Formula) (n m : ℕ) (out : List ℕ) (k : ℕ) (o : List ℕ) → written f n m out ≡ answers (answer.Text k) o → Delivered f n m out k o
+abbrev size_of : Answers → ℕ
+size_of r = size_in r.answer
+
+text_told : (f : Formula) (n m : ℕ) (out : List ℕ) (k : ℕ) (o : List ℕ) → written f n m out ≡ answers (Ok (answer.Text k)) o → Delivered f n m out k o
 unfolding written delivered
 text_told f n m out k o h = by (ltb m n) refl (ltb 16 (nesting f)) refl (ltb 256 n) refl (leb (length (text_of f)) (length out)) refl h
   where
     by : (a : Bool) → ltb m n ≡ a → (b : Bool) → ltb 16 (nesting f) ≡ b → (c : Bool) → ltb 256 n ≡ c → (d : Bool) → leb (length (text_of f)) (length out) ≡ d
-        → cond a (answers answer.Mark out)
-        (cond b (answers answer.Deeper out)
-        (cond c (answers answer.Bytes out)
-        (cond d (answers (answer.Text (length (text_of f))) (text_of f ++ drop (length (text_of f)) out)) (answers (answer.Refused 33) out))))
-        ≡ answers (answer.Text k) o
+        → cond a (answers (Ok answer.Mark) out)
+        (cond b (answers (Ok answer.Deeper) out)
+        (cond c (answers (Ok answer.Bytes) out)
+        (cond d (answers (Ok (answer.Text (length (text_of f)))) (text_of f ++ drop (length (text_of f)) out)) (answers (Err 33) out))))
+        ≡ answers (Ok (answer.Text k)) o
         → Delivered f n m out k o
     by true ea b eb c ec d ed z = absurd (omega (arith, ap kind z))
     by false ea true eb c ec d ed z = absurd (omega (arith, ap kind z))
@@ -83,16 +98,16 @@ text_told f n m out k o h = by (ltb m n) refl (ltb 16 (nesting f)) refl (ltb 256
           untouched = rw (← p) (sym q);
         }
 
-deeper_told : (f : Formula) (n m : ℕ) (out o : List ℕ) → written f n m out ≡ answers answer.Deeper o → 16 < nesting f
+deeper_told : (f : Formula) (n m : ℕ) (out o : List ℕ) → written f n m out ≡ answers (Ok answer.Deeper) o → 16 < nesting f
 unfolding written delivered
 deeper_told f n m out o h = by (ltb m n) (ltb 16 (nesting f)) refl (ltb 256 n) (leb (length (text_of f)) (length out)) h
   where
     by : (a b : Bool) → ltb 16 (nesting f) ≡ b → (c d : Bool)
-        → cond a (answers answer.Mark out)
-        (cond b (answers answer.Deeper out)
-        (cond c (answers answer.Bytes out)
-        (cond d (answers (answer.Text (length (text_of f))) (text_of f ++ drop (length (text_of f)) out)) (answers (answer.Refused 33) out))))
-        ≡ answers answer.Deeper o
+        → cond a (answers (Ok answer.Mark) out)
+        (cond b (answers (Ok answer.Deeper) out)
+        (cond c (answers (Ok answer.Bytes) out)
+        (cond d (answers (Ok (answer.Text (length (text_of f)))) (text_of f ++ drop (length (text_of f)) out)) (answers (Err 33) out))))
+        ≡ answers (Ok answer.Deeper) o
         → 16 < nesting f
     by true b eb c d z = absurd (omega (arith, ap kind z))
     by false true eb c d z = ltb-true 16 (nesting f) eb
@@ -100,16 +115,16 @@ deeper_told f n m out o h = by (ltb m n) (ltb 16 (nesting f)) refl (ltb 256 n) (
     by false false eb false true z = absurd (omega (arith, ap kind z))
     by false false eb false false z = absurd (omega (arith, ap kind z))
 
-mark_told : (f : Formula) (n m : ℕ) (out o : List ℕ) → written f n m out ≡ answers answer.Mark o → m < n
+mark_told : (f : Formula) (n m : ℕ) (out o : List ℕ) → written f n m out ≡ answers (Ok answer.Mark) o → m < n
 unfolding written delivered
 mark_told f n m out o h = by (ltb m n) refl (ltb 16 (nesting f)) (ltb 256 n) (leb (length (text_of f)) (length out)) h
   where
     by : (a : Bool) → ltb m n ≡ a → (b c d : Bool)
-        → cond a (answers answer.Mark out)
-        (cond b (answers answer.Deeper out)
-        (cond c (answers answer.Bytes out)
-        (cond d (answers (answer.Text (length (text_of f))) (text_of f ++ drop (length (text_of f)) out)) (answers (answer.Refused 33) out))))
-        ≡ answers answer.Mark o
+        → cond a (answers (Ok answer.Mark) out)
+        (cond b (answers (Ok answer.Deeper) out)
+        (cond c (answers (Ok answer.Bytes) out)
+        (cond d (answers (Ok (answer.Text (length (text_of f)))) (text_of f ++ drop (length (text_of f)) out)) (answers (Err 33) out))))
+        ≡ answers (Ok answer.Mark) o
         → m < n
     by true ea b c d z = ltb-true m n ea
     by false ea true c d z = absurd (omega (arith, ap kind z))
@@ -123,12 +138,12 @@ record Parsed (bytes out : List ℕ) (a : Answers) : Type 0 where
   parsed : parse bytes ≡ some tree
   gives : written (formula_of tree) (length bytes) (length (unmarked bytes)) out ≡ a
 
-answer_parsed : (bytes out : List ℕ) (a : Answer) (o : List ℕ) → ((n : ℕ) → a ≡ answer.Refused n → ⊥) → written_of bytes out ≡ answers a o
+answer_parsed : (bytes out : List ℕ) (a : Result Answer ℕ) (o : List ℕ) → ((n : ℕ) → a ≡ Err n → ⊥) → written_of bytes out ≡ answers a o
     → Parsed bytes out (answers a o)
 unfolding written_of written_by
 answer_parsed bytes out a o n h = by (ltb 2047 (length bytes)) (parse bytes) refl h
   where
-    by : (x : Bool) (t : Option Tree) → parse bytes ≡ t → cond x (answers (answer.Refused 33) out) (written_by t (length bytes) (length (unmarked bytes)) out)
+    by : (x : Bool) (t : Option Tree) → parse bytes ≡ t → cond x (answers (Err 33) out) (written_by t (length bytes) (length (unmarked bytes)) out)
         ≡ answers a o → Parsed bytes out (answers a o)
     by true t p z = absurd (n 33 (sym (ap (λ (r : Answers). r.answer) z)))
     by false none p z = absurd (n 8 (sym (ap (λ (r : Answers). r.answer) (unfold written_by in z))))
@@ -138,9 +153,9 @@ answer_parsed bytes out a o n h = by (ltb 2047 (length bytes)) (parse bytes) ref
 
 module _ (bytes : List ℕ) (small : Bytes bytes) (out : List ℕ) where
   -- a text that was written
-  module _ (k : ℕ) (o : List ℕ) (h : written_of bytes out ≡ answers (answer.Text k) o) where
-    the_tree : Parsed bytes out (answers (answer.Text k) o)
-    the_tree = answer_parsed bytes out (answer.Text k) o (λ n z. omega (arith, ap (λ (a : Answer). kind (answers a [])) z)) h
+  module _ (k : ℕ) (o : List ℕ) (h : written_of bytes out ≡ answers (Ok (answer.Text k)) o) where
+    the_tree : Parsed bytes out (answers (Ok (answer.Text k)) o)
+    the_tree = answer_parsed bytes out (Ok (answer.Text k)) o (λ n z. omega (arith, ap kind_of z)) h
 
     abbrev the_formula : Formula
     the_formula = formula_of the_tree.tree
@@ -179,9 +194,9 @@ module _ (bytes : List ℕ) (small : Bytes bytes) (out : List ℕ) where
     beyond = ap (drop k) told.untouched ∙ drop_at (text_of the_formula) (drop k out) k (sym told.size)
 
   -- nested too deep: no text of the grammar turns into these bytes
-  pub deeper_none : (o : List ℕ) → written_of bytes out ≡ answers answer.Deeper o → (text : List ℕ) → TurnsInto text bytes → ⊥
+  pub deeper_none : (o : List ℕ) → written_of bytes out ≡ answers (Ok answer.Deeper) o → (text : List ℕ) → TurnsInto text bytes → ⊥
   deeper_none o h text t =
-      let p = answer_parsed bytes out answer.Deeper o (λ n z. omega (arith, ap (λ (a : Answer). kind (answers a [])) z)) h in
+      let p = answer_parsed bytes out (Ok answer.Deeper) o (λ n z. omega (arith, ap kind_of z)) h in
       let e = parsed_means bytes small p.tree p.parsed text t.formula t.reads t.bytes_are in
       omega (
         arith,
@@ -191,9 +206,9 @@ module _ (bytes : List ℕ) (small : Bytes bytes) (out : List ℕ) where
       )
 
   -- an end mark: no text of the grammar turns into these bytes either
-  pub mark_none : (o : List ℕ) → written_of bytes out ≡ answers answer.Mark o → (text : List ℕ) → TurnsInto text bytes → ⊥
+  pub mark_none : (o : List ℕ) → written_of bytes out ≡ answers (Ok answer.Mark) o → (text : List ℕ) → TurnsInto text bytes → ⊥
   mark_none o h text t =
-      let p = answer_parsed bytes out answer.Mark o (λ n z. omega (arith, ap (λ (a : Answer). kind (answers a [])) z)) h in
+      let p = answer_parsed bytes out (Ok answer.Mark) o (λ n z. omega (arith, ap kind_of z)) h in
       let e = parsed_means bytes small p.tree p.parsed text t.formula t.reads t.bytes_are in
       omega (
         arith,

@@ -20,7 +20,7 @@ use Rattle.equation.specs.Marks.{relations_of}
 use Rattle.equation.specs.Answer.{selects}
 use Rattle.equation.proofs.Trees.{map_o, Agree, run_same, answer_truth}
 use Rattle.equation.proofs.Selects.{selects_truth}
-use Rattle.std.proofs.Common.{Some, None}
+use Rattle.std.proofs.Common.{Some, None, Ok}
 use Rattle.std.specs.Prelude as std
 use Rattle.table.specs.Table.{files, numbers, times, find_of}
 use Rattle.table.specs.Fit.{Distinct}
@@ -30,7 +30,7 @@ use Rattle.files.specs.Selection.{numbers_at, chosen}
 use Rattle.why.specs.declared.Explained.{Explained}
 use Rattle.why.specs.Run.{Result, join_of}
 use Rattle.why.specs.Answer.{Whys, whys, refused_by, sizes_fit, items_at, time_at, older_of, told, deliver, reasons_on, file_why, found_why, tree_why, why_of}
-use Rattle.reasons.specs.Promised.{In, shown, outcome_with, truth_of, Decides, Listed, Promised, Promises}
+use Rattle.reasons.specs.Promised.{In, shown, outcome_with, truth_of, Decides, Listed, list_of, Promised, Promises}
 use Rattle.why.proofs.Reasoned.{reasoned, leaf_with, reasoned_run, leaves_agree}
 use Rattle.why.proofs.Answers.{Fit, fit_of, store_of}
 use Rattle.reasons.proofs.Numbers.{size, parse_numbers, rising_length, reasons_rise, reasons_one}
@@ -161,8 +161,8 @@ module _ (eq : List ℕ) (number : ℕ) (disk owner table : List ℕ) (most : �
     found : find_of (files table) number ≡ Some place
     complete : time_at table place ≡ 0 → ⊥
     room : length (reasons_on (items_at disk owner table place) tree) ≤ length named
-    is : W ≡ whys (told (truth_on (items_at disk owner table place) tree) (older_of eq disk owner table (time_at table place)) most
-        (length (reasons_on (items_at disk owner table place) tree)))
+    is : W ≡ whys (Ok (told (truth_on (items_at disk owner table place) tree) (older_of eq disk owner table (time_at table place)) most
+        (length (reasons_on (items_at disk owner table place) tree))))
         (reasons_on (items_at disk owner table place) tree ++ drop (length (reasons_on (items_at disk owner table place) tree)) named)
 
   data Case : Type 0 where
@@ -225,9 +225,23 @@ module _ (eq : List ℕ) (number : ℕ) (disk owner table : List ℕ) (most : �
   abbrev P : Whys → Type 0
   P w = Promised eq number disk owner table most named w.answer w.named
 
+  refused_same : (n m : ℕ) → refused_by n ≡ refused_by m → n ≡ m
+  refused_same n m e = cc
+
+  refused_not_told : (n : ℕ) (t : Explained) → refused_by n ≡ Ok t → ⊥
+  refused_not_told n t e = let z : ◌≡◌ {A = ℕ} 0 1 = cc in omega arith
+
+  told_same : (s t : Explained) → ◌≡◌ {A = std.Result Explained ℕ} (Ok s) (Ok t) → s ≡ t
+  told_same s t e = cc
+
   refused_promised : (n : ℕ) → (n ≡ 0 → ⊥) → (n ≡ 33 → For33) → P (whys (refused_by n) named)
   refused_promised n z w =
-      record { refusal = λ y. (refl, refl); room = w; decided = λ y. absurd (z y); listed = λ y. absurd (z y) }
+      record {
+        refusal = λ m y. ((λ i. z (refused_same n m y ∙ i)), refl);
+        room = λ y. w (refused_same n 33 y);
+        decided = λ t y. absurd (refused_not_told n t y);
+        listed = λ t y. absurd (refused_not_told n t y);
+      }
 
   -- ---- what an answer promises
 
@@ -260,9 +274,12 @@ module _ (eq : List ℕ) (number : ℕ) (disk owner table : List ℕ) (most : �
     unfolding told
     tells = record { matched = refl; beyond = refl; count = refl }
 
-    answered_decided : (place : ℕ) × (find_of (files table) number ≡ Some place) × (0 < time_at table place)
-        × Decides eq (items_at disk owner table place) E.matched (take E.count named')
-        × (E.count ≤ length named) × (drop E.count named' ≡ drop E.count named)
+    abbrev Decided : Explained → Type 0
+    Decided t = (place : ℕ) × (find_of (files table) number ≡ Some place) × (0 < time_at table place)
+        × Decides eq (items_at disk owner table place) t.matched (take t.count named')
+        × (t.count ≤ length named) × (drop t.count named' ≡ drop t.count named)
+
+    answered_decided : Decided E
     unfolding told
     answered_decided = (
       a.place,
@@ -302,18 +319,15 @@ module _ (eq : List ℕ) (number : ℕ) (disk owner table : List ℕ) (most : �
             only = λ i. (tells.matched ∙ (there i).0, tells.beyond ∙ (there i).1);
           }
 
-    answered_promised : P (whys E named')
+    answered_promised : P (whys (Ok E) named')
     answered_promised =
         record {
-          refusal = λ z. absurd (z accepted);
-          room = λ z. absurd (omega (arith, accepted));
-          decided = λ z. answered_decided;
-          listed = λ z dn dt selected s.
-              subst (Listed number E) (sym (list_is eq disk owner table selected most s)) (is_listed dn dt (select_short eq (length selected) most s));
+          refusal = λ n z. absurd (refused_not_told n E (sym z));
+          room = λ z. absurd (refused_not_told 33 E (sym z));
+          decided = λ t z. subst Decided (told_same E t z) answered_decided;
+          listed = λ t z dn dt selected s.
+              subst (λ (x : Explained). Listed number x (list_of eq disk owner table selected most)) (told_same E t z) (subst (Listed number E) (sym (list_is eq disk owner table selected most s)) (is_listed dn dt (select_short eq (length selected) most s)));
         }
-      where
-        accepted : E.refused ≡ 0
-        accepted = unfold told in refl
 
   promised : P W
   promised = go case

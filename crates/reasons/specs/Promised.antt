@@ -68,19 +68,19 @@ pub record Listed (number : ℕ) (answer : Explained) (list : List ℕ) : Type 0
 -- ---- all of it
 
 module _ (eq : List ℕ) (number : ℕ) (disk owner table : List ℕ) (most : ℕ) (named : List ℕ) where
-  pub record Promised (answer : Explained) (named' : List ℕ) : Type 0 where
-    -- a refusal tells nothing and writes nothing
-    pub refusal : (answer.refused ≡ 0 → ⊥) → (answer ≡ refused_by answer.refused) × (named' ≡ named)
+  pub record Promised (answer : Result Explained ℕ) (named' : List ℕ) : Type 0 where
+    -- a refusal has a number, tells nothing else and writes nothing
+    pub refusal : (n : ℕ) → answer ≡ refused_by n → (n ≡ 0 → ⊥) × (named' ≡ named)
     -- 33 is for sizes, or for fewer numbers lent than the equation has relations
-    pub room : answer.refused ≡ 33 → (sizes_fit (length eq) (length disk) (length owner) (length table) most ≡ false) ⊎ (length named < length (relations_of eq))
+    pub room : answer ≡ refused_by 33 → (sizes_fit (length eq) (length disk) (length owner) (length table) most ≡ false) ⊎ (length named < length (relations_of eq))
     -- where it is not refused there is a complete file of that number, the relations named decide on its items, and the other numbers lent stay
-    pub decided : answer.refused ≡ 0
+    pub decided : (told : Explained) → answer ≡ Ok told
         → (place : ℕ) × (find_of (files table) number ≡ Some place) × (0 < time_at table place)
-        × Decides eq (items_at disk owner table place) answer.matched (take answer.count named')
-        × (answer.count ≤ length named) × (drop answer.count named' ≡ drop answer.count named)
+        × Decides eq (items_at disk owner table place) told.matched (take told.count named')
+        × (told.count ≤ length named) × (drop told.count named' ≡ drop told.count named)
     -- where file numbers and upload times are given once, the answer is about the list of the SELECT with this equation
-    pub listed : answer.refused ≡ 0 → Distinct (numbers (files table)) → Distinct (times (files table))
-        → (selected : List ℕ) → select_number eq (length selected) most ≡ 0 → Listed number answer (list_of eq disk owner table selected most)
+    pub listed : (told : Explained) → answer ≡ Ok told → Distinct (numbers (files table)) → Distinct (times (files table))
+        → (selected : List ℕ) → select_number eq (length selected) most ≡ 0 → Listed number told (list_of eq disk owner table selected most)
 
 -- of every call
 abbrev pub Promises : Type 0

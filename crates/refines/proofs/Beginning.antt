@@ -13,12 +13,10 @@ use Rattle.session.specs.declared.state.Uplink.TheVariants as up
 use Rattle.session.specs.declared.reply.Reply.TheVariants as reply
 use Rattle.session.specs.State.{with_up}
 use Rattle.table.specs.declared.File as table
-use Rattle.std.proofs.Common.{Option, Some, None}
+use Rattle.std.proofs.Common.{Option, Some, None, Result, Ok, Err}
 use Rattle.table.specs.Table.{find_of, free_of}
 use Rattle.table.specs.Given.{blocks_for, most_given}
 use Rattle.table.proofs.Finding.{free_place}
-use Rattle.files.specs.declared.Begun.{Begun}
-use Rattle.files.specs.declared.Begun.TheVariants.{Refused, Started}
 use Rattle.files.specs.View.{record_at}
 use Rattle.files.specs.Uploads as filesUp
 use Rattle.files.proofs.Beginning.{BeginLeaves, begin_leaves, begin_kept}
@@ -68,7 +66,7 @@ module _ (c : Here) (size : ℕ) where
       (model.model (M c) (N + 1) sv.last.time ((M c).files ++ file (N + 1) size [] 0 ∷ []) (M c).sessions))
 
   -- a new file stands where none was
-  started : (place : ℕ) → b.answer ≡ Started place
+  started : (place : ℕ) → b.answer ≡ Ok place
       → turn_view sv l c.i c.part (turned (turn_of (with_up (s0 c) (up.Receiving place 0 0)) (last_of (N + 1) sv.last.time) (reply.Go (N + 1) 0)) m) ≡ given
   started place e =
       moved c m (with_up (s0 c) (up.Receiving place 0 0)) (last_of (N + 1) sv.last.time) (reply.Go (N + 1) 0)
@@ -90,31 +88,31 @@ module _ (c : Here) (size : ℕ) where
       number = ap (λ (f : table.File). f.number) x.file
 
   -- by what the store answers
-  abbrev outcome : Begun → Turn
-  outcome (Refused n) = turn (reply.UploadError n) (M c)
-  outcome (Started place) = given
+  abbrev outcome : Result ℕ ℕ → Turn
+  outcome (Err n) = turn (reply.UploadError n) (M c)
+  outcome (Ok place) = given
 
-  begun : (a : Begun) → b.answer ≡ a → turn_view sv l c.i c.part (turned (upload.begun_turn a (s0 c) sv.last (N + 1)) m) ≡ outcome a
+  begun : (a : Result ℕ ℕ) → b.answer ≡ a → turn_view sv l c.i c.part (turned (upload.begun_turn a (s0 c) sv.last (N + 1)) m) ≡ outcome a
   unfolding upload.begun_turn
-  begun (Refused n) e =
+  begun (Err n) e =
       ap (λ (x : filesUp.Begins).
       turn_view sv l c.i c.part (turned (turn_of (s0 c) sv.last (reply.UploadError n)) (mem l.disk x.map x.owner x.table (sel c))))
       (begin_kept (map_part sv l) (owner_part sv l) (table_part sv l) N size n e)
       ∙ stays c (reply.UploadError n)
-  begun (Started place) e = started place e
+  begun (Ok place) e = started place e
 
   module _ (left : eqb N most_given ≡ false) where
     begin_in_law : b ≡ filesUp.begin_in (free_of (fs c)) (N + 1) size (map_part sv l) (owner_part sv l) (table_part sv l)
     unfolding filesUp.begin_with
     begin_in_law = rw left
 
-    in_full : (filesUp.begin_in None (N + 1) size (map_part sv l) (owner_part sv l) (table_part sv l)).answer ≡ Refused 13
+    in_full : (filesUp.begin_in None (N + 1) size (map_part sv l) (owner_part sv l) (table_part sv l)).answer ≡ Err 13
     unfolding filesUp.begin_in
     in_full = refl
 
     in_place : (place : ℕ) → place < 256
         → (filesUp.begin_in (Some place) (N + 1) size (map_part sv l) (owner_part sv l) (table_part sv l)).answer
-        ≡ cond (leb (blocks_for size) (free_count (map_part sv l))) (Started place) (Refused 13)
+        ≡ cond (leb (blocks_for size) (free_count (map_part sv l))) (Ok place) (Err 13)
     unfolding filesUp.begin_in filesUp.begin_at
     in_place place h =
         rw (store_is (map_part sv l) (owner_part sv l) (table_part sv l) N sv.last.time (facts sv l c.good).store (facts sv l c.good).disk.some
@@ -122,13 +120,13 @@ module _ (c : Here) (size : ℕ) where
         (go _ _ _ (leb (blocks_for size) (free_count (map_part sv l))))
       where
         go : (map owner table : List ℕ) (t : Bool)
-            → (cond (eqb (cond t 0 13) 0) (filesUp.begins (Started place) map owner table)
-            (filesUp.begins (Refused (cond t 0 13)) (map_part sv l) (owner_part sv l) (table_part sv l))).answer
-            ≡ cond t (Started place) (Refused 13)
+            → (cond (eqb (cond t 0 13) 0) (filesUp.begins (Ok place) map owner table)
+            (filesUp.begins (Err (cond t 0 13)) (map_part sv l) (owner_part sv l) (table_part sv l))).answer
+            ≡ cond t (Ok place) (Err 13)
         go map owner table true = refl
         go map owner table false = refl
 
-    pick : (t : Bool) (place : ℕ) → outcome (cond t (Started place) (Refused 13)) ≡ cond t given (turn (reply.UploadError 13) (M c))
+    pick : (t : Bool) (place : ℕ) → outcome (cond t (Ok place) (Err 13)) ≡ cond t given (turn (reply.UploadError 13) (M c))
     pick true place = refl
     pick false place = refl
 

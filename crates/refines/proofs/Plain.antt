@@ -1,4 +1,5 @@
 -- Login, lose and request are steps of the machine.
+use Rattle.std.specs.Prelude.{Result, Ok, Err}
 use mathlib.Core.Path.{◌≡◌, refl, ap, ap₂, ◌∙◌}
 use mathlib.Core.Bool.{Bool, true, false, cond}
 use mathlib.Core.List.{List, []}
@@ -12,8 +13,6 @@ use Rattle.session.specs.declared.reply.Answer.TheVariants as answer
 use Rattle.session.specs.State.{closed_session, fresh_session}
 use Rattle.session.specs.Reply.{Told, told, tell, answered}
 use Rattle.server.specs.declared.Server.{Server}
-use Rattle.server.specs.declared.check.Check.{Check}
-use Rattle.server.specs.declared.check.Check.TheVariants.{Go, Refuse}
 use Rattle.server.specs.State.{Lent, lent, Outcome, with_part}
 use Rattle.server.specs.Calls.{on_login, login_of, on_lose, lose_of, login_by, lose_by}
 use Rattle.history.specs.Good.{Good}
@@ -38,23 +37,23 @@ pub refined : (sv : Server) (l : Lent) (c : history.Call) → seen (history.call
 refined sv l c e = record { told = ap (λ (s : Stepped). s.told) e; after = ap (λ (s : Stepped). s.after) e }
 
 -- a call that is refused or goes through, and one that the machine refuses or not
-pub by_check : (n i : ℕ) (P : Check → Stepped) (S : Stepped) (m : Model) (out : List ℕ) → (n ≡ 0 → P (Go i) ≡ S)
-    → P (Refuse n) ≡ stepped (told (answer.Refused n) out) m → P (by_refusal n i) ≡ unless n m out S
+pub by_check : (n i : ℕ) (P : Result ℕ ℕ → Stepped) (S : Stepped) (m : Model) (out : List ℕ) → (n ≡ 0 → P (Ok i) ≡ S)
+    → P (Err n) ≡ stepped (told (answer.Refused n) out) m → P (by_refusal n i) ≡ unless n m out S
 unfolding unless
 by_check n i P S m out a b = go (eqb n 0) refl
   where
-    go : (t : Bool) → eqb n 0 ≡ t → P (cond t (Go i) (Refuse n)) ≡ cond t S (stepped (told (answer.Refused n) out) m)
+    go : (t : Bool) → eqb n 0 ≡ t → P (cond t (Ok i) (Err n)) ≡ cond t S (stepped (told (answer.Refused n) out) m)
     go true e = a (eqb-true n 0 e)
     go false e = b
 
 module _ (sv : Server) (l : Lent) (g : Good sv l) where
   -- ---- login
 
-  abbrev logged_in : List ℕ → ℕ → Check → Stepped
+  abbrev logged_in : List ℕ → ℕ → Result ℕ ℕ → Stepped
   logged_in out clock k = stepped (told (on_login k sv out clock).done.answer (on_login k sv out clock).out) (view (on_login k sv out clock).done.server l)
 
   login_goes : (session clock : ℕ) (out : List ℕ) → Through sv session false (length out)
-      → logged_in out clock (Go (session - 1)) ≡ stepped (tell (reply.Login clock) 0 out) (model.with_session (view sv l) (session - 1) model.fresh_session)
+      → logged_in out clock (Ok (session - 1)) ≡ stepped (tell (reply.Login clock) 0 out) (model.with_session (view sv l) (session - 1) model.fresh_session)
   unfolding on_login
   login_goes session clock out t =
       ap₂ stepped (ap (λ (r : Told). told r.answer r.out) (told_room (reply.Login clock) 0 out t.room))
@@ -70,14 +69,14 @@ module _ (sv : Server) (l : Lent) (g : Good sv l) where
 
   -- ---- lose
 
-  abbrev lost_by : Check → Stepped
+  abbrev lost_by : Result ℕ ℕ → Stepped
   lost_by k =
       stepped (told (on_lose k sv l.selected l.held).done.answer [])
       (view (on_lose k sv l.selected l.held).done.server
       (lent l.disk l.map l.owner l.table (on_lose k sv l.selected l.held).selected (on_lose k sv l.selected l.held).held))
 
   lose_goes : (session : ℕ) → Through sv session true 258
-      → lost_by (Go (session - 1)) ≡ stepped (tell reply.Nothing 0 []) (lost (view sv l) (session - 1))
+      → lost_by (Ok (session - 1)) ≡ stepped (tell reply.Nothing 0 []) (lost (view sv l) (session - 1))
   unfolding on_lose tell
   lose_goes session t =
       ap (stepped (told (answer.Quiet 0) []))

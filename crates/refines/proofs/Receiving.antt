@@ -1,4 +1,5 @@
 -- Bytes of a link are a step of the machine: every packet, and what ends in none.
+use Rattle.std.specs.Prelude.{Result}
 use mathlib.Core.Path.{◌≡◌, refl, sym, ap, ap₂, ◌∙◌}
 use mathlib.Core.Bool.{Bool, true, false, cond}
 use mathlib.Core.List.{List, [], ◌++◌}
@@ -34,7 +35,6 @@ use Rattle.carry.specs.Turn as carry
 use Rattle.carry.specs.Download as download
 use Rattle.carry.specs.Carry.{on_chooses, carry_out}
 use Rattle.server.specs.declared.Server.{Server}
-use Rattle.server.specs.declared.check.Check.{Check}
 use Rattle.server.specs.State.{Lent, link_of, with_part, part}
 use Rattle.server.specs.Turns.{HeardIn, heard_in, hear_of, size_in, put_back}
 use Rattle.server.specs.Calls.{answered_by, heard_by, step_of, on_check, receive_of, receive_by}
@@ -369,7 +369,7 @@ module _ (sv : Server) (l : Lent) (g : Good sv l) (i : ℕ) (inside : i < sv.ses
 -- ---- THEOREM: receive
 
 module _ (sv : Server) (l : Lent) (g : Good sv l) where
-  abbrev receives : List ℕ → ℕ → List ℕ → Check → Stepped
+  abbrev receives : List ℕ → ℕ → List ℕ → Result ℕ ℕ → Stepped
   receives out clock input k = seen (on_check k sv l out clock input)
 
   pub receive_refines : (session clock : ℕ) (input out : List ℕ) → Refines sv l (history.receive session clock input out)

@@ -1,4 +1,5 @@
 -- A request is a step of the machine.
+use Rattle.std.specs.Prelude.{Result, Ok}
 use mathlib.Core.Path.{◌≡◌, refl, sym, ap, ap₂, ◌∙◌}
 use mathlib.Core.Bool.{Bool, true, false, cond}
 use mathlib.Core.List.{List, [], ◌∷◌, ◌++◌, map}
@@ -23,8 +24,6 @@ use Rattle.table.specs.Table.{files}
 use Rattle.links.proofs.Facts.{SendingAt, ListingAt, LinkFacts, selection_of}
 use Rattle.links.proofs.Facts as links
 use Rattle.server.specs.declared.Server.{Server}
-use Rattle.server.specs.declared.check.Check.{Check}
-use Rattle.server.specs.declared.check.Check.TheVariants.{Go}
 use Rattle.server.specs.State.{Lent, link_of, with_link, owner_part, table_part}
 use Rattle.header.specs.Entries.{running_on}
 use Rattle.listing.specs.declared.Filled.{Filled}
@@ -230,11 +229,11 @@ module _ (sv : Server) (l : Lent) (g : Good sv l) (i : ℕ) (inside : i < sv.ses
     due_is (down.Listing listed long done sent) e = listing_due_law listed long done sent (own.listing listed long done sent e)
 
 module _ (sv : Server) (l : Lent) (g : Good sv l) where
-  abbrev asks : List ℕ → Check → Stepped
+  abbrev asks : List ℕ → Result ℕ ℕ → Stepped
   asks out k = stepped (told (server.on_request k sv l out).done.answer (server.on_request k sv l out).out) (view (server.on_request k sv l out).done.server l)
 
   request_goes : (session : ℕ) (out : List ℕ) → Through sv session true (length out)
-      → asks out (Go (session - 1)) ≡ on_request (model.session_at (view sv l) (session - 1)).down (view sv l) (session - 1) out
+      → asks out (Ok (session - 1)) ≡ on_request (model.session_at (view sv l) (session - 1)).down (view sv l) (session - 1) out
   unfolding server.on_request due_as
   request_goes session out t =
       due_is sv l g (session - 1) t.inside t.linked out t.room (link_of sv (session - 1)).down refl

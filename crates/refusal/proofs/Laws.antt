@@ -1,9 +1,9 @@
 -- Laws of the numbers of refusals. Assumes nothing.
-use Rattle.std.proofs.Common.{◌≡◌, ℕ, ◌<◌, cond, eqb, refl, ap, sym, ◌∙◌, Result, Ok, Err, arith}
+use Rattle.std.proofs.Common.{◌≡◌, ℕ, ◌<◌, cond, eqb, refl, ap, sym, subst, ◌∙◌, Result, Ok, Err, arith}
 use Rattle.refusal.specs.declared.Refusal.{Refusal}
 use Rattle.refusal.specs.declared.Refusal.TheVariants.{IllFormed, BadContinue, UsedUp, NoSuchFile, SelectionEmpty, ItemMissing, NoHeader, BadEquation}
 use Rattle.refusal.specs.declared.Refusal.TheVariants.{NoSuchDestination, FilePartial, FileComplete, NoRoom, BadHeader, HeaderSum, BodySum, ShortOutput, BadSize, BadSession, Unsound}
-use Rattle.refusal.specs.Refusal.{number, number_of}
+use Rattle.refusal.specs.Refusal.{number, number_of, numbered}
 
 -- no refusal has the number 0
 pub refused : (refusal : Refusal) → 0 < number refusal
@@ -60,3 +60,22 @@ apart r s e = sym (named_number r) ∙ (ap named e ∙ named_number s)
 -- an answer is refused where its number is not 0
 pub not_done : (refusal : Refusal) (n : ℕ) → number refusal ≡ n → 0 < n
 not_done refusal n e = let h = refused refusal in omega arith
+
+-- an answer is determined by its number where there is nothing else to it, and by itself with the number in the refusal's place
+pub number_determines : (r s : Result Unit Refusal) → number_of r ≡ number_of s → r ≡ s
+number_determines (Ok a) (Ok b) e = refl
+number_determines (Ok a) (Err s) e = let h = refused s in absurd (omega arith)
+number_determines (Err r) (Ok b) e = let h = refused r in absurd (omega arith)
+number_determines (Err r) (Err s) e = ap Err (apart r s e)
+
+-- the answer of a numbered one
+abbrev answered : {A : Type 0} → Result A ℕ → Result A Refusal
+answered (Ok a) = Ok a
+answered (Err n) = Err (named n)
+
+answered_numbered : {A : Type 0} (r : Result A Refusal) → answered (numbered r) ≡ r
+answered_numbered (Ok a) = refl
+answered_numbered (Err r) = ap Err (named_number r)
+
+pub numbered_determines : {A : Type 0} (r s : Result A Refusal) → numbered r ≡ numbered s → r ≡ s
+numbered_determines r s e = sym (answered_numbered r) ∙ (ap answered e ∙ answered_numbered s)

@@ -1,4 +1,5 @@
 -- The answers of the two calls, as lines. Assumes nothing.
+use Rattle.std.proofs.Common.{Result, Ok, Err}
 use mathlib.Core.Path.{◌≡◌, refl, sym, ap, subst, ◌∙◌}
 use mathlib.Core.Bool.{Bool, true, false, cond}
 use mathlib.Core.List.{List, ◌++◌}
@@ -31,11 +32,11 @@ use Rattle.replies.proofs.ReplyLaws.{bytes_size, refused_size, wrong_size, text_
 
 -- ---- an equation as on paper
 
-abbrev pub said_for : Answer → List ℕ → List ℕ
-said_for (answer.Bytes n) now = bytes_line (take n now)
-said_for (answer.Wrong p why) now = wrong_line p why
-said_for answer.Long now = refused_line (bytes_of "bytes")
-said_for (answer.Refused n) now = refused_line (decimal_of n)
+abbrev pub said_for : Result Answer ℕ → List ℕ → List ℕ
+said_for (Ok (answer.Bytes n)) now = bytes_line (take n now)
+said_for (Ok (answer.Wrong p why)) now = wrong_line p why
+said_for (Ok answer.Long) now = refused_line (bytes_of "bytes")
+said_for (Err n) now = refused_line (decimal_of n)
 
 abbrev said_by : paper.Answers → List ℕ
 said_by a = said_for a.answer a.out
@@ -46,18 +47,18 @@ by_outcome (accepted f) = rw (length-replicate {A = ℕ} 256 0) (by (leb (length
   where
     by : (t : Bool)
         → said_by (cond t
-        (cond t (paper.answers (answer.Bytes (length (postfix f))) (postfix f ++ drop (length (postfix f)) (replicate 256 0)))
-        (paper.answers (answer.Refused 33) (replicate 256 0))) (paper.answers answer.Long (replicate 256 0)))
+        (cond t (paper.answers (Ok (answer.Bytes (length (postfix f)))) (postfix f ++ drop (length (postfix f)) (replicate 256 0)))
+        (paper.answers (Err 33) (replicate 256 0))) (paper.answers (Ok answer.Long) (replicate 256 0)))
         ≡ cond t (bytes_line (postfix f)) (refused_line (bytes_of "bytes"))
     by true = ap bytes_line (take_at (postfix f) (drop (length (postfix f)) (replicate 256 0)) (length (postfix f)) refl)
     by false = refl
 by_outcome (refused p why) = refl
 
-module _ (text : List ℕ) (r x : Answer) (now : List ℕ) (e : paper.answers r now ≡ paper.bytes_of text (replicate 256 0)) (z : r ≡ x) where
+module _ (text : List ℕ) (r x : Result Answer ℕ) (now : List ℕ) (e : paper.answers r now ≡ paper.bytes_of text (replicate 256 0)) (z : r ≡ x) where
   pub said_as : said_of (outcome_of text) ≡ said_for x now
   said_as = sym (rw (← z) (ap said_by e ∙ by_outcome (outcome_of text)))
 
-pub bytes_fit : (text : List ℕ) (r : Answer) (n : ℕ) (now : List ℕ) → paper.answers r now ≡ paper.bytes_of text (replicate 256 0) → r ≡ answer.Bytes n → n ≤ 256
+pub bytes_fit : (text : List ℕ) (r : Result Answer ℕ) (n : ℕ) (now : List ℕ) → paper.answers r now ≡ paper.bytes_of text (replicate 256 0) → r ≡ Ok (answer.Bytes n) → n ≤ 256
 bytes_fit text r n now e z = let s = promised.sound text (replicate 256 0) n now (sym (rw z at e)) in s.3
 
 said_small : (text : List ℕ) (o : Outcome) → outcome_of text ≡ o → length text < 9223372036854775808 → length (said_of o) ≤ 4096
@@ -74,12 +75,12 @@ said_fits text h = said_small text (outcome_of text) refl h
 
 -- ---- an equation in bytes
 
-size_of : back-answer.Answer → ℕ
-size_of (written.Text n) = n
-size_of (written.Refused n) = 0
-size_of written.Mark = 0
-size_of written.Deeper = 0
-size_of written.Bytes = 0
+size_of : Result back-answer.Answer ℕ → ℕ
+size_of (Ok (written.Text n)) = n
+size_of (Err n) = 0
+size_of (Ok written.Mark) = 0
+size_of (Ok written.Deeper) = 0
+size_of (Ok written.Bytes) = 0
 
 abbrev Fits : List ℕ → back.Answers → Type 0
 Fits out a = size_of a.answer ≤ length out
@@ -98,8 +99,8 @@ written_fits out (some t) n m =
   where
     by : (s : Bool) → leb (length (text_of (formula_of t))) (length out) ≡ s
         → Fits out
-        (cond s (back.answers (written.Text (length (text_of (formula_of t)))) (text_of (formula_of t) ++ drop (length (text_of (formula_of t))) out))
-        (back.answers (written.Refused 33) out))
+        (cond s (back.answers (Ok (written.Text (length (text_of (formula_of t))))) (text_of (formula_of t) ++ drop (length (text_of (formula_of t))) out))
+        (back.answers (Err 33) out))
     by true e = leb-true (length (text_of (formula_of t))) (length out) e
     by false e = omega arith
 
@@ -107,16 +108,16 @@ all_fits : (bytes out : List ℕ) → Fits out (back.written_of bytes out)
 unfolding back.written_of size_of
 all_fits bytes out = by_cond out (ltb 2047 (length bytes)) _ _ (omega arith) (λ e. written_fits out (parse bytes) (length bytes) (length (unmarked bytes)))
 
-pub text_fits : (bytes : List ℕ) (r : back-answer.Answer) (n : ℕ) (now : List ℕ) → back.answers r now ≡ back.written_of bytes (replicate 4000 0) → r
-    ≡ written.Text n → n ≤ 4000
+pub text_fits : (bytes : List ℕ) (r : Result back-answer.Answer ℕ) (n : ℕ) (now : List ℕ) → back.answers r now ≡ back.written_of bytes (replicate 4000 0) → r
+    ≡ Ok (written.Text n) → n ≤ 4000
 unfolding size_of
 text_fits bytes r n now e z =
     let f : Fits (replicate 4000 0) (back.answers r now) =
     subst (λ (a : back.Answers). Fits (replicate 4000 0) a) (sym e) (all_fits bytes (replicate 4000 0)) in
-    let g : n ≤ length (replicate {A = ℕ} 4000 0) = subst (λ (a : back-answer.Answer). size_of a ≤ length (replicate {A = ℕ} 4000 0)) z f in
+    let g : n ≤ length (replicate {A = ℕ} 4000 0) = subst (λ (a : Result back-answer.Answer ℕ). size_of a ≤ length (replicate {A = ℕ} 4000 0)) z f in
     omega (arith, g, length-replicate {A = ℕ} 4000 0)
 
-pub told_as : (bytes : List ℕ) (r x : back-answer.Answer) (now : List ℕ) → back.answers r now ≡ back.written_of bytes room → r ≡ x
+pub told_as : (bytes : List ℕ) (r x : Result back-answer.Answer ℕ) (now : List ℕ) → back.answers r now ≡ back.written_of bytes room → r ≡ x
     → told_by (back.written_of bytes room) ≡ told_of x now
 told_as bytes r x now e z = sym (rw (← z) (ap told_by e))
 
@@ -128,15 +129,15 @@ small_cond : (t : Bool) (a b : back.Answers) → Small a → Small b → Small (
 small_cond true a b h i = h
 small_cond false a b h i = i
 
-small_text : (text : List ℕ) → length text ≤ 4000 → Small (back.answers (written.Text (length text)) (text ++ drop (length text) room))
+small_text : (text : List ℕ) → length text ≤ 4000 → Small (back.answers (Ok (written.Text (length text))) (text ++ drop (length text) room))
 unfolding told_of
 small_text text h = rw (take_at text (drop (length text) room) (length text) refl) (omega (arith, text_size text))
 
-small_number : (n : ℕ) → n < 256 → Small (back.answers (written.Refused n) room)
+small_number : (n : ℕ) → n < 256 → Small (back.answers (Err n) room)
 unfolding told_of
 small_number n h = omega (arith, refused_size (decimal_of n), digits_most_8 n h)
 
-small_words : Small (back.answers written.Mark room) × Small (back.answers written.Deeper room) × Small (back.answers written.Bytes room)
+small_words : Small (back.answers (Ok written.Mark) room) × Small (back.answers (Ok written.Deeper) room) × Small (back.answers (Ok written.Bytes) room)
 unfolding told_of refused_line bytes_of
 small_words = (omega arith, omega arith, omega arith)
 
@@ -145,7 +146,7 @@ unfolding back.delivered
 small_delivered text = by (leb (length text) (length room)) refl
   where
     by : (t : Bool) → leb (length text) (length room) ≡ t
-        → Small (cond t (back.answers (written.Text (length text)) (text ++ drop (length text) room)) (back.answers (written.Refused 33) room))
+        → Small (cond t (back.answers (Ok (written.Text (length text))) (text ++ drop (length text) room)) (back.answers (Err 33) room))
     by true e = small_text text (omega (arith, leb-true (length text) (length room) e, length-replicate {A = ℕ} 4000 0))
     by false e = small_number 33 (omega arith)
 

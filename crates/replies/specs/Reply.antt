@@ -1,7 +1,7 @@
 -- The lines of the program `equations`: "`text` TAB an equation as on paper (the rest of the line, tabs included); `bytes` TAB hex" is read, and "for each
 -- line one: `bytes` TAB hex, or `wrong` TAB place TAB reason, or `refused` TAB reason; for `bytes`: `text` TAB the text, or `refused` TAB reason (`33`, `8`,
 -- `mark`, `deeper`, `bytes`)" is printed. TAB is 9, the newline 10. Assumes nothing.
-use Rattle.std.specs.Prelude.{Bool, true, false, cond, List, [], ◌∷◌, ◌++◌, ℕ, ◌+◌, leb, length, take, drop, replicate, None, Some}
+use Rattle.std.specs.Prelude.{Bool, true, false, cond, List, [], ◌∷◌, ◌++◌, ℕ, ◌+◌, leb, length, take, drop, replicate, None, Some, Result, Ok, Err}
 use Rattle.std.specs.Prelude as std
 use Rattle.std.proofs.Math.Option.{Option, none, some}
 use Rattle.packet.specs.Names.{bytes_of}
@@ -54,12 +54,12 @@ said_of (accepted f) = cond (leb (length (postfix f)) 256) (bytes_line (postfix 
 said_of (refused p why) = wrong_line (p + 1) why
 
 -- for an equation in bytes
-unfoldable pub told_of : Answer → List ℕ → List ℕ
-told_of (answer.Text n) out = text_line (take n out)
-told_of (answer.Refused n) out = refused_line (decimal_of n)
-told_of answer.Mark out = refused_line (bytes_of "mark")
-told_of answer.Deeper out = refused_line (bytes_of "deeper")
-told_of answer.Bytes out = refused_line (bytes_of "bytes")
+unfoldable pub told_of : Result Answer ℕ → List ℕ → List ℕ
+told_of (Ok (answer.Text n)) out = text_line (take n out)
+told_of (Err n) out = refused_line (decimal_of n)
+told_of (Ok answer.Mark) out = refused_line (bytes_of "mark")
+told_of (Ok answer.Deeper) out = refused_line (bytes_of "deeper")
+told_of (Ok answer.Bytes) out = refused_line (bytes_of "bytes")
 
 abbrev pub told_by : Answers → List ℕ
 told_by a = told_of a.answer a.out

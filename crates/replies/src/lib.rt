@@ -203,12 +203,11 @@ fn paper_line(equation: &[u8], out: &mut [u8]) -> usize
     ensures out_after { out.new ≡ sets out.old 0 (said_of (outcome_of equation.now)) }
 {
     let mut bytes = [0u8; 256];
-    let a = to_bytes(equation, &mut bytes);
-    match a {
-        paper::Answer::Bytes(n) => bytes_line(&bytes[..n], out),
-        paper::Answer::Wrong(place, why) => wrong_line(place, why, out),
-        paper::Answer::Long => refused_line(b"bytes", out),
-        paper::Answer::Refused(n) => refused_by(n, out),
+    match to_bytes(equation, &mut bytes) {
+        Ok(paper::Answer::Bytes(n)) => bytes_line(&bytes[..n], out),
+        Ok(paper::Answer::Wrong(place, why)) => wrong_line(place, why, out),
+        Ok(paper::Answer::Long) => refused_line(b"bytes", out),
+        Err(refusal) => refused_by(u8::from(refusal), out),
     }
 }
 
@@ -219,13 +218,12 @@ fn equation_line(equation: &[u8], out: &mut [u8]) -> usize
     ensures out_after { out.new ≡ sets out.old 0 (told_by (written_of equation.now room)) }
 {
     let mut text = [0u8; 4000];
-    let a = to_text(equation, &mut text);
-    match a {
-        back::Answer::Text(n) => text_line(&text[..n], out),
-        back::Answer::Refused(n) => refused_by(n, out),
-        back::Answer::Mark => refused_line(b"mark", out),
-        back::Answer::Deeper => refused_line(b"deeper", out),
-        back::Answer::Bytes => refused_line(b"bytes", out),
+    match to_text(equation, &mut text) {
+        Ok(back::Answer::Text(n)) => text_line(&text[..n], out),
+        Err(refusal) => refused_by(u8::from(refusal), out),
+        Ok(back::Answer::Mark) => refused_line(b"mark", out),
+        Ok(back::Answer::Deeper) => refused_line(b"deeper", out),
+        Ok(back::Answer::Bytes) => refused_line(b"bytes", out),
     }
 }
 

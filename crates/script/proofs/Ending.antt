@@ -1,5 +1,6 @@
 -- A line ends (demand 1: "The program always ends"): after at most 1,048,580 steps more than it has bytes the script rests, in every good state, which
 -- all states are that a script reaches (Reaching.antt), whatever the bytes. Assumes nothing.
+use Rattle.std.specs.Prelude.{Result, Ok, Err}
 use native.Mathlib.Omega.{arith}
 use mathlib.Core.Path.{◌≡◌, refl, sym, ◌∙◌, ap}
 use mathlib.Core.Bool.{Bool, true, false, cond}
@@ -11,8 +12,6 @@ use borrow.Author.Tests.{ltb-true}
 use Rattle.session.specs.declared.reply.Answer.{Answer}
 use Rattle.session.specs.declared.reply.Answer.TheVariants as answer
 use Rattle.server.specs.declared.Server.{Server}
-use Rattle.server.specs.declared.check.Check.{Check}
-use Rattle.server.specs.declared.check.Check.TheVariants.{Go, Refuse}
 use Rattle.server.specs.State.{Lent, Outcome}
 use Rattle.server.specs.Calls.{Opened, on_request}
 use Rattle.server.specs.Calls.{receive_by, request_by}
@@ -119,7 +118,7 @@ pump (suc k) sv clock session l bytes g p =
     r = request_by true sv l (replicate 258 0) session
 
 -- a request that is refused ends it at once
-refused_answer : (sv : Server) (l : Lent) (session n : ℕ) → check_for true sv l session true 258 ≡ Refuse n
+refused_answer : (sv : Server) (l : Lent) (session n : ℕ) → check_for true sv l session true 258 ≡ Err n
     → (request_by true sv l (replicate 258 0) session).done.answer ≡ answer.Refused n
 unfolding request_by on_request
 refused_answer sv l session n e = rw e
@@ -127,7 +126,7 @@ refused_answer sv l session n e = rw e
 not_sent : (n t m : ℕ) → answer.Refused n ≡ answer.Sent t m → ⊥
 not_sent n t m e = let z : ◌≡◌ {A = ℕ} 0 1 = cc in omega arith
 
-pump_refused : (k : ℕ) (sv : Server) (clock session n : ℕ) (l : Lent) (bytes : List ℕ) → check_for true sv l session true 258 ≡ Refuse n
+pump_refused : (k : ℕ) (sv : Server) (clock session n : ℕ) (l : Lent) (bytes : List ℕ) → check_for true sv l session true 258 ≡ Err n
     → RestsIn (suc k) (day_of sv clock (doing.Pumping session)) l bytes
 unfolding call_of after_of
 pump_refused k sv clock session n l bytes e =
@@ -142,9 +141,9 @@ pump_most : (k : ℕ) (sv : Server) (clock session : ℕ) (l : Lent) (bytes : Li
 pump_most zero sv clock session l bytes g p = absurd (omega (arith, p))
 pump_most (suc k) sv clock session l bytes g p = go (check_for true sv l session true 258) refl
   where
-    go : (c : Check) → check_for true sv l session true 258 ≡ c → RestsIn (suc k) (day_of sv clock (doing.Pumping session)) l bytes
-    go (Refuse n) e = pump_refused k sv clock session n l bytes e
-    go (Go i) e =
+    go : (c : Result ℕ ℕ) → check_for true sv l session true 258 ≡ c → RestsIn (suc k) (day_of sv clock (doing.Pumping session)) l bytes
+    go (Err n) e = pump_refused k sv clock session n l bytes e
+    go (Ok i) e =
         pump (suc k) sv clock session l bytes g
         (omega (arith, p, left_most sv l session i 258 (sym (kept_check sv l g.sound session true 258) ∙ e)))
 

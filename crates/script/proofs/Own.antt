@@ -1,4 +1,5 @@
 -- In a good state a step's call is the server's own call, with the test of 35, and leaves a good state. Assumes nothing.
+use Rattle.std.specs.Prelude.{Result, Ok, Err}
 use mathlib.Core.Path.{◌≡◌, refl}
 use mathlib.Core.Bool.{true}
 use mathlib.Core.List.{List}
@@ -7,8 +8,6 @@ use Prim.Native.Nat.{ℕ}
 use lib.ListN.{replicate}
 use Rattle.session.specs.declared.reply.Answer.TheVariants as answer
 use Rattle.server.specs.declared.Server.{Server}
-use Rattle.server.specs.declared.check.Check.{Check}
-use Rattle.server.specs.declared.check.Check.TheVariants.{Go, Refuse}
 use Rattle.server.specs.State.{Lent, Outcome, outcome, done_with}
 use Rattle.server.specs.Check.{check_of}
 use Rattle.server.specs.Calls.{on_lose, lose_of, lose_by}
@@ -25,11 +24,11 @@ use Rattle.script.specs.Printing.{line_for}
 use Rattle.script.specs.Reached.{own_call, Own}
 
 -- a lost link sends no packet, so its line does not depend on the output
-lose_line : (c : Check) (sv : Server) (selected held : List ℕ) (session : ℕ) (a b : List ℕ)
+lose_line : (c : Result ℕ ℕ) (sv : Server) (selected held : List ℕ) (session : ℕ) (a b : List ℕ)
     → line_for session (on_lose c sv selected held).done.answer a ≡ line_for session (on_lose c sv selected held).done.answer b
 unfolding on_lose line_for
-lose_line (Go i) sv selected held session a b = refl
-lose_line (Refuse n) sv selected held session a b = refl
+lose_line (Ok i) sv selected held session a b = refl
+lose_line (Err n) sv selected held session a b = refl
 
 module _ (sv : Server) (l : Lent) (g : Good sv l) where
   own_login : (out : List ℕ) (session clock : ℕ) → Own sv l (login session clock out) (only_out l (login_by true sv l out session clock))

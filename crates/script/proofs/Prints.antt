@@ -1,4 +1,5 @@
 -- What a step prints is the whole line of its call's answer, and nothing else. Assumes nothing.
+use Rattle.std.specs.Prelude.{Result, Ok, Err}
 use native.Mathlib.Omega.{arith}
 use mathlib.Core.Path.{◌≡◌}
 use mathlib.Core.Bool.{Bool, true, false, cond}
@@ -22,8 +23,6 @@ use Rattle.session.specs.Reply.{tell, answered}
 use Rattle.table.specs.declared.File.{File}
 use Rattle.table.specs.Table.{files, file_at}
 use Rattle.server.specs.declared.Server.{Server}
-use Rattle.server.specs.declared.check.Check.{Check}
-use Rattle.server.specs.declared.check.Check.TheVariants.{Go, Refuse}
 use Rattle.server.specs.State.{Lent, Outcome, link_of, owner_part, table_part}
 use Rattle.server.specs.Check.{fits, in_state, session_check}
 use Rattle.listing.specs.declared.Filled.{Filled}
@@ -54,9 +53,9 @@ Small (answer.Sent taken size) = Unit {0}
 Small (answer.Closed taken) = Unit {0}
 Small (answer.Refused number) = number < 256
 
-unfoldable pub SmallCheck : Check → Type 0
-SmallCheck (Go i) = Unit {0}
-SmallCheck (Refuse number) = number < 256
+unfoldable pub SmallCheck : Result ℕ ℕ → Type 0
+SmallCheck (Ok i) = Unit {0}
+SmallCheck (Err number) = number < 256
 
 session_small : (sv : Server) (session : ℕ) (wanted : Bool) (out : ℕ) → SmallCheck (session_check sv session wanted out)
 unfolding session_check SmallCheck
@@ -64,7 +63,7 @@ session_small sv session wanted out =
     go (eqb session 0) (ltb sv.sessions session) (in_state wanted (link_of sv (session - 1)).linked) (ltb out 258)
   where
     go : (a b d f : Bool)
-        → SmallCheck (cond a (Refuse 34) (cond b (Refuse 34) (cond d (cond f (Refuse 32) (Go (session - 1))) (Refuse 34))))
+        → SmallCheck (cond a (Err 34) (cond b (Err 34) (cond d (cond f (Err 32) (Ok (session - 1))) (Err 34))))
     go true b d f = omega arith
     go false true d f = omega arith
     go false false false f = omega arith
@@ -75,7 +74,7 @@ check_small : (sv : Server) (l : Lent) (session : ℕ) (wanted : Bool) (out : �
 unfolding check_by SmallCheck
 check_small sv l session wanted out = go (fits sv (length l.disk) l.map l.owner l.table l.selected l.held)
   where
-    go : (a : Bool) → SmallCheck (cond a (session_check sv session wanted out) (Refuse 33))
+    go : (a : Bool) → SmallCheck (cond a (session_check sv session wanted out) (Err 33))
     go false = omega arith
     go true = session_small sv session wanted out
 
@@ -104,21 +103,21 @@ answered_small r taken out = go (ltb (length out) 258)
 
 -- ---- each call
 
-login_small : (c : Check) (sv : Server) (out : List ℕ) (clock : ℕ) → SmallCheck c → Small (on_login c sv out clock).done.answer
+login_small : (c : Result ℕ ℕ) (sv : Server) (out : List ℕ) (clock : ℕ) → SmallCheck c → Small (on_login c sv out clock).done.answer
 unfolding on_login Small SmallCheck
-login_small (Refuse n) sv out clock p = p
-login_small (Go i) sv out clock p = answered_small (reply.Login clock) 0 out
+login_small (Err n) sv out clock p = p
+login_small (Ok i) sv out clock p = answered_small (reply.Login clock) 0 out
 
-lose_small : (c : Check) (sv : Server) (selected held : List ℕ) → SmallCheck c → Small (on_lose c sv selected held).done.answer
+lose_small : (c : Result ℕ ℕ) (sv : Server) (selected held : List ℕ) → SmallCheck c → Small (on_lose c sv selected held).done.answer
 unfolding on_lose Small SmallCheck
-lose_small (Refuse n) sv selected held p = p
-lose_small (Go i) sv selected held p = tt
+lose_small (Err n) sv selected held p = p
+lose_small (Ok i) sv selected held p = tt
 
-receive_small : (c : Check) (sv : Server) (l : Lent) (out : List ℕ) (clock : ℕ) (input : List ℕ) → SmallCheck c
+receive_small : (c : Result ℕ ℕ) (sv : Server) (l : Lent) (out : List ℕ) (clock : ℕ) (input : List ℕ) → SmallCheck c
     → Small (on_check c sv l out clock input).done.answer
 unfolding on_check step_of heard_by answered_by Small SmallCheck
-receive_small (Refuse n) sv l out clock input p = p
-receive_small (Go i) sv l out clock input p = answered_small _ _ out
+receive_small (Err n) sv l out clock input p = p
+receive_small (Ok i) sv l out clock input p = answered_small _ _ out
 
 sending_small : (s : Session) (place offset sent : ℕ) (disk owner out : List ℕ) (fs : List File)
     → Small (sending_of s place offset sent disk owner fs out).asked.answer
@@ -149,10 +148,10 @@ due_small (down.Aborting place) s disk owner selected out fs = answered_small re
 due_small (down.Listing l long done sent) s disk owner selected out fs =
     listed_small s l long _ out (fill_size (entries_of l long s.next disk owner fs selected) done sent)
 
-request_small : (c : Check) (sv : Server) (l : Lent) (out : List ℕ) → SmallCheck c → Small (on_request c sv l out).done.answer
+request_small : (c : Result ℕ ℕ) (sv : Server) (l : Lent) (out : List ℕ) → SmallCheck c → Small (on_request c sv l out).done.answer
 unfolding on_request due_as Small SmallCheck
-request_small (Refuse n) sv l out p = p
-request_small (Go i) sv l out p = due_small (link_of sv i).down (link_of sv i) l.disk (owner_part sv l) _ out (files (table_part sv l))
+request_small (Err n) sv l out p = p
+request_small (Ok i) sv l out p = due_small (link_of sv i).down (link_of sv i) l.disk (owner_part sv l) _ out (files (table_part sv l))
 
 pub call_small : (d : Doing) (sv : Server) (clock : ℕ) (bytes : List ℕ) (l : Lent) (out : List ℕ) → Small (call_of sv clock d bytes l out).done.answer
 unfolding call_of hear_of login_by lose_by receive_by request_by Small

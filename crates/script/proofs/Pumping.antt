@@ -1,4 +1,5 @@
 -- Requests end: a request that sends a packet leaves less to send. Assumes nothing.
+use Rattle.std.specs.Prelude.{Result, Ok, Err}
 use native.Mathlib.Omega.{arith}
 use native.Mathlib.Nat.{mod-eq_of_lt}
 use mathlib.Core.Path.{◌≡◌, refl, sym, ◌∙◌, ap}
@@ -28,8 +29,6 @@ use Rattle.links.specs.Sound.{links_sound}
 use Rattle.links.proofs.Facts.{LinkTested}
 use Rattle.links.proofs.Facts as links
 use Rattle.server.specs.declared.Server.{Server}
-use Rattle.server.specs.declared.check.Check.{Check}
-use Rattle.server.specs.declared.check.Check.TheVariants.{Go, Refuse}
 use Rattle.server.specs.State.{Lent, link_of, with_link, words, part, owner_part, table_part}
 use Rattle.server.specs.Check.{sizes_fit, room_fits, sound_parts, in_state, session_check, check_by, check_of}
 use Rattle.listing.specs.declared.Filled.{Filled}
@@ -46,14 +45,14 @@ pub record Through (sv : Server) (l : Lent) (session i : ℕ) (wanted : Bool) : 
   pub index : i ≡ session - 1
   pub state : in_state wanted (link_of sv i).linked ≡ true
 
-session_through : (sv : Server) (session : ℕ) (wanted : Bool) (out i : ℕ) → session_check sv session wanted out ≡ Go i
+session_through : (sv : Server) (session : ℕ) (wanted : Bool) (out i : ℕ) → session_check sv session wanted out ≡ Ok i
     → (i ≡ session - 1) × (in_state wanted (link_of sv i).linked ≡ true)
 unfolding session_check
 session_through sv session wanted out i e =
     go (eqb session 0) (ltb sv.sessions session) (in_state wanted (link_of sv (session - 1)).linked) refl (ltb out 258) e
   where
     go : (a b d : Bool) → in_state wanted (link_of sv (session - 1)).linked ≡ d → (f : Bool)
-        → cond a (Refuse 34) (cond b (Refuse 34) (cond d (cond f (Refuse 32) (Go (session - 1))) (Refuse 34))) ≡ Go i
+        → cond {A = Result ℕ ℕ} a (Err 34) (cond b (Err 34) (cond d (cond f (Err 32) (Ok (session - 1))) (Err 34))) ≡ Ok i
         → (i ≡ session - 1) × (in_state wanted (link_of sv i).linked ≡ true)
     go true b d p f e = let z : ◌≡◌ {A = ℕ} 0 1 = cc in absurd (omega arith)
     go false true d p f e = let z : ◌≡◌ {A = ℕ} 0 1 = cc in absurd (omega arith)
@@ -63,7 +62,7 @@ session_through sv session wanted out i e =
         let s : i ≡ session - 1 = cc in
         (s, ap (λ (k : ℕ). in_state wanted (link_of sv k).linked) s ∙ p)
 
-pub through : (sv : Server) (l : Lent) (session out i : ℕ) (wanted : Bool) → check_of sv l session wanted out ≡ Go i → Through sv l session i wanted
+pub through : (sv : Server) (l : Lent) (session out i : ℕ) (wanted : Bool) → check_of sv l session wanted out ≡ Ok i → Through sv l session i wanted
 unfolding check_by
 through sv l session out i wanted e =
     go (cond (sizes_fit sv.blocks sv.files sv.sessions sv.most)
@@ -72,7 +71,7 @@ through sv l session out i wanted e =
     (sound_parts sv l.map l.owner l.table l.selected l.held) refl e
   where
     go : (a b : Bool) → sound_parts sv l.map l.owner l.table l.selected l.held ≡ b
-        → cond a (cond b (session_check sv session wanted out) (Refuse 35)) (Refuse 33) ≡ Go i → Through sv l session i wanted
+        → cond {A = Result ℕ ℕ} a (cond b (session_check sv session wanted out) (Err 35)) (Err 33) ≡ Ok i → Through sv l session i wanted
     go false b p e = let z : ◌≡◌ {A = ℕ} 0 1 = cc in absurd (omega arith)
     go true false p e = let z : ◌≡◌ {A = ℕ} 0 1 = cc in absurd (omega arith)
     go true true p e =
@@ -273,7 +272,7 @@ open_index sv i e =
     by_lt i (length sv.links) (λ h. h)
     (λ h. absurd (closed_clash (sym (ap (λ (s : Session). s.linked) (get_or-eq_default sv.links closed_session h)) ∙ e)))
 
-pub countable : (sv : Server) (l : Lent) (session i out : ℕ) → check_of sv l session true out ≡ Go i
+pub countable : (sv : Server) (l : Lent) (session i out : ℕ) → check_of sv l session true out ≡ Ok i
     → Countable (files (table_part sv l)) (entries_in sv l i (link_of sv i).next) (link_of sv i).down
 countable sv l session i out e =
     let t = through sv l session out i true e in
@@ -302,11 +301,11 @@ less_link sv l session i s e p same q =
     = ap (λ (k : ℕ). left_of (files (table_part sv l)) (entries_in sv l k (link_of sv k).next) (link_of sv k).down) (sym e) in
     omega (arith, b, d, q)
 
-pub request_less : (sv : Server) (l : Lent) (out : List ℕ) (session : ℕ) (c : Check) → check_of sv l session true (length out) ≡ c → (t n : ℕ)
+pub request_less : (sv : Server) (l : Lent) (out : List ℕ) (session : ℕ) (c : Result ℕ ℕ) → check_of sv l session true (length out) ≡ c → (t n : ℕ)
     → (on_request c sv l out).done.answer ≡ answer.Sent t n → left_in (on_request c sv l out).done.server l session < left_in sv l session
 unfolding on_request due_as
-request_less sv l out session (Refuse k) e t n f = let z : ◌≡◌ {A = ℕ} 0 1 = cc in absurd (omega arith)
-request_less sv l out session (Go i) e t n f =
+request_less sv l out session (Err k) e t n f = let z : ◌≡◌ {A = ℕ} 0 1 = cc in absurd (omega arith)
+request_less sv l out session (Ok i) e t n f =
     let h = through sv l session (length out) i true e in
     less_link sv l session i
     (due_of (link_of sv i).down (link_of sv i) l.disk (owner_part sv l) (files (table_part sv l)) (part (i * sv.most) sv.most l.selected) out).asked.session
@@ -316,7 +315,7 @@ request_less sv l out session (Go i) e t n f =
     (countable sv l session i (length out) e) t n f)
 
 -- what is left is bounded, or the request is refused
-pub left_most : (sv : Server) (l : Lent) (session i out : ℕ) → check_of sv l session true out ≡ Go i → left_in sv l session ≤ 1048577
+pub left_most : (sv : Server) (l : Lent) (session i out : ℕ) → check_of sv l session true out ≡ Ok i → left_in sv l session ≤ 1048577
 left_most sv l session i out e =
     let c = countable sv l session i out e in
     let d : left_in sv l session ≡ left_of (files (table_part sv l)) (entries_in sv l i (link_of sv i).next) (link_of sv i).down

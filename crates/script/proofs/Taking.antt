@@ -1,4 +1,5 @@
 -- A call that hears bytes and is not refused takes at least one of them. Assumes nothing.
+use Rattle.std.specs.Prelude.{Result, Ok, Err}
 use native.Mathlib.Omega.{arith}
 use native.Mathlib.Nat.{le_trans}
 use mathlib.Core.Path.{◌≡◌, refl, sym, ◌∙◌, ap}
@@ -21,8 +22,6 @@ use Rattle.blocks.proofs.Bits.{by_lt}
 use Rattle.links.proofs.Facts.{part_end}
 use Rattle.carry.specs.Turn.{Turned}
 use Rattle.server.specs.declared.Server.{Server}
-use Rattle.server.specs.declared.check.Check.{Check}
-use Rattle.server.specs.declared.check.Check.TheVariants.{Go, Refuse}
 use Rattle.server.specs.State.{Lent, link_of, part}
 use Rattle.server.specs.Check.{check_of}
 use Rattle.server.specs.Turns.{hear_of}
@@ -103,14 +102,14 @@ heard_takes held i count b bs p q =
     frame_takes (part (i * 258) 258 held) count b bs (length-take-le 258 (drop (i * 258) held) (omega (arith, length-drop (i * 258) held, p))) q
 
 -- an unfinished packet of a sound state has fewer than 258 bytes
-few_held : (sv : Server) (l : Lent) (session i out : ℕ) → check_of sv l session true out ≡ Go i → (link_of sv i).held < 258
+few_held : (sv : Server) (l : Lent) (session i out : ℕ) → check_of sv l session true out ≡ Ok i → (link_of sv i).held < 258
 few_held sv l session i out e =
     let t = through sv l session out i true e in
     let p = check_go _ sv session true out (length l.disk) l.map l.owner l.table l.selected l.held i e in
     let f = link_facts sv l i t.sound p.index (in_open (link_of sv i).linked t.state) in
     by_lt (link_of sv i).held 2 (λ h. omega (arith, h)) (λ h. omega (arith, (f.packet h).announces, (f.packet h).fewer))
 
-go_takes : (sv : Server) (l : Lent) (out : List ℕ) (session clock i b : ℕ) (bs : List ℕ) → check_of sv l session true (length out) ≡ Go i
+go_takes : (sv : Server) (l : Lent) (out : List ℕ) (session clock i b : ℕ) (bs : List ℕ) → check_of sv l session true (length out) ≡ Ok i
     → 1 ≤ took_of (step_of sv i clock (b ∷ bs) l out).done.answer
 go_takes sv l out session clock i b bs e =
     let p = check_go _ sv session true (length out) (length l.disk) l.map l.owner l.table l.selected l.held i e in
@@ -124,11 +123,11 @@ refusal (answer.Sent taken sent) = false
 refusal (answer.Closed taken) = false
 refusal (answer.Refused number) = true
 
-check_takes : (sv : Server) (l : Lent) (out : List ℕ) (session clock b : ℕ) (bs : List ℕ) (c : Check) → check_of sv l session true (length out) ≡ c
+check_takes : (sv : Server) (l : Lent) (out : List ℕ) (session clock b : ℕ) (bs : List ℕ) (c : Result ℕ ℕ) → check_of sv l session true (length out) ≡ c
     → refusal (on_check c sv l out clock (b ∷ bs)).done.answer ≡ false → 1 ≤ took_of (on_check c sv l out clock (b ∷ bs)).done.answer
 unfolding on_check refusal
-check_takes sv l out session clock b bs (Refuse n) e f = let z : ◌≡◌ {A = ℕ} 0 1 = cc in absurd (omega arith)
-check_takes sv l out session clock b bs (Go i) e f = go_takes sv l out session clock i b bs e
+check_takes sv l out session clock b bs (Err n) e f = let z : ◌≡◌ {A = ℕ} 0 1 = cc in absurd (omega arith)
+check_takes sv l out session clock b bs (Ok i) e f = go_takes sv l out session clock i b bs e
 
 pub receive_takes : (sv : Server) (l : Lent) (out : List ℕ) (session clock : ℕ) (input : List ℕ) (a : Answer) → 0 < length input
     → (receive_of sv l out session clock input).done.answer ≡ a → refusal a ≡ false → 1 ≤ took_of a

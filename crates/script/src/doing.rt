@@ -16,16 +16,11 @@ pub enum Doing {
 }
 
 // Whether nothing is being done.
+#[tactic(auto, unfolding(crate::specs::Doing::rests_of))]
 pub fn rests(doing: Doing) -> bool
     ensures { result ≡ rests_of doing }
 {
-    match doing {
-        Doing::Rest => true,
-        Doing::Opening(_) => false,
-        Doing::Dropping(_) => false,
-        Doing::Hearing(_, _, _) => false,
-        Doing::Pumping(_) => false,
-    }
+    matches!(doing, Doing::Rest)
 }
 
 // The session that it is done for, 0 for none.

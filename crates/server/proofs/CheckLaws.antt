@@ -1,4 +1,5 @@
 -- What the tests of the local refusals say where they are true. Assumes nothing.
+use Rattle.std.specs.Prelude.{Result, Ok, Err}
 use mathlib.Core.Path.{◌≡◌, refl, ap, ◌∙◌}
 use mathlib.Core.Bool.{Bool, true, false, cond}
 use Prim.Native.Nat.{ℕ, ◌+◌, ◌-◌, ◌*◌, ◌≤◌, ◌<◌}
@@ -10,15 +11,13 @@ use lib.ListN.{length}
 use mathlib.Core.List.{List, []}
 use Rattle.links.proofs.Facts.{part_end}
 use Rattle.server.specs.declared.Server.{Server}
-use Rattle.server.specs.declared.check.Check.{Check}
-use Rattle.server.specs.declared.check.Check.TheVariants.{Go, Refuse}
 use Rattle.server.specs.declared.check.Lengths.{Lengths}
 use Rattle.server.specs.State.{Lent, lent, words, link_of}
 use Rattle.server.specs.Check.{lengths_of, sizes_fit, room_fits, fits, in_state, session_check, check_by, check_for}
 use Rattle.server.specs.Calls.{StepPre, LosePre, DuePre, on_request}
 
 -- what is judged by the lengths of slices is judged for these slices
-pub judged : (sound : Bool) (sv : Server) (l : Lent) (session : ℕ) (wanted : Bool) (out : ℕ) (n : Lengths) (k : Check) → n ≡ lengths_of l
+pub judged : (sound : Bool) (sv : Server) (l : Lent) (session : ℕ) (wanted : Bool) (out : ℕ) (n : Lengths) (k : Result ℕ ℕ) → n ≡ lengths_of l
     → k ≡ check_by sound sv session wanted out n.disk n.map n.owner n.table n.selected n.held → k ≡ check_for sound sv l session wanted out
 judged sound sv l session wanted out n k e f =
     f ∙ ap (λ (m : Lengths). check_by sound sv session wanted out m.disk m.map m.owner m.table m.selected m.held) e
@@ -90,14 +89,14 @@ pub record Passed (sv : Server) (i disk o : ℕ) (map owner table selected held 
   pub index : i < sv.sessions
   pub out : 258 ≤ o
 
-session_go : (sv : Server) (session : ℕ) (wanted : Bool) (out i : ℕ) → session_check sv session wanted out ≡ Go i → (i < sv.sessions) × (258 ≤ out)
+session_go : (sv : Server) (session : ℕ) (wanted : Bool) (out i : ℕ) → session_check sv session wanted out ≡ Ok i → (i < sv.sessions) × (258 ≤ out)
 unfolding session_check
 session_go sv session wanted out i e =
     go (eqb session 0) refl (ltb sv.sessions session) refl (in_state wanted (link_of sv (session - 1)).linked) (ltb out 258) refl e
   where
     go : (a : Bool) → eqb session 0 ≡ a → (b : Bool) → ltb sv.sessions session ≡ b → (d f : Bool)
         → ltb out 258 ≡ f
-        → cond a (Refuse 34) (cond b (Refuse 34) (cond d (cond f (Refuse 32) (Go (session - 1))) (Refuse 34))) ≡ Go i
+        → cond {A = Result ℕ ℕ} a (Err 34) (cond b (Err 34) (cond d (cond f (Err 32) (Ok (session - 1))) (Err 34))) ≡ Ok i
         → (i < sv.sessions) × (258 ≤ out)
     go true p b q d f r e = let z : ◌≡◌ {A = ℕ} 0 1 = cc in absurd (omega arith)
     go false p true q d f r e = let z : ◌≡◌ {A = ℕ} 0 1 = cc in absurd (omega arith)
@@ -109,7 +108,7 @@ session_go sv session wanted out i e =
 
 -- where sizes and lengths fit, the session's check says the rest
 passed : (sv : Server) (session : ℕ) (wanted : Bool) (out disk : ℕ) (map owner table selected held : List ℕ) (i : ℕ)
-    → fits sv disk map owner table selected held ≡ true → session_check sv session wanted out ≡ Go i
+    → fits sv disk map owner table selected held ≡ true → session_check sv session wanted out ≡ Ok i
     → Passed sv i disk out map owner table selected held
 passed sv session wanted out disk map owner table selected held i f e =
     let t = both_true (sizes_fit sv.blocks sv.files sv.sessions sv.most) _ f in
@@ -121,13 +120,13 @@ passed sv session wanted out disk map owner table selected held i f e =
     }
 
 pub check_go : (sound : Bool) (sv : Server) (session : ℕ) (wanted : Bool) (out disk : ℕ) (map owner table selected held : List ℕ) (i : ℕ)
-    → check_by sound sv session wanted out disk (length map) (length owner) (length table) (length selected) (length held) ≡ Go i
+    → check_by sound sv session wanted out disk (length map) (length owner) (length table) (length selected) (length held) ≡ Ok i
     → Passed sv i disk out map owner table selected held
 unfolding check_by
 check_go sound sv session wanted out disk map owner table selected held i e = go (fits sv disk map owner table selected held) refl sound e
   where
     go : (a : Bool) → fits sv disk map owner table selected held ≡ a → (d : Bool)
-        → cond a (cond d (session_check sv session wanted out) (Refuse 35)) (Refuse 33) ≡ Go i → Passed sv i disk out map owner table selected held
+        → cond {A = Result ℕ ℕ} a (cond d (session_check sv session wanted out) (Err 35)) (Err 33) ≡ Ok i → Passed sv i disk out map owner table selected held
     go false p d e = let z : ◌≡◌ {A = ℕ} 0 1 = cc in absurd (omega arith)
     go true p false e = let z : ◌≡◌ {A = ℕ} 0 1 = cc in absurd (omega arith)
     go true p true e = passed sv session wanted out disk map owner table selected held i p e
@@ -177,8 +176,8 @@ module _ (sv : Server) (i disk o : ℕ) (map owner table selected held : List �
       }
 
 -- a request looks at the storage, the owners, the file table and the selections alone
-pub request_parts : (k : Check) (sv : Server) (l : Lent) (out : List ℕ)
+pub request_parts : (k : Result ℕ ℕ) (sv : Server) (l : Lent) (out : List ℕ)
     → on_request k sv (lent l.disk [] l.owner l.table l.selected []) out ≡ on_request k sv l out
 unfolding on_request
-request_parts (Go i) sv l out = refl
-request_parts (Refuse n) sv l out = refl
+request_parts (Ok i) sv l out = refl
+request_parts (Err n) sv l out = refl

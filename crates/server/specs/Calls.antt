@@ -1,7 +1,7 @@
 -- The calls of the driver (document 01). Each is one definition of all that it is handed: the answer, the server, the slices and the output
 -- afterwards. `sound` says whether the state is none that 35 refuses: `receive_of` and the others test the state that they are handed; a driver that keeps
 -- the state from call to call and shows it to nobody may say true, since "35 .. never for a state that calls made from the empty store". Assumes nothing.
-use Rattle.std.specs.Prelude.{◌≡◌, Bool, true, false, List, ℕ, ◌+◌, ◌*◌, ◌≤◌, length, replicate}
+use Rattle.std.specs.Prelude.{◌≡◌, Bool, true, false, List, ℕ, ◌+◌, ◌*◌, ◌≤◌, length, replicate, Result, Ok, Err}
 use Rattle.session.specs.declared.reply.Answer.TheVariants as answer
 use Rattle.session.specs.declared.reply.Reply.TheVariants.{Login}
 use Rattle.session.specs.State.{closed_session, fresh_session, with_held}
@@ -9,8 +9,6 @@ use Rattle.session.specs.Reply.{answered}
 use Rattle.carry.specs.Turn.{mem, Turned}
 use Rattle.server.specs.declared.Server.{Server}
 use Rattle.server.specs.declared.Done.{Done}
-use Rattle.server.specs.declared.check.Check.{Check}
-use Rattle.server.specs.declared.check.Check.TheVariants.{Go, Refuse}
 use Rattle.server.specs.State.{Lent, lent, Outcome, outcome, done_with, link_of, with_link, with_turn, part, with_part, owner_part, table_part}
 use Rattle.server.specs.Check.{sound_in, check_for}
 use Rattle.table.specs.Table.{files}
@@ -36,13 +34,13 @@ unfoldable pub step_of : Server → ℕ → ℕ → List ℕ → Lent → List �
 step_of sv i clock input l out = heard_by sv i clock l out (hear_of l.held i (link_of sv i).held input)
 
 -- what is asked of the session of a call that goes through
-abbrev pub Goes : Check → (ℕ → Type 0) → Type 0
-Goes k P = (i : ℕ) → k ≡ Go i → P i
+abbrev pub Goes : Result ℕ ℕ → (ℕ → Type 0) → Type 0
+Goes k P = (i : ℕ) → k ≡ Ok i → P i
 
 -- "32 to 35 change nothing, take no byte and write nothing."
-unfoldable pub on_check : Check → Server → Lent → List ℕ → ℕ → List ℕ → Outcome
-on_check (Refuse n) sv l out clock input = outcome (done_with sv (answer.Refused n)) l out
-on_check (Go i) sv l out clock input = step_of sv i clock input l out
+unfoldable pub on_check : Result ℕ ℕ → Server → Lent → List ℕ → ℕ → List ℕ → Outcome
+on_check (Err n) sv l out clock input = outcome (done_with sv (answer.Refused n)) l out
+on_check (Ok i) sv l out clock input = step_of sv i clock input l out
 
 unfoldable pub receive_by : Bool → Server → Lent → List ℕ → ℕ → ℕ → List ℕ → Outcome
 receive_by sound sv l out session clock input = on_check (check_for sound sv l session true (length out)) sv l out clock input
@@ -66,9 +64,9 @@ abbrev pub opened : Done → List ℕ → Opened
 opened d out = record { done = d; out = out }
 
 -- "Login sends the 32-bit clock (4 bytes) and flags 4"
-unfoldable pub on_login : Check → Server → List ℕ → ℕ → Opened
-on_login (Refuse n) sv out clock = opened (done_with sv (answer.Refused n)) out
-on_login (Go i) sv out clock =
+unfoldable pub on_login : Result ℕ ℕ → Server → List ℕ → ℕ → Opened
+on_login (Err n) sv out clock = opened (done_with sv (answer.Refused n)) out
+on_login (Ok i) sv out clock =
     opened (done_with (with_link sv i fresh_session) (answered (Login clock) 0 out).answer) (answered (Login clock) 0 out).out
 
 unfoldable pub login_by : Bool → Server → Lent → List ℕ → ℕ → ℕ → Opened
@@ -90,9 +88,9 @@ lost d selected held = record { done = d; selected = selected; held = held }
 
 -- "After a link lost at any byte, or closed, the partial holds exactly the whole DATA packets received .. The unfinished packet and the
 -- selection are forgotten."
-unfoldable pub on_lose : Check → Server → List ℕ → List ℕ → Lost
-on_lose (Refuse n) sv selected held = lost (done_with sv (answer.Refused n)) selected held
-on_lose (Go i) sv selected held =
+unfoldable pub on_lose : Result ℕ ℕ → Server → List ℕ → List ℕ → Lost
+on_lose (Err n) sv selected held = lost (done_with sv (answer.Refused n)) selected held
+on_lose (Ok i) sv selected held =
     lost (done_with (with_link sv i closed_session) (answer.Quiet 0)) (with_part (i * sv.most) sv.most (replicate sv.most 0) selected)
     (with_part (i * 258) 258 (replicate 258 0) held)
 
@@ -115,9 +113,9 @@ pub record LosePre (sv : Server) (i : ℕ) (selected held : List ℕ) : Type 0 w
 unfoldable pub due_as : Server → ℕ → Due → Opened
 due_as sv i d = opened (done_with (with_link sv i d.asked.session) d.asked.answer) d.out
 
-unfoldable pub on_request : Check → Server → Lent → List ℕ → Opened
-on_request (Refuse n) sv l out = opened (done_with sv (answer.Refused n)) out
-on_request (Go i) sv l out =
+unfoldable pub on_request : Result ℕ ℕ → Server → Lent → List ℕ → Opened
+on_request (Err n) sv l out = opened (done_with sv (answer.Refused n)) out
+on_request (Ok i) sv l out =
     due_as sv i
     (due_of (link_of sv i).down (link_of sv i) l.disk (owner_part sv l) (files (table_part sv l)) (part (i * sv.most) sv.most l.selected) out)
 

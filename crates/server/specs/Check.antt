@@ -1,12 +1,10 @@
 -- The local refusals (document 01, "Refusals by number"): "Order: 33, 35, 34, 32 first." Assumes nothing.
-use Rattle.std.specs.Prelude.{Bool, true, false, cond, not, List, ℕ, ◌*◌, ◌-◌, eqb, leb, ltb, length, take}
+use Rattle.std.specs.Prelude.{Bool, true, false, cond, not, List, ℕ, ◌*◌, ◌-◌, eqb, leb, ltb, length, take, Result, Ok, Err}
 use Rattle.table.specs.Table.{files}
 use Rattle.files.specs.Sound.{sound_test}
 use Rattle.links.specs.Sound.{links_sound}
 use Rattle.server.specs.declared.Server.{Server}
-use Rattle.server.specs.declared.check.Check.{Check}
 use Rattle.server.specs.declared.check.Lengths.{Lengths}
-use Rattle.server.specs.declared.check.Check.TheVariants.{Go, Refuse}
 use Rattle.server.specs.State.{Lent, link_of, words}
 
 -- how long each slice is that is lent
@@ -55,21 +53,21 @@ unfoldable pub in_state : Bool → Bool → Bool
 in_state true linked = linked
 in_state false linked = not linked
 
-unfoldable pub session_check : Server → ℕ → Bool → ℕ → Check
+unfoldable pub session_check : Server → ℕ → Bool → ℕ → Result ℕ ℕ
 session_check sv session wanted out =
-    cond (eqb session 0) (Refuse 34)
-    (cond (ltb sv.sessions session) (Refuse 34)
+    cond (eqb session 0) (Err 34)
+    (cond (ltb sv.sessions session) (Err 34)
     (cond (in_state wanted (link_of sv (session - 1)).linked)
-    (cond (ltb out 258) (Refuse 32) (Go (session - 1)))
-    (Refuse 34)))
+    (cond (ltb out 258) (Err 32) (Ok (session - 1)))
+    (Err 34)))
 
 -- 33, 35, 34, 32; else the session, counted from 0. `sound`: the state is none that 35 refuses. `disk`, `map` and so on are the lengths of what is
 -- lent.
-unfoldable pub check_by : Bool → Server → ℕ → Bool → ℕ → ℕ → ℕ → ℕ → ℕ → ℕ → ℕ → Check
+unfoldable pub check_by : Bool → Server → ℕ → Bool → ℕ → ℕ → ℕ → ℕ → ℕ → ℕ → ℕ → Result ℕ ℕ
 check_by sound sv session wanted out disk map owner table selected held =
-    cond (fits_in sv disk map owner table selected held) (cond sound (session_check sv session wanted out) (Refuse 35)) (Refuse 33)
+    cond (fits_in sv disk map owner table selected held) (cond sound (session_check sv session wanted out) (Err 35)) (Err 33)
 
-abbrev pub check_for : Bool → Server → Lent → ℕ → Bool → ℕ → Check
+abbrev pub check_for : Bool → Server → Lent → ℕ → Bool → ℕ → Result ℕ ℕ
 check_for sound sv l session wanted out =
     check_by sound sv session wanted out (length l.disk) (length l.map) (length l.owner) (length l.table) (length l.selected)
     (length l.held)
@@ -78,5 +76,5 @@ check_for sound sv l session wanted out =
 abbrev pub sound_in : Server → Lent → Bool
 sound_in sv l = sound_parts sv l.map l.owner l.table l.selected l.held
 
-abbrev pub check_of : Server → Lent → ℕ → Bool → ℕ → Check
+abbrev pub check_of : Server → Lent → ℕ → Bool → ℕ → Result ℕ ℕ
 check_of sv l session wanted out = check_for (sound_in sv l) sv l session wanted out

@@ -1,10 +1,9 @@
 -- Making a server: the sizes, and the empty store in what is lent (document 01, "Sizes"). Assumes nothing.
-use Rattle.std.specs.Prelude.{cond, List, ◌++◌, ℕ, ◌+◌, ◌*◌, ◌≤◌, length, take, drop, replicate}
+use Rattle.std.specs.Prelude.{cond, List, ◌++◌, ℕ, ◌+◌, ◌*◌, ◌≤◌, length, take, drop, replicate, Result, Ok, Err}
 use Rattle.session.specs.State.{closed_session}
 use Rattle.blocks.specs.Answers.{make_map, make_owner}
 use Rattle.carry.specs.Turn.{last_of}
 use Rattle.server.specs.declared.Server.{Server}
-use Rattle.server.specs.declared.Made.{Made}
 use Rattle.server.specs.State.{words}
 use Rattle.server.specs.Check.{fits}
 
@@ -45,18 +44,18 @@ pub record EmptyPre (blocks files sessions most : ℕ) (map owner table selected
 
 -- ---- the call
 
--- what making answers, and what it leaves
+-- what making answers, a server or the number of a refusal, and what it leaves
 pub record Makes : Type 0 where
-  pub made : Made
+  pub made : Result Server ℕ
   pub lent : Emptied
 
-abbrev pub makes : Made → Emptied → Makes
+abbrev pub makes : Result Server ℕ → Emptied → Makes
 makes m l = record { made = m; lent = l }
 
 -- "33 local: a size or length outside the table .. or a lent buffer too short"; `disk` is the storage's length
 unfoldable pub make_of : ℕ → ℕ → ℕ → ℕ → ℕ → List ℕ → List ℕ → List ℕ → List ℕ → List ℕ → Makes
 make_of blocks files sessions most disk map owner table selected held =
     cond (fits (new_server blocks files sessions most) disk map owner table selected held)
-    (makes (record { refused = 0; server = new_server blocks files sessions most })
+    (makes (Ok (new_server blocks files sessions most))
     (empty_of blocks files sessions most map owner table selected held))
-    (makes (record { refused = 33; server = new_server blocks files sessions most }) (emptied map owner table selected held))
+    (makes (Err 33) (emptied map owner table selected held))

@@ -1,10 +1,11 @@
 // What a call does after its check: a refusal changes nothing; else the session's call is made.
 ghost use Rattle.std.specs.Prelude.{◌≡◌, [], ◌≤◌};
+ghost use Rattle.refusal.specs.Refusal.{numbered};
 ghost use Rattle.server.specs.State.{lent, outcome};
 ghost use Rattle.server.specs.Calls.{Goes, StepPre, LosePre, DuePre, step_of, opened, on_login, lost, on_lose, on_request};
 
-use crate::check::Check;
 use crate::{Done, Server, turns};
+use refusal::Refusal;
 use session::reply::{Answer, Reply};
 
 // Bytes of an open session's link.
@@ -43,16 +44,21 @@ pub(crate) fn step(
 }
 
 // A session begins, and LOGIN_RESP goes out.
-pub(crate) fn on_login(k: Check, server: Server, out: &mut [u8], clock: u32) -> Done
-    requires { Goes k (λ i. i ≤ 3) }
-    ensures { opened result out.new ≡ on_login k server out.old clock }
+pub(crate) fn on_login(
+    k: Result<usize, Refusal>,
+    server: Server,
+    out: &mut [u8],
+    clock: u32,
+) -> Done
+    requires { Goes (numbered k) (λ i. i ≤ 3) }
+    ensures { opened result out.new ≡ on_login (numbered k) server out.old clock }
 {
     match k {
-        Check::Refuse(n) => Done {
+        Err(refusal) => Done {
             server,
-            answer: Answer::Refused(n),
+            answer: Answer::Refused(refusal.into()),
         },
-        Check::Go(i) => {
+        Ok(i) => {
             let next = turns::with_link(server, i, session::state::fresh());
             let answer = session::reply::send(Reply::Login(clock), 0, out);
             Done {
@@ -64,16 +70,21 @@ pub(crate) fn on_login(k: Check, server: Server, out: &mut [u8], clock: u32) -> 
 }
 
 // A session is closed, and its unfinished packet and its selection are forgotten.
-pub(crate) fn on_lose(k: Check, server: Server, selected: &mut [u32], held: &mut [u8]) -> Done
-    requires { Goes k (λ i. LosePre server i selected.old held.old) }
-    ensures { lost result selected.new held.new ≡ on_lose k server selected.old held.old }
+pub(crate) fn on_lose(
+    k: Result<usize, Refusal>,
+    server: Server,
+    selected: &mut [u32],
+    held: &mut [u8],
+) -> Done
+    requires { Goes (numbered k) (λ i. LosePre server i selected.old held.old) }
+    ensures { lost result selected.new held.new ≡ on_lose (numbered k) server selected.old held.old }
 {
     match k {
-        Check::Refuse(n) => Done {
+        Err(refusal) => Done {
             server,
-            answer: Answer::Refused(n),
+            answer: Answer::Refused(refusal.into()),
         },
-        Check::Go(i) => {
+        Ok(i) => {
             turns::forget(server.most, i, selected, held);
             let next = turns::with_link(server, i, session::state::closed());
             Done {
@@ -86,7 +97,7 @@ pub(crate) fn on_lose(k: Check, server: Server, selected: &mut [u32], held: &mut
 
 // What is due on a session's downlink. The map and the unfinished packets are not looked at.
 pub(crate) fn on_request(
-    k: Check,
+    k: Result<usize, Refusal>,
     server: Server,
     disk: &[u8],
     owner: &[u16],
@@ -94,16 +105,16 @@ pub(crate) fn on_request(
     selected: &[u32],
     out: &mut [u8],
 ) -> Done
-    requires { Goes k (λ i. DuePre server i owner.now table.now selected.now out.old) }
+    requires { Goes (numbered k) (λ i. DuePre server i owner.now table.now selected.now out.old) }
     ensures { opened result out.new
-        ≡ on_request k server (lent disk.now [] owner.now table.now selected.now []) out.old }
+        ≡ on_request (numbered k) server (lent disk.now [] owner.now table.now selected.now []) out.old }
 {
     match k {
-        Check::Refuse(n) => Done {
+        Err(refusal) => Done {
             server,
-            answer: Answer::Refused(n),
+            answer: Answer::Refused(refusal.into()),
         },
-        Check::Go(i) => {
+        Ok(i) => {
             let s = server.links[i];
             let b = server.blocks;
             let x = 4 * server.files;

@@ -1,16 +1,11 @@
 // The local refusals: sizes (33), an unsound state (35), the session (34), the output (32). Whether the state is sound is handed in.
 ghost use Rattle.std.specs.Prelude.{◌≡◌, Bool, true, false, cond, ◌+◌, ◌*◌, ◌/◌, ◌≤◌, length};
+ghost use Rattle.refusal.specs.Refusal.{numbered};
 ghost use Rattle.server.specs.State.{words, lent};
 ghost use Rattle.server.specs.Check.{lengths_of, sizes_fit, room_fits, fits_in, in_state, session_check, check_by};
 
 use crate::Server;
-
-// A call goes through for a session, counted from 0, or is refused.
-#[derive(Clone, Copy)]
-pub enum Check {
-    Go(usize),
-    Refuse(u8),
-}
+use refusal::Refusal;
 
 // The lengths of what is lent.
 #[derive(Clone, Copy)]
@@ -88,26 +83,26 @@ fn in_state(wanted: bool, linked: bool) -> bool
     linked == wanted
 }
 
-// The session's number and state, 34; the output, 32.
+// The session's number and state, 34; the output, 32. Else the session, counted from 0.
 #[tactic(auto, unfolding(crate::specs::Check::session_check))]
-fn check_session(server: Server, session: usize, wanted: bool, out: usize) -> Check
+fn check_session(server: Server, session: usize, wanted: bool, out: usize) -> Result<usize, Refusal>
     requires { server.sessions ≤ 4 }
-    ensures { result ≡ session_check server session wanted out }
+    ensures { numbered result ≡ session_check server session wanted out }
 {
     if session == 0 || server.sessions < session {
-        return Check::Refuse(34);
+        return Err(Refusal::BadSession);
     }
     let i = session - 1;
     if !in_state(wanted, server.links[i].linked) {
-        return Check::Refuse(34);
+        return Err(Refusal::BadSession);
     }
     if out < 258 {
-        return Check::Refuse(32);
+        return Err(Refusal::ShortOutput);
     }
-    Check::Go(i)
+    Ok(i)
 }
 
-// The local refusals in their order. `sound`: the state is none that 35 refuses.
+// The local refusals in their order; else the session that the call goes through for, counted from 0. `sound`: the state is none that 35 refuses.
 #[tactic(auto, unfolding(crate::specs::Check::check_by, crate::specs::Check::sizes_fit))]
 pub fn judge(
     server: Server,
@@ -116,14 +111,14 @@ pub fn judge(
     wanted: bool,
     out: usize,
     n: Lengths,
-) -> Check
-    ensures { result ≡ check_by sound server session wanted out n.disk n.map n.owner n.table n.selected n.held }
+) -> Result<usize, Refusal>
+    ensures { numbered result ≡ check_by sound server session wanted out n.disk n.map n.owner n.table n.selected n.held }
 {
     if !fits_all(server, n) {
-        return Check::Refuse(33);
+        return Err(Refusal::BadSize);
     }
     if !sound {
-        return Check::Refuse(35);
+        return Err(Refusal::Unsound);
     }
     check_session(server, session, wanted, out)
 }

@@ -15,7 +15,7 @@ ghost use Rattle.server.specs.State.{lent, outcome};
 ghost use Rattle.server.specs.Calls.{receive_by, opened, login_by, lost, lose_by, request_by};
 
 use carry::turn::Last;
-use check::{Check, Lengths};
+use check::Lengths;
 use session::reply::Answer;
 use session::state::Session;
 
@@ -37,13 +37,6 @@ pub struct Done {
     pub answer: Answer,
 }
 
-// A server just made (crate making), and the number of a refusal, 0 for none.
-#[derive(Clone, Copy)]
-pub struct Made {
-    pub refused: u8,
-    pub server: Server,
-}
-
 // Takes bytes of a session's link, up to the end of one packet, and answers it.
 pub fn receive(
     server: Server,
@@ -63,13 +56,12 @@ pub fn receive(
         ≡ receive_by sound server (lent disk.old map.old owner.old table.old selected.old held.old) out.old session clock input.now }
 {
     let n = Lengths::of(disk, map, owner, table, selected, held);
-    let k = check::judge(server, sound, session, true, out.len(), n);
-    match k {
-        Check::Refuse(number) => Done {
+    match check::judge(server, sound, session, true, out.len(), n) {
+        Err(refusal) => Done {
             server,
-            answer: Answer::Refused(number),
+            answer: Answer::Refused(refusal.into()),
         },
-        Check::Go(i) => calls::step(
+        Ok(i) => calls::step(
             server, i, clock, input, disk, map, owner, table, selected, held, out,
         ),
     }

@@ -1,6 +1,8 @@
 -- The program's own start: its memory is large enough, and its turns begin at the server just made. Assumes nothing.
-use Rattle.std.proofs.Common.{◌≡◌, ℕ, true, false, List, length, arith}
-use Rattle.server.specs.declared.Made.{Made}
+use Rattle.std.proofs.Common.{◌≡◌, ℕ, true, false, List, length, arith, Result, Ok}
+use Rattle.refusal.specs.declared.Refusal.{Refusal}
+use Rattle.refusal.specs.Refusal.{numbered}
+use Rattle.server.specs.declared.Server.{Server}
 use Rattle.server.specs.State.{Lent, lent}
 use Rattle.server.specs.Check.{sizes_fit, room_fits}
 use Rattle.server.specs.Making.{makes, emptied}
@@ -40,14 +42,15 @@ ready m s =
       };
     }
 
-pub new_going : (k : Kind) (p : Sitting) (m : Made) → p ≡ new_of k m.server → over_of p.stage ≡ false
+pub new_going : (k : Kind) (p : Sitting) (sv : Server) → p ≡ new_of k sv → over_of p.stage ≡ false
 unfolding over_of
-new_going k p m e = rw e
+new_going k p sv e = rw e
 
-pub made_played : (k : Kind) (l : Lent) (input bytes text : List ℕ) (m : Made) (map owner table selected held : List ℕ) (p : Sitting) (after : State)
-    → makes m (emptied map owner table selected held) ≡ making (start_of l)
-    → p ≡ new_of k m.server
+pub made_played : (k : Kind) (l : Lent) (input bytes text : List ℕ) (r : Result Server Refusal) (sv : Server) (map owner table selected held : List ℕ) (p : Sitting) (after : State)
+    → makes (numbered r) (emptied map owner table selected held) ≡ making (start_of l)
+    → r ≡ Ok sv
+    → p ≡ new_of k sv
     → Played p (memory (lent l.disk map owner table selected held) input bytes text) after
     → PlayedAll k (memory l input bytes text) after
 unfolding made
-made_played k l input bytes text m map owner table selected held p after e f h = rw (← e, ← f) h
+made_played k l input bytes text r sv map owner table selected held p after e g f h = rw (← e, g, ← f) h

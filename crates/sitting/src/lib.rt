@@ -75,8 +75,8 @@ fn run(
         (lent disk.new map.new owner.new table.new selected.new held.new)
         input.new bytes.new text.new)) }
 {
-    let made = making::make(128, 32, 4, 50, &*disk, map, owner, table, selected, held);
-    let server = made.server;
+    // not refused: the sizes are legal, and the memory has room for them
+    let server = making::make(128, 32, 4, 50, &*disk, map, owner, table, selected, held).unwrap();
     play(
         stdin,
         stdout,

@@ -95,16 +95,11 @@ pub(crate) fn new_sitting(kind: Kind, server: Server) -> Sitting
     }
 }
 
+#[tactic(auto, unfolding(crate::specs::Turn::over_of))]
 pub(crate) fn is_over(sitting: Sitting) -> bool
     ensures { result ≡ over_of sitting.stage }
 {
-    let stage = sitting.stage;
-    match stage {
-        Stage::Going => false,
-        Stage::Last => false,
-        Stage::Done => true,
-        Stage::Broken => true,
-    }
+    matches!(sitting.stage, Stage::Done | Stage::Broken)
 }
 
 fn with_stage(sitting: Sitting, stage: Stage) -> Sitting
@@ -319,16 +314,11 @@ fn put_error(sitting: Sitting, text: &mut [u8]) -> Sitting
     put_last(with_more(sitting, day, mark, at, n, stage), text)
 }
 
+#[tactic(auto, unfolding(crate::specs::Narrow::readable_of))]
 fn is_readable(command: Command) -> bool
     ensures { result ≡ readable_of command }
 {
-    match command {
-        Command::Unreadable => false,
-        Command::Time(_) => true,
-        Command::Open(_) => true,
-        Command::Drop(_) => true,
-        Command::Rx(_, _) => true,
-    }
+    !matches!(command, Command::Unreadable)
 }
 
 // Where the script's fields of the line between two places end.

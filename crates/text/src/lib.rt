@@ -13,7 +13,7 @@ ghost use Rattle.text.specs.Comparisons.{compared, tried, behind, comparisons, u
 
 // A byte, an ASCII letter lowered.
 #[tactic(auto, unfolding(crate::specs::Match::lower))]
-fn lowered(b: u8) -> u8
+pub fn lowered(b: u8) -> u8
     ensures { result ≡ lower b }
 {
     match b {

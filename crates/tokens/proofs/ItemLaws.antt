@@ -14,8 +14,6 @@ use Rattle.text.specs.Match.{lower}
 use Rattle.names.specs.Kinds.{is_blank}
 use Rattle.names.specs.Names.{items, small, starts_name}
 use Rattle.names.specs.Rows.{shared, found_in, found}
-use Rattle.names.specs.declared.table.Found.{Found}
-use Rattle.names.specs.declared.table.Found.TheVariants.{Known, Unknown}
 use Rattle.names.proofs.NameLaws as names
 use Rattle.names.proofs.SearchLaws.{shared_within, map_append_one, shared_letters, Best, no_letter, some_letters, UnknownAt, found_known, found_unknown}
 use Rattle.names.proofs.SearchLaws.{not_named}
@@ -97,7 +95,7 @@ module _ (text : List ℕ) (at : ℕ) (within : at ≤ length text) (blank : is_
       let q : r.place ≡ at + n = split_place at r.place n (drop at text) (drop n (drop at text)) (rw e at r.moves) (parts n (drop at text) h) in
       (rw e at r.runs) ∙ rw (q, drop-drop n at text)
 
-  pub name_known : (id n : ℕ) → found (drop at text) ≡ Known id n → ItemIs text at id (at + n)
+  pub name_known : (id n : ℕ) → found (drop at text) ≡ Ok (id, n) → ItemIs text at id (at + n)
   name_known id n e =
       let k = found_known items 0 (drop at text) id n names.all_listed e in
       record {
@@ -161,12 +159,12 @@ module _ (text : List ℕ) (at : ℕ) (within : at ≤ length text) (blank : is_
         by true z = unknown_later (ltb-true 0 n z) cs w s m
         by false z = unknown_first (omega (arith, ltb-false 0 n z))
 
-  pub name_unknown : (n : ℕ) → found (drop at text) ≡ Unknown n → ItemRead text at (Err (at + n))
+  pub name_unknown : (n : ℕ) → found (drop at text) ≡ Err n → ItemRead text at (Err (at + n))
   name_unknown n e l ls =
       let u = found_unknown items 0 (drop at text) n names.all_listed (no_letter refl) e in
       unknown_from l ls n u u.best
 
-pub unknown_within : (text : List ℕ) (at : ℕ) → at ≤ length text → (n : ℕ) → found (drop at text) ≡ Unknown n → at + n ≤ length text
+pub unknown_within : (text : List ℕ) (at : ℕ) → at ≤ length text → (n : ℕ) → found (drop at text) ≡ Err n → at + n ≤ length text
 unknown_within text at h n e = by (found_unknown items 0 (drop at text) n names.all_listed (no_letter refl) e).best
   where
     by : Best (drop at text) n → at + n ≤ length text
@@ -176,7 +174,7 @@ unknown_within text at h n e = by (found_unknown items 0 (drop at text) n names.
 -- ---- any item
 
 -- at the text's end no name stands
-nothing_found : found [] ≡ Unknown 0
+nothing_found : found [] ≡ Err 0
 unfolding found_in shared items small bytes_of lower
 nothing_found = refl
 
@@ -192,27 +190,27 @@ module _ (text : List ℕ) (at : ℕ) where
     unfolding item_at
     item_hash h r e = e ∙ rw (eq-eqb (get_or text at 0) 35 (sym hb ∙ h))
 
-    module _ (h : b ≡ 35 → ⊥) (f : Found) (rest : List ℕ) (hr : rest ≡ drop at text) (e : f ≡ found rest) where
+    module _ (h : b ≡ 35 → ⊥) (f : Result (ℕ × ℕ) ℕ) (rest : List ℕ) (hr : rest ≡ drop at text) (e : f ≡ found rest) where
       named : item_at text at ≡ named_at at f
       unfolding item_at
       named = rw (ne_eqb (get_or text at 0) 35 (λ z. h (hb ∙ z)), ← hr, ← e)
 
-      pub item_known : (id n : ℕ) → f ≡ Known id n → Ok (id, at + n) ≡ item_at text at
+      pub item_known : (id n : ℕ) → f ≡ Ok (id, n) → Ok (id, at + n) ≡ item_at text at
       unfolding named_at
       item_known id n k = sym (named ∙ rw k)
 
-      pub item_unknown : (n : ℕ) → f ≡ Unknown n → Err (at + n) ≡ item_at text at
+      pub item_unknown : (n : ℕ) → f ≡ Err n → Err (at + n) ≡ item_at text at
       unfolding named_at
       item_unknown n k = sym (named ∙ rw k)
 
   -- both stay within the text
-  module _ (within : at ≤ length text) (f : Found) (rest : List ℕ) (hr : rest ≡ drop at text) (e : f ≡ found rest) where
-    pub known_in : (id n : ℕ) → f ≡ Known id n → at + n ≤ length text
+  module _ (within : at ≤ length text) (f : Result (ℕ × ℕ) ℕ) (rest : List ℕ) (hr : rest ≡ drop at text) (e : f ≡ found rest) where
+    pub known_in : (id n : ℕ) → f ≡ Ok (id, n) → at + n ≤ length text
     known_in id n k =
         let r = found_known items 0 (drop at text) id n names.all_listed (ap found (sym hr) ∙ sym e ∙ k) in
         omega (arith, r.within, length-drop at text)
 
-    pub unknown_in : (n : ℕ) → f ≡ Unknown n → at + n ≤ length text
+    pub unknown_in : (n : ℕ) → f ≡ Err n → at + n ≤ length text
     unknown_in n k = unknown_within text at within n (ap found (sym hr) ∙ sym e ∙ k)
 
 module _ (text : List ℕ) (at : ℕ) (within : at ≤ length text) (blank : is_blank (get_or text at 0) ≡ false) (no_open : get_or text at 0 ≡ 40 → ⊥) where
@@ -226,10 +224,10 @@ module _ (text : List ℕ) (at : ℕ) (within : at ≤ length text) (blank : is_
   hash_item h (Err p) k = λ l ls.
       places.goes text at 35 (want l ls) (inside (hash 0 0) l ls) h (omega arith) (steps.want_hash l ls) ∙ k l ls
 
-  named_item : (get_or text at 0 ≡ 35 → ⊥) → (f : Found) → found (drop at text) ≡ f → ItemRead text at (named_at at f)
+  named_item : (get_or text at 0 ≡ 35 → ⊥) → (f : Result (ℕ × ℕ) ℕ) → found (drop at text) ≡ f → ItemRead text at (named_at at f)
   unfolding named_at
-  named_item h (Known id n) e = name_known text at within blank no_open h id n e
-  named_item h (Unknown n) e = name_unknown text at within blank no_open h n e
+  named_item h (Ok (id, n)) e = name_known text at within blank no_open h id n e
+  named_item h (Err n) e = name_unknown text at within blank no_open h n e
 
   pub reads_item : ItemRead text at (item_at text at)
   unfolding item_at

@@ -4,8 +4,6 @@ use Rattle.std.specs.Prelude.{false, cond, List, [], ◌∷◌, ℕ, zero, suc, 
 use Rattle.lines.specs.Numerals.{digit}
 use Rattle.names.specs.Kinds.{is_blank, is_printed, hex_of, is_hex_digit}
 use Rattle.names.specs.Rows.{found}
-use Rattle.names.specs.declared.table.Found.{Found}
-use Rattle.names.specs.declared.table.Found.TheVariants.{Known, Unknown}
 use Rattle.grammar.specs.Meaning.{width_of, is_width}
 use Rattle.grammar.specs.declared.Comparison.{Comparison}
 use Rattle.grammar.specs.declared.Comparison.TheVariants.{Equal, Greater, Less, NotEqual, GreaterOrEqual, LessOrEqual}
@@ -34,9 +32,9 @@ hash_from (suc n) v p [] = Err p
 hash_from (suc n) v p (b ∷ bs) = cond (is_hex_digit b) (hash_from n (16 * v + hex_of b) (suc p) bs) (Err p)
 
 -- a name that begins at place p
-unfoldable pub named_at : ℕ → Found → Result (ℕ × ℕ) ℕ
-named_at p (Known id n) = Ok (id, p + n)
-named_at p (Unknown n) = Err (p + n)
+unfoldable pub named_at : ℕ → Result (ℕ × ℕ) ℕ → Result (ℕ × ℕ) ℕ
+named_at p (Ok (id, n)) = Ok (id, p + n)
+named_at p (Err n) = Err (p + n)
 
 unfoldable pub item_at : List ℕ → ℕ → Result (ℕ × ℕ) ℕ
 item_at text at = cond (eqb (get_or text at 0) 35) (hash_from 4 0 (at + 1) (drop (at + 1) text)) (named_at at (found (drop at text)))

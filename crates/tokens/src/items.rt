@@ -3,7 +3,7 @@ ghost use Rattle.std.specs.Prelude.{◌≡◌, ◌≤◌, length, drop};
 ghost use Rattle.tokens.specs.Tokens.{past_blanks, hash_from, item_at};
 
 use names::bytes::{byte_of, hex_value, is_blank};
-use names::table::{Found, find_name};
+use names::table::find_name;
 
 // The first place from `at` on at which no blank stands.
 pub fn past_blanks(text: &[u8], at: usize) -> usize
@@ -44,7 +44,7 @@ pub fn item_at(text: &[u8], at: usize) -> Result<(u16, usize), usize>
         return hash_from(text, at + 1);
     }
     match find_name(&text[at..]) {
-        Found::Known(id, n) => Ok((id, at + n)),
-        Found::Unknown(n) => Err(at + n),
+        Ok((id, n)) => Ok((id, at + n)),
+        Err(n) => Err(at + n),
     }
 }

@@ -1,4 +1,5 @@
 -- A good state and its view: files are found by number as they are found by place, sessions stand in their order, and a call is refused alike.
+use Rattle.std.specs.Prelude.{Result, Ok, Err}
 use mathlib.Core.Path.{◌≡◌, refl, sym, ap, ap₂, ◌∙◌}
 use mathlib.Core.Bool.{Bool, true, false, cond, not}
 use mathlib.Core.List.{List}
@@ -17,8 +18,6 @@ use Rattle.table.specs.Table.{files, find_of}
 use Rattle.table.proofs.Finding.{find_found, find_number_law, find_absent, find_own}
 use Rattle.table.proofs.Keeping.{number_le}
 use Rattle.server.specs.declared.Server.{Server}
-use Rattle.server.specs.declared.check.Check.{Check}
-use Rattle.server.specs.declared.check.Check.TheVariants.{Go, Refuse}
 use Rattle.server.specs.State.{Lent, lent, link_of, with_link, part, table_part}
 use Rattle.server.specs.Check.{in_state, session_check, check_of}
 use Rattle.acts.specs.Change.{Files}
@@ -103,8 +102,8 @@ open_from_law F N selected held s e = ap (λ (b : Bool). cond b (open_from F N s
 
 -- ---- the check
 
-abbrev pub by_refusal : ℕ → ℕ → Check
-by_refusal n i = cond (eqb n 0) (Go i) (Refuse n)
+abbrev pub by_refusal : ℕ → ℕ → Result ℕ ℕ
+by_refusal n i = cond (eqb n 0) (Ok i) (Err n)
 
 -- a call that is not refused
 pub record Through (sv : Server) (session : ℕ) (wanted : Bool) (out : ℕ) : Type 0 where
@@ -139,7 +138,7 @@ module _ (sv : Server) (l : Lent) (g : Good sv l) (session : ℕ) (wanted : Bool
   unfolding refusal
   refusal_is = rw (each_length sv.sessions (session_of sv l))
 
-  both : (t w : Bool) → cond t (cond w (Refuse 32) (Go i)) (Refuse 34) ≡ by_refusal (cond t (cond w 32 0) 34) i
+  both : (t w : Bool) → cond t (cond w (Err 32) (Ok i)) (Err 34) ≡ by_refusal (cond t (cond w 32 0) 34) i
   both true true = refl
   both true false = refl
   both false w = refl
@@ -152,13 +151,13 @@ module _ (sv : Server) (l : Lent) (g : Good sv l) (session : ℕ) (wanted : Bool
       ∙ ap (λ (n : ℕ). by_refusal n i) (sym refusal_is)
     where
       go : (a : Bool) → eqb session 0 ≡ a → (b : Bool) → ltb sv.sessions session ≡ b
-          → cond a (Refuse 34) (cond b (Refuse 34) (cond (in_state wanted (link_of sv i).linked) (cond (ltb out 258) (Refuse 32) (Go i)) (Refuse 34)))
+          → cond {A = Result ℕ ℕ} a (Err 34) (cond b (Err 34) (cond (in_state wanted (link_of sv i).linked) (cond (ltb out 258) (Err 32) (Ok i)) (Err 34)))
           ≡ by_refusal (cond a 34 (cond b 34 (cond (cond wanted there (not there)) (cond (ltb out 258) 32 0) 34))) i
       go true d b e = refl
       go false d true e = refl
       go false d false e =
           let h : i < sv.sessions = omega (arith, eqb-false session 0 d, ltb-false sv.sessions session e) in
-          ap (λ (t : Bool). cond t (cond (ltb out 258) (Refuse 32) (Go i)) (Refuse 34)) (sym (asked_state wanted there (link_of sv i).linked (linked_is h)))
+          ap (λ (t : Bool). cond t (cond (ltb out 258) (Err 32) (Ok i)) (Err 34)) (sym (asked_state wanted there (link_of sv i).linked (linked_is h)))
           ∙ both (cond wanted there (not there)) (ltb out 258)
 
   pub through : refusal (view sv l) session wanted out ≡ 0 → Through sv session wanted out

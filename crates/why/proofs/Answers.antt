@@ -10,7 +10,7 @@ use lib.ListN.{length, drop}
 use borrow.Author.Tests.{leb-true, le-leb, lt-leb, eq-eqb, ne_eqb, le-ltb}
 use Rattle.equation.specs.Tree.{Tree, parse, truth_on}
 use Rattle.equation.specs.Answer.{refusal, validity_of}
-use Rattle.std.proofs.Common.{Some, None}
+use Rattle.std.proofs.Common.{Some, None, Ok}
 use Rattle.std.specs.Prelude as std
 use Rattle.table.specs.Table.{files, find_of}
 use Rattle.why.specs.declared.Explained.{Explained}
@@ -80,7 +80,7 @@ module _ (eq : List ℕ) (t : Tree) (disk owner table : List ℕ) (most : ℕ) (
       → n ≤ length named
       → named' ≡ rs ++ drop n named
       → a ≡ told m o most n
-      → whys a named' ≡ file_why eq t disk owner table most named place
+      → whys (Ok a) named' ≡ file_why eq t disk owner table most named place
   unfolding file_why deliver
   file_told m o n named' a em eo en h e ea =
       let w : a ≡ told (truth_on (items_at disk owner table place) t) (older_of eq disk owner table (time_at table place)) most (length rs) =

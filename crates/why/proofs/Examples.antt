@@ -1,4 +1,5 @@
 -- Worked examples, by computation: all AND and OR of two relations, deeper ones, files beyond MAXSEL, and each refusal. Assumes nothing.
+use Rattle.std.proofs.Common.{Ok}
 use mathlib.Core.Path.{◌≡◌, refl}
 use mathlib.Core.Bool.{Bool, true, false}
 use mathlib.Core.List.{List, [], ◌∷◌, ◌++◌, map}
@@ -72,7 +73,7 @@ ask ws number = why_of (equation ws) number disk owner table 50 (0 ∷ 0 ∷ 0 �
 
 gives : Bool → List ℕ → Whys
 gives matched ns =
-    whys (record { refused = 0; matched = matched; beyond = false; older = 0; count = length ns }) (ns ++ drop (length ns) (0 ∷ 0 ∷ 0 ∷ 0 ∷ []))
+    whys (Ok (record { matched = matched; beyond = false; older = 0; count = length ns })) (ns ++ drop (length ns) (0 ∷ 0 ∷ 0 ∷ 0 ∷ []))
 
 refuses : ℕ → Whys
 refuses n = whys (refused_by n) (0 ∷ 0 ∷ 0 ∷ 0 ∷ [])
@@ -82,7 +83,7 @@ ask_most : List ℕ → ℕ → Whys
 ask_most eq most = why_of eq 9 disk owner table most (0 ∷ [])
 
 gives_older : Bool → ℕ → Whys
-gives_older beyond older = whys (record { refused = 0; matched = true; beyond = beyond; older = older; count = 1 }) (1 ∷ [])
+gives_older beyond older = whys (Ok (record { matched = true; beyond = beyond; older = older; count = 1 })) (1 ∷ [])
 
 pub record Row : Type 0 where
   pub got : Whys
@@ -125,7 +126,7 @@ rows =
     -- too few numbers lent: last
     ∷ row (why_of (equation (Y ∷ Y ∷ AND ∷ [])) 7 disk owner table 50 (0 ∷ [])) (whys (refused_by 33) (0 ∷ []))
     ∷ row (why_of (equation (Y ∷ N ∷ AND ∷ [])) 7 disk owner table 50 (0 ∷ [])) (whys
-    (record { refused = 0; matched = false; beyond = false; older = 0; count = 1 }) (2 ∷ []))
+    (Ok (record { matched = false; beyond = false; older = 0; count = 1 })) (2 ∷ []))
     ∷ row (why_of Y 8 disk owner table 50 []) (whys (refused_by 11) [])
     -- sizes: first
     ∷ row (why_of bad 7 disk owner table 0 (0 ∷ [])) (whys (refused_by 33) (0 ∷ []))

@@ -1,6 +1,6 @@
 -- What `why` answers, and what it leaves in the numbers lent to it. Refusals in the order of document 02, A5, "8, then 4, then 11", with
 -- document 01's 33 for sizes first and for too few numbers lent last. Assumes nothing.
-use Rattle.std.specs.Prelude.{Bool, false, ◌&&◌, cond, List, [], ◌++◌, ℕ, ◌*◌, ◌/◌, ltb, leb, eqb, length, drop, Some, None}
+use Rattle.std.specs.Prelude.{Bool, false, ◌&&◌, cond, List, [], ◌++◌, ℕ, ◌*◌, ◌/◌, ltb, leb, eqb, length, drop, Some, None, Result, Ok, Err}
 use Rattle.std.proofs.Math.Option.{Option, none, some}
 use Rattle.header.specs.Items.{Field, fields_of}
 use Rattle.equation.specs.Holds.{holds}
@@ -16,15 +16,15 @@ use Rattle.why.specs.Reasons.{reasons}
 
 -- the answer, and the lent numbers afterwards
 pub record Whys : Type 0 where
-  pub answer : Explained
+  pub answer : Result Explained ℕ
   pub named : List ℕ
 
-abbrev pub whys : Explained → List ℕ → Whys
+abbrev pub whys : Result Explained ℕ → List ℕ → Whys
 whys answer named = record { answer = answer; named = named }
 
 -- a refusal tells nothing else
-abbrev pub refused_by : ℕ → Explained
-refused_by n = record { refused = n; matched = false; beyond = false; older = 0; count = 0 }
+abbrev pub refused_by : ℕ → Result Explained ℕ
+refused_by n = Err n
 
 -- 33, "a size or length outside the table": at most 2,047 equation bytes, 1 to 4,096 blocks and a disk that has them, 1 to 256 file places,
 -- MAXSEL 1 to 50
@@ -52,12 +52,12 @@ older_of eq disk owner table time = length (passing (older_test eq disk owner ta
 -- "If the file matched but fell beyond MAXSEL, it says so, with how many older files matched": `most` or more are older
 unfoldable pub told : Bool → ℕ → ℕ → ℕ → Explained
 told matched older most count =
-    record { refused = 0; matched = matched; beyond = cond matched (leb most older) false; older = cond matched older 0; count = count }
+    record { matched = matched; beyond = cond matched (leb most older) false; older = cond matched older 0; count = count }
 
 -- the reasons in front of the lent numbers; 33, "a lent buffer too short"
 unfoldable pub deliver : Explained → List ℕ → List ℕ → Whys
 deliver answer reasons named =
-    cond (leb (length reasons) (length named)) (whys answer (reasons ++ drop (length reasons) named)) (whys (refused_by 33) named)
+    cond (leb (length reasons) (length named)) (whys (Ok answer) (reasons ++ drop (length reasons) named)) (whys (refused_by 33) named)
 
 -- the reasons of a tree on the items of a header
 abbrev pub reasons_on : List Field → Tree → List ℕ

@@ -7,7 +7,7 @@
 //
 // The equation is parsed once. The file's header is read once; then one pass over the steps, with a stack of at most 100 results, finds the
 // truth and the reasons together. The older files are counted by the same steps.
-// No function asks anything of its caller. A refusal is a number of document 01's table and leaves everything as it was.
+// No function asks anything of its caller. A refusal tells nothing else and leaves everything as it was.
 #![tactic(auto)]
 
 ghost use Rattle.std.specs.Prelude.{◌≡◌, ◌+◌, ◌/◌, ◌≤◌, ◌<◌, cond, ◌++◌, length, take, drop, Some};
@@ -18,38 +18,25 @@ ghost use Rattle.equation.specs.Marks.{settled_by};
 ghost use Rattle.equation.specs.Parsed.{relations_by};
 ghost use Rattle.equation.specs.Answer.{selects};
 ghost use Rattle.stored.specs.Answers.{file_at};
-ghost use Rattle.why.specs.Answer.{whys, refused_by, sizes_fit, older_of, told, file_why, found_why, tree_why, why_of};
+ghost use Rattle.refusal.specs.Refusal.{numbered};
+ghost use Rattle.why.specs.Answer.{whys, sizes_fit, older_of, told, file_why, found_why, tree_why, why_of};
 ghost use Rattle.why.specs.Run.{result_on, Tells};
 ghost use Rattle.why.specs.Sizes.{Store, Ready};
 
 use crate::reasons::{Decided, decide};
 use equation::evaluation::{outcome, parse};
+use refusal::Refusal;
 
 mod reasons;
 
-// The number of a refusal, 0 for none; whether the equation is true on the file; whether it is and at least MAXSEL older complete files match,
-// so that a SELECT does not list the file; how many older ones match, counted where the equation is true on the file; how many relations are
-// named.
+// Whether the equation is true on the file; whether it is and at least MAXSEL older complete files match, so that a SELECT does not list the
+// file; how many older ones match, counted where the equation is true on the file; how many relations are named.
 #[derive(Clone, Copy)]
 pub struct Explained {
-    pub refused: u8,
     pub matched: bool,
     pub beyond: bool,
     pub older: usize,
     pub count: usize,
-}
-
-// A refusal tells nothing else.
-fn refused_by(n: u8) -> Explained
-    ensures { result ≡ refused_by n }
-{
-    Explained {
-        refused: n,
-        matched: false,
-        beyond: false,
-        older: 0,
-        count: 0,
-    }
 }
 
 // Whether the sizes are in document 01's table.
@@ -167,7 +154,6 @@ fn tell(matched: bool, older: usize, most: usize, count: usize) -> Explained
 {
     if matched {
         return Explained {
-            refused: 0,
             matched: true,
             beyond: most <= older,
             older,
@@ -175,7 +161,6 @@ fn tell(matched: bool, older: usize, most: usize, count: usize) -> Explained
         };
     }
     Explained {
-        refused: 0,
         matched: false,
         beyond: false,
         older: 0,
@@ -230,22 +215,22 @@ fn why_file(
     most: usize,
     named: &mut [u16],
     place: usize,
-) -> Explained
+) -> Result<Explained, Refusal>
     requires { Ready eq.now steps.now × Store disk.now owner.now × (length table.now / 4 ≤ 256) × (place < 256) }
-    ensures { (t : Tree) → parse eq.now ≡ some t → whys result named.new ≡ file_why eq.now t disk.now owner.now table.now most named.old place }
+    ensures { (t : Tree) → parse eq.now ≡ some t → whys (numbered result) named.new ≡ file_why eq.now t disk.now owner.now table.now most named.old place }
 {
     let file = table::get(table, place);
     let mut row = [0u16; 511];
     let decided = decide_file(eq, steps, disk, owner, place, file.received, &mut row);
     let count = decided.count;
     if named.len() < count {
-        return refused_by(33);
+        return Err(Refusal::BadSize);
     }
     named[..count].copy_from_slice(&row[..count]);
     let matched = decided.matched;
     let time = table::upload_time_of(file);
     let older = older_where(matched, eq, steps, disk, owner, table, time);
-    tell(matched, older, most, count)
+    Ok(tell(matched, older, most, count))
 }
 
 // The answer on the file at a place, by its upload time.
@@ -258,12 +243,12 @@ fn why_place(
     most: usize,
     named: &mut [u16],
     place: usize,
-) -> Explained
+) -> Result<Explained, Refusal>
     requires { Ready eq.now steps.now × Store disk.now owner.now × (length table.now / 4 ≤ 256) }
-    ensures { (t : Tree) → parse eq.now ≡ some t → whys result named.new ≡ found_why eq.now t disk.now owner.now table.now most named.old (Some place) }
+    ensures { (t : Tree) → parse eq.now ≡ some t → whys (numbered result) named.new ≡ found_why eq.now t disk.now owner.now table.now most named.old (Some place) }
 {
     if table::upload_time_of(table::get(table, place)) == 0 {
-        return refused_by(11);
+        return Err(Refusal::FilePartial);
     }
     why_file(eq, steps, disk, owner, table, most, named, place)
 }
@@ -278,13 +263,12 @@ fn why_number(
     table: &[u32],
     most: usize,
     named: &mut [u16],
-) -> Explained
+) -> Result<Explained, Refusal>
     requires { Ready eq.now steps.now × Store disk.now owner.now × (length table.now / 4 ≤ 256) }
-    ensures { whys result named.new ≡ tree_why eq.now (parse eq.now) number disk.now owner.now table.now most named.old }
+    ensures { whys (numbered result) named.new ≡ tree_why eq.now (parse eq.now) number disk.now owner.now table.now most named.old }
 {
-    let found = table::find(table, number);
-    match found {
-        None => refused_by(4),
+    match table::find(table, number) {
+        None => Err(Refusal::NoSuchFile),
         Some(place) => why_place(eq, steps, disk, owner, table, most, named, place),
     }
 }
@@ -300,15 +284,13 @@ pub fn why(
     table: &[u32],
     most: usize,
     named: &mut [u16],
-) -> Explained
-    ensures { whys result named.new ≡ why_of eq.now number disk.now owner.now table.now most named.old }
+) -> Result<Explained, Refusal>
+    ensures { whys (numbered result) named.new ≡ why_of eq.now number disk.now owner.now table.now most named.old }
 {
     if !sizes_fit(eq.len(), disk.len(), owner.len(), table.len(), most) {
-        return refused_by(33);
+        return Err(Refusal::BadSize);
     }
     let mut steps = [0u16; 2047];
-    match parse(eq, &mut steps) {
-        Ok(n) => why_number(eq, &steps[..n], number, disk, owner, table, most, named),
-        Err(refusal) => refused_by(u8::from(refusal)),
-    }
+    let n = parse(eq, &mut steps)?;
+    why_number(eq, &steps[..n], number, disk, owner, table, most, named)
 }

@@ -1,5 +1,5 @@
 -- The replies to lines, by the cases of the code. Assumes nothing.
-use Rattle.std.proofs.Common.{None, Some}
+use Rattle.std.proofs.Common.{None, Some, Result, Ok, Err}
 use Rattle.std.proofs.Common as std
 use native.Mathlib.Omega.{arith}
 use mathlib.Core.Path.{◌≡◌, refl, sym, ◌∙◌, ap}
@@ -29,11 +29,11 @@ use Rattle.words.specs.Why.{told_by, why_line, paper_told, hex_told, tabbed, Ask
 -- ---- an equation as on paper, by the reader's answer
 
 module _ (ask : List ℕ → Whys) where
-  abbrev pub paper_for : Outcome → Answer → List ℕ → List ℕ
-  paper_for o (answer.Bytes n) now = told_by (ask (take n now))
-  paper_for o (answer.Wrong p why) now = said_of o
-  paper_for o answer.Long now = said_of o
-  paper_for o (answer.Refused n) now = said_of o
+  abbrev pub paper_for : Outcome → Result Answer ℕ → List ℕ → List ℕ
+  paper_for o (Ok (answer.Bytes n)) now = told_by (ask (take n now))
+  paper_for o (Ok (answer.Wrong p why)) now = said_of o
+  paper_for o (Ok answer.Long) now = said_of o
+  paper_for o (Err n) now = said_of o
 
   abbrev paper_by : Outcome → paper.Answers → List ℕ
   paper_by o a = paper_for o a.answer a.out
@@ -44,14 +44,14 @@ module _ (ask : List ℕ → Whys) where
     where
       by : (t : Bool)
           → paper_by (accepted f) (cond t
-          (cond t (paper.answers (answer.Bytes (length (postfix f))) (postfix f ++ drop (length (postfix f)) (replicate 256 0)))
-          (paper.answers (answer.Refused 33) (replicate 256 0))) (paper.answers answer.Long (replicate 256 0)))
+          (cond t (paper.answers (Ok (answer.Bytes (length (postfix f)))) (postfix f ++ drop (length (postfix f)) (replicate 256 0)))
+          (paper.answers (Err 33) (replicate 256 0))) (paper.answers (Ok answer.Long) (replicate 256 0)))
           ≡ cond t (told_by (ask (postfix f))) (said_of (accepted f))
       by true = ap (λ (eq : List ℕ). told_by (ask eq)) (take_at (postfix f) (drop (length (postfix f)) (replicate 256 0)) (length (postfix f)) refl)
       by false = refl
   by_outcome (refused p why) = refl
 
-  module _ (text : List ℕ) (r x : Answer) (now : List ℕ) (e : paper.answers r now ≡ paper.bytes_of text (replicate 256 0)) (z : r ≡ x) where
+  module _ (text : List ℕ) (r x : Result Answer ℕ) (now : List ℕ) (e : paper.answers r now ≡ paper.bytes_of text (replicate 256 0)) (z : r ≡ x) where
     pub paper_as : paper_told ask (outcome_of text) ≡ paper_for (outcome_of text) x now
     paper_as = sym (rw (← z) (ap (λ (a : paper.Answers). paper_by (outcome_of text) a) e ∙ by_outcome (outcome_of text)))
 

@@ -1,6 +1,6 @@
 -- No line that is told is longer than 6,144 bytes behind the file's number, and the lent numbers have room for those named. Assumes nothing.
 use native.Mathlib.Omega.{arith}
-use mathlib.Core.Path.{◌≡◌, refl, ◌∙◌, ap}
+use mathlib.Core.Path.{◌≡◌, refl, sym, ◌∙◌, ap}
 use mathlib.Core.Bool.{Bool, true, false, cond, ◌&&◌}
 use mathlib.Core.List.{List, [], ◌∷◌, ◌++◌}
 use mathlib.Core.Option.{Option, none, some}
@@ -14,7 +14,7 @@ use Rattle.lines.specs.Text.{decimal_of}
 use Rattle.lines.proofs.TextLaws.{digits_most, digits_most_8, digits_most_32}
 use Rattle.equation.specs.Tree.{Tree, parse, truth_on}
 use Rattle.equation.specs.Marks.{relations_of}
-use Rattle.std.proofs.Common.{Some, None}
+use Rattle.std.proofs.Common.{Some, None, Ok}
 use Rattle.std.specs.Prelude as std
 use Rattle.table.specs.Table.{files, times, find_of}
 use Rattle.table.proofs.Records.{length_files}
@@ -84,7 +84,7 @@ older_most eq disk owner table time h =
 -- ---- what is told
 
 abbrev Small : Whys → Type 0
-Small w = (length (told_by w) ≤ 6144) × (w.answer.count ≤ 511)
+Small w = (length (told_by w) ≤ 6144) × ((told : Explained) → w.answer ≡ Ok told → told.count ≤ 511)
 
 word_most : (w : Explained) → w.older ≤ 256 → length (outcome_word w) ≤ 27
 unfolding outcome_word bytes_of
@@ -95,9 +95,13 @@ word_most w h = by w.beyond w.matched
     by false true = omega arith
     by false false = omega arith
 
-small_refused : (n : ℕ) (named : List ℕ) → n < 256 → eqb n 0 ≡ false → Small (whys (refused_by n) named)
+small_refused : (n : ℕ) (named : List ℕ) → n < 256 → Small (whys (refused_by n) named)
 unfolding told_of
-small_refused n named h e = (rw e (omega (arith, refused_size (decimal_of n), digits_most_8 n h)), omega arith)
+small_refused n named h =
+    (omega (arith, refused_size (decimal_of n), digits_most_8 n h), λ told e. let z : ◌≡◌ {A = ℕ} 0 1 = cc in absurd (omega arith))
+
+told_same : (s t : Explained) → ◌≡◌ {A = std.Result Explained ℕ} (Ok s) (Ok t) → s ≡ t
+told_same s t e = cc
 
 no : false ≡ true → ⊥
 no e = let z : ◌≡◌ {A = ℕ} 0 1 = cc in omega arith
@@ -128,10 +132,6 @@ module _ (m : Bool) (older most : ℕ) (rs named : List ℕ) (few : older ≤ 25
       by true = few
       by false = omega arith
 
-  told_zero : (told m older most (length rs)).refused ≡ 0
-  unfolding told
-  told_zero = refl
-
   told_count : (told m older most (length rs)).count ≡ length rs
   unfolding told
   told_count = refl
@@ -140,9 +140,9 @@ module _ (m : Bool) (older most : ℕ) (rs named : List ℕ) (few : older ≤ 25
   unfolding told
   taken = take_at rs (drop (length rs) named) (length rs) refl
 
-  named_short : length rs ≤ 511 → length (told_of (told m older most (length rs)) (rs ++ drop (length rs) named)) ≤ 6144
+  named_short : length rs ≤ 511 → length (told_of (Ok (told m older most (length rs))) (rs ++ drop (length rs) named)) ≤ 6144
   named_short h =
-      rw (told_named (told m older most (length rs)) (rs ++ drop (length rs) named) told_zero
+      rw (told_named (told m older most (length rs)) (rs ++ drop (length rs) named)
       ∙ ap (λ (x : List ℕ). outcome_word (told m older most (length rs)) ++ (number_fields x ++ (10 ∷ []))) taken)
       (omega (
         arith,
@@ -158,11 +158,11 @@ module _ (m : Bool) (older most : ℕ) (rs named : List ℕ) (few : older ≤ 25
   small_delivered = by (leb (length rs) (length named)) refl
     where
       by : (t : Bool) → leb (length rs) (length named) ≡ t
-          → Small (cond t (whys (told m older most (length rs)) (rs ++ drop (length rs) named)) (whys (refused_by 33) named))
+          → Small (cond t (whys (Ok (told m older most (length rs))) (rs ++ drop (length rs) named)) (whys (refused_by 33) named))
       by true e =
           let h : length rs ≤ 511 = omega (arith, leb-true (length rs) (length named) e, lent) in
-          (named_short h, omega (arith, h, told_count))
-      by false e = small_refused 33 named (omega arith) refl
+          (named_short h, λ w e. let k : w.count ≡ length rs = ap (λ (x : Explained). x.count) (sym (told_same (told m older most (length rs)) w e)) ∙ told_count in omega (arith, h, k))
+      by false e = small_refused 33 named (omega arith)
 
 module _ (eq : List ℕ) (number : ℕ) (disk owner table : List ℕ) (most : ℕ) where
   small_file : (t : Tree) → parse eq ≡ some t → length eq ≤ 2047 → length table / 4 ≤ 256 → (p : ℕ) → Small (file_why eq t disk owner table most room p)
@@ -175,16 +175,16 @@ module _ (eq : List ℕ) (number : ℕ) (disk owner table : List ℕ) (most : �
 
   small_found : (t : Tree) → parse eq ≡ some t → length eq ≤ 2047 → length table / 4 ≤ 256 → (f : std.Option ℕ) → Small (found_why eq t disk owner table most room f)
   unfolding found_why
-  small_found t e short few None = small_refused 4 room (omega arith) refl
+  small_found t e short few None = small_refused 4 room (omega arith)
   small_found t e short few (Some p) = by (eqb (time_at table p) 0)
     where
       by : (b : Bool) → Small (cond b (whys (refused_by 11) room) (file_why eq t disk owner table most room p))
-      by true = small_refused 11 room (omega arith) refl
+      by true = small_refused 11 room (omega arith)
       by false = small_file t e short few p
 
   small_tree : (o : Option Tree) → parse eq ≡ o → length eq ≤ 2047 → length table / 4 ≤ 256 → Small (tree_why eq o number disk owner table most room)
   unfolding tree_why
-  small_tree none e short few = small_refused 8 room (omega arith) refl
+  small_tree none e short few = small_refused 8 room (omega arith)
   small_tree (some t) e short few = small_found t e short few (find_of (files table) number)
 
   small : Small (why_of eq number disk owner table most room)
@@ -194,22 +194,22 @@ module _ (eq : List ℕ) (number : ℕ) (disk owner table : List ℕ) (most : �
       by : (b : Bool) → sizes_fit (length eq) (length disk) (length owner) (length table) most ≡ b
           → Small (cond b (tree_why eq (parse eq) number disk owner table most room) (whys (refused_by 33) room))
       by true e = let s = sizes (length eq) (length disk) (length owner) (length table) most e in small_tree (parse eq) refl s.0 s.1
-      by false e = small_refused 33 room (omega arith) refl
+      by false e = small_refused 33 room (omega arith)
 
 module _ (disk owner table : List ℕ) (most number : ℕ) where
   pub told_most : (eq : List ℕ) → length (told_by (ask_in disk owner table most number eq)) ≤ 6144
   told_most eq = (small eq number disk owner table most).0
 
   -- what the code has
-  module _ (eq : List ℕ) (told : Explained) (named : List ℕ) (e : whys told named ≡ why_of eq number disk owner table most room) where
+  module _ (eq : List ℕ) (told : std.Result Explained ℕ) (named : List ℕ) (e : whys told named ≡ why_of eq number disk owner table most room) where
     pub told_is : told_of told named ≡ told_by (ask_in disk owner table most number eq)
     told_is = ap told_by e
 
     pub told_short : length (told_of told named) ≤ 6144
     told_short = rw told_is (told_most eq)
 
-    pub count_short : told.count ≤ 511
-    count_short = rw (ap (λ (w : Whys). w.answer.count) e) (small eq number disk owner table most).1
+    pub count_short : (w : Explained) → told ≡ Ok w → w.count ≤ 511
+    count_short w i = (small eq number disk owner table most).1 w (sym (ap (λ (x : Whys). x.answer) e) ∙ i)
 
   -- ---- an equation as on paper
 

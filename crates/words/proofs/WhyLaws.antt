@@ -1,5 +1,5 @@
 -- Laws on what is told of a file, by the cases of the code. Assumes nothing.
-use Rattle.std.proofs.Common.{None, Some}
+use Rattle.std.proofs.Common.{None, Some, Result, Ok, Err}
 use native.Mathlib.Omega.{arith}
 use mathlib.Core.Path.{◌≡◌, refl, sym, ◌∙◌}
 use mathlib.Core.Bool.{true, false}
@@ -11,6 +11,8 @@ use Rattle.packet.specs.Names.{bytes_of}
 use Rattle.lines.specs.Text.{decimal_of}
 use Rattle.lines.proofs.TextLaws.{digits_most_32}
 use Rattle.replies.specs.Reply.{refused_line}
+use Rattle.refusal.specs.declared.Refusal.{Refusal}
+use Rattle.refusal.specs.Refusal.{number, numbered}
 use Rattle.why.specs.declared.Explained.{Explained}
 use Rattle.words.specs.Pieces.{front_of}
 use Rattle.words.specs.Why.{number_fields, outcome_word, told_of, why_line, tabbed}
@@ -32,13 +34,19 @@ module _ (w : Explained) where
 
   -- ---- what is told
 
-  pub told_named : (named : List ℕ) → w.refused ≡ 0 → told_of w named ≡ outcome_word w ++ (number_fields (take w.count named) ++ (10 ∷ []))
+  pub told_named : (named : List ℕ) → told_of (Ok w) named ≡ outcome_word w ++ (number_fields (take w.count named) ++ (10 ∷ []))
   unfolding told_of
-  told_named named e = rw (eq-eqb w.refused 0 e)
+  told_named named = refl
 
-  pub told_refused : (named : List ℕ) → (w.refused ≡ 0 → ⊥) → told_of w named ≡ bytes_of "refused\t" ++ (decimal_of w.refused ++ (10 ∷ []))
-  unfolding told_of refused_line
-  told_refused named e = rw (ne_eqb w.refused 0 e)
+  pub told_ok : (t : Result Explained Refusal) (named : List ℕ) → t ≡ Ok w
+      → told_of (numbered t) named ≡ outcome_word w ++ (number_fields (take w.count named) ++ (10 ∷ []))
+  unfolding told_of
+  told_ok t named e = rw e
+
+pub told_err : (t : Result Explained Refusal) (r : Refusal) (n : ℕ) (named : List ℕ) → t ≡ Err r → n ≡ number r
+    → told_of (numbered t) named ≡ bytes_of "refused\t" ++ (decimal_of n ++ (10 ∷ []))
+unfolding told_of refused_line
+told_err t r n named e f = rw (e, f)
 
 -- ---- the front of a line
 

@@ -2,7 +2,7 @@
 -- TAB hex" is read, and "one of: `why` TAB number TAB `matched` TAB relation numbers, each a field; .. TAB `unmatched` TAB relation numbers; .. TAB `beyond`
 -- TAB how many older files matched TAB relation numbers; .. TAB `refused` TAB `33` (why-bytes above 2,047 bytes), `8`, `4` or `11`, in this order; .. TAB
 -- `wrong` TAB place TAB reason (the equation is judged first); .. TAB `refused` TAB `bytes`" is printed. TAB is 9, the newline 10. Assumes nothing.
-use Rattle.std.specs.Prelude.{Bool, cond, List, [], ◌∷◌, ◌++◌, ℕ, ◌+◌, eqb, leb, length, take, drop, replicate, get_or, None, Some}
+use Rattle.std.specs.Prelude.{Bool, cond, List, [], ◌∷◌, ◌++◌, ℕ, ◌+◌, eqb, leb, length, take, drop, replicate, get_or, None, Some, Result, Ok, Err}
 use Rattle.std.specs.Prelude as std
 use Rattle.std.proofs.Math.Option.{Option, none, some}
 use Rattle.packet.specs.Names.{bytes_of}
@@ -27,9 +27,9 @@ unfoldable pub outcome_word : Explained → List ℕ
 outcome_word w = cond w.beyond (bytes_of "beyond\t" ++ decimal_of w.older) (cond w.matched (bytes_of "matched") (bytes_of "unmatched"))
 
 -- what stands behind the file's number
-unfoldable pub told_of : Explained → List ℕ → List ℕ
-told_of w named =
-    cond (eqb w.refused 0) (outcome_word w ++ (number_fields (take w.count named) ++ (10 ∷ []))) (refused_line (decimal_of w.refused))
+unfoldable pub told_of : Result Explained ℕ → List ℕ → List ℕ
+told_of (Ok w) named = outcome_word w ++ (number_fields (take w.count named) ++ (10 ∷ []))
+told_of (Err n) named = refused_line (decimal_of n)
 
 abbrev pub told_by : Whys → List ℕ
 told_by w = told_of w.answer w.named

@@ -2,7 +2,9 @@
 // or in hex. The layer promises that each line gets the line that specs/Why.antt gives it, and that nothing changes where a line can't be read.
 #![tactic(auto)]
 
-ghost use Rattle.std.specs.Prelude.{◌≡◌, ◌∷◌, ◌+◌, ◌≤◌, length, take};
+ghost use Rattle.std.specs.Prelude.{◌≡◌, ◌∷◌, ◌+◌, ◌≤◌, length, take, Ok};
+ghost use Rattle.refusal.specs.Refusal.{numbered};
+ghost use Rattle.why.specs.declared.Explained.{Explained};
 ghost use Rattle.lines.specs.Numerals.{decimal_at};
 ghost use Rattle.lines.specs.Text.{decimal_of};
 ghost use Rattle.lines.specs.Lines.{printed, printed_in};
@@ -15,6 +17,7 @@ use lines::numeral::{decimal, hex};
 use lines::write::width;
 use numbers::store;
 use paper::{Answer, to_bytes};
+use refusal::Refusal;
 use replies::begins;
 use why::{Explained, why};
 
@@ -29,6 +32,7 @@ fn push(out: &mut [u8], n: usize, piece: &[u8]) -> usize
     n + piece.len()
 }
 
+// `replies` has the same as a private function: a public one asks nothing of its caller, and this one asks for room.
 fn push_decimal(out: &mut [u8], n: usize, v: usize) -> usize
     requires { n + length (decimal_of v) ≤ length out.old }
     ensures { Pushed out.old n (decimal_of v) result out.new }
@@ -81,19 +85,23 @@ fn push_outcome(out: &mut [u8], n: usize, told: Explained) -> usize
 }
 
 // What stands behind the file's number; the first of the numbers are the relations named.
-fn push_told(out: &mut [u8], n: usize, told: Explained, named: &[u16]) -> usize
-    requires { (n + length (told_of told named.now) ≤ length out.old) × (told.count ≤ length named.now) }
-    ensures { Pushed out.old n (told_of told named.now) result out.new }
+fn push_told(out: &mut [u8], n: usize, told: Result<Explained, Refusal>, named: &[u16]) -> usize
+    requires { (n + length (told_of (numbered told) named.now) ≤ length out.old)
+        × ((w : Explained) → numbered told ≡ Ok w → w.count ≤ length named.now) }
+    ensures { Pushed out.old n (told_of (numbered told) named.now) result out.new }
 {
-    let count = told.count;
-    if told.refused == 0 {
-        let a = push_outcome(out, n, told);
-        let b = push_numbers(out, a, &named[..count]);
-        return push(out, b, b"\n");
+    match told {
+        Ok(told) => {
+            let a = push_outcome(out, n, told);
+            let b = push_numbers(out, a, &named[..told.count]);
+            push(out, b, b"\n")
+        }
+        Err(refusal) => {
+            let d = push(out, n, b"refused\t");
+            let e = push_decimal(out, d, u8::from(refusal) as usize);
+            push(out, e, b"\n")
+        }
     }
-    let d = push(out, n, b"refused\t");
-    let e = push_decimal(out, d, told.refused as usize);
-    push(out, e, b"\n")
 }
 
 // The word and the file's number.
@@ -155,10 +163,10 @@ fn paper_line(
 {
     let mut bytes = [0u8; 256];
     match to_bytes(equation, &mut bytes) {
-        Answer::Bytes(n) => why_line(&bytes[..n], number, disk, owner, table, most, out),
-        Answer::Wrong(_, _) => wrong_line(equation, number, out),
-        Answer::Long => wrong_line(equation, number, out),
-        Answer::Refused(_) => wrong_line(equation, number, out),
+        Ok(Answer::Bytes(n)) => why_line(&bytes[..n], number, disk, owner, table, most, out),
+        Ok(Answer::Wrong(_, _)) => wrong_line(equation, number, out),
+        Ok(Answer::Long) => wrong_line(equation, number, out),
+        Err(_) => wrong_line(equation, number, out),
     }
 }
 

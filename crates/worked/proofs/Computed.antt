@@ -1,4 +1,5 @@
 -- What the definitions give for the passes of Passes.antt, by computation. Assumes nothing.
+use Rattle.std.specs.Prelude.{Ok}
 use mathlib.Core.Path.{◌≡◌, refl}
 use mathlib.Core.Bool.{true, false}
 use mathlib.Core.List.{List, [], ◌∷◌, ◌++◌}
@@ -11,7 +12,6 @@ use Rattle.packet.specs.Frame.{Held, packet, byte}
 use Rattle.session.specs.declared.state.Uplink.TheVariants as up
 use Rattle.session.specs.declared.reply.Answer.TheVariants as answer
 use Rattle.session.specs.Reply.{Told, told}
-use Rattle.server.specs.declared.check.Check.TheVariants.{Go}
 use Rattle.server.specs.State.{Lent, lent, link_of, part}
 use Rattle.server.specs.Check.{fits}
 use Rattle.server.specs.Making.{new_server}
@@ -77,7 +77,7 @@ unfinished h = record { count = (link_of (server_after h) 0).held; part = part 0
 
 pub record Closings : Type 0 where
   -- no local refusal
-  pub goes : check_in (server_after opened) (lent_after opened) (rx 6 type18) ≡ Go 0
+  pub goes : check_in (server_after opened) (lent_after opened) (rx 6 type18) ≡ Ok 0
   -- "A type 18 to 31", two bytes being taken
   pub type_18 : Unwelcome (link_of (server_after opened) 0) (event_at (server_after opened) (lent_after opened) 0 type18)
   pub taken_18 : (call byte (unfinished opened) type18).taken ≡ 2
@@ -125,7 +125,7 @@ packet_told p = told (answer.Sent 0 (length p)) (p ++ drop (length p) output)
 
 -- a request when DATA_END was sent goes through, and nothing is due
 pub record Requests : Type 0 where
-  pub goes : check_in (server_after sent_all) (lent_after sent_all) (request 1 output) ≡ Go 0
+  pub goes : check_in (server_after sent_all) (lent_after sent_all) (request 1 output) ≡ Ok 0
   pub not_due : is_due (link_of (server_after sent_all) 0).down ≡ false
 
 pub record Computed : Type 0 where

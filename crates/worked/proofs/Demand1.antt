@@ -1,4 +1,5 @@
 -- Demand 1 at work: each statement is applied to small cases that meet its hypotheses, and what it gives is stated. Assumes nothing.
+use Rattle.std.specs.Prelude.{Ok, Err}
 use mathlib.Core.Path.{◌≡◌, ◌∙◌, sym}
 use mathlib.Core.Bool.{true, false}
 use mathlib.Core.List.{List, [], ◌∷◌}
@@ -132,11 +133,11 @@ module _ (d : Demand1) where
   -- making with 0 blocks is refused by 33, and what was lent stays as it was
   pub no_blocks_by_33 :
       make_of 0 1 1 1 256 (0 ∷ []) (0 ∷ []) (replicate 4 0) (0 ∷ []) output
-      ≡ makes (record { refused = 33; server = new_server 0 1 1 1 }) (emptied (0 ∷ []) (0 ∷ []) (replicate 4 0) (0 ∷ []) output)
+      ≡ makes (Err 33) (emptied (0 ∷ []) (0 ∷ []) (replicate 4 0) (0 ∷ []) output)
   no_blocks_by_33 = (d.making 0 1 1 1 256 _ _ _ _ _).by33 computed.locals.no_blocks
 
   -- making with one of each is not refused
   pub least_made :
       make_of 1 1 1 1 256 (0 ∷ []) (0 ∷ []) (replicate 4 0) (0 ∷ []) output
-      ≡ makes (record { refused = 0; server = new_server 1 1 1 1 }) (empty_of 1 1 1 1 (0 ∷ []) (0 ∷ []) (replicate 4 0) (0 ∷ []) output)
+      ≡ makes (Ok (new_server 1 1 1 1)) (empty_of 1 1 1 1 (0 ∷ []) (0 ∷ []) (replicate 4 0) (0 ∷ []) output)
   least_made = (d.making 1 1 1 1 256 _ _ _ _ _).by_none computed.locals.least

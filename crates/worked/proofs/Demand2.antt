@@ -15,7 +15,6 @@ use Rattle.packet.specs.Frame.{Event, packet, too_long}
 use Rattle.session.specs.declared.reply.Answer.TheVariants as answer
 use Rattle.session.specs.Expected.{expected}
 use Rattle.server.specs.declared.Server.{Server}
-use Rattle.server.specs.declared.check.Check.TheVariants.{Go}
 use Rattle.server.specs.State.{Lent, link_of}
 use Rattle.history.specs.Calls.{receive, lose, call_of, ◌▸◌, after}
 use Rattle.promises.specs.Parts.{check_in}
@@ -112,7 +111,7 @@ module _ (d : Demand2) where
   -- "The server closes a link in no other case": where a packet closed it, this packet was not expected
   pub closed_for_a_reason :
       (sv : Server) (l : Lent) (session clock : ℕ) (input out : List ℕ) (i kind : ℕ) (info : List ℕ) (taken : ℕ)
-      → check_in sv l (receive session clock input out) ≡ Go i
+      → check_in sv l (receive session clock input out) ≡ Ok i
       → event_at sv l i input ≡ some (packet kind info)
       → answer_of sv l (receive session clock input out) ≡ answer.Closed taken
       → expected (link_of sv i).up (link_of sv i).down kind (length info) ≡ false

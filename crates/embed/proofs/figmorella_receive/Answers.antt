@@ -1,50 +1,21 @@
-use mathlib.Core.Path.{sym, ◌∙◌, refl}
+use mathlib.Core.Path.{sym, ap, ◌∙◌}
 use lib.ListN.{length}
+use Rattle.refusal.specs.Refusal.{numbered}
 use Rattle.embed.proofs.Checked.{ready_go}
 use Rattle.embed.specs.Calls.{receive_by, on_receive}
 use Rattle.embed.proofs.Telling.{received_told}
 use Rattle.embed.proofs.figmorella_receive.Goals as goal
 
 pub server_at-server-requires : goal.server_at-server-requires
-server_at-server-requires c = (ready_go _ c.args.state.now (length c.args.counts.now) (sym c.check-k.ensures ∙ c.in-Go.is)).room
+server_at-server-requires c = (ready_go _ c.args.state.now (length c.args.counts.now) (sym c.check.ensures ∙ ap numbered c.in-Ok.is)).room
 
 pub tell-requires : goal.tell-requires
-tell-requires c = let p = ready_go _ c.args.state.now (length c.args.counts.now) (sym c.check-k.ensures ∙ c.in-Go.is) in (p.room, p.two, p.words)
+tell-requires c = let p = ready_go _ c.args.state.now (length c.args.counts.now) (sym c.check.ensures ∙ ap numbered c.in-Ok.is) in (p.room, p.two, p.words)
 
-pub shape_of-state-in-Refuse : goal.shape_of-state-in-Refuse
-shape_of-state-in-Refuse c = refl
-
-pub returns-in-Refuse : goal.returns-in-Refuse
+pub returns-in-Err : goal.returns-in-Err
 unfolding receive_by on_receive
-returns-in-Refuse c = record { out_after = rw (← c.check-k.ensures, c.in-Refuse.is); state_after = λ e. e }
+returns-in-Err c = record { out_after = rw (← c.check.ensures, c.in-Err.is, ← c.into.ensures); state_after = λ e. e }
 
-pub shape_of-state-in-Go : goal.shape_of-state-in-Go
-shape_of-state-in-Go c = c.tell.auto.state
-
-pub shape_of-disk : goal.shape_of-disk
-shape_of-disk c = c.receive-done.auto.disk
-
-pub shape_of-map : goal.shape_of-map
-shape_of-map c = c.receive-done.auto.map
-
-pub shape_of-owner : goal.shape_of-owner
-shape_of-owner c = c.receive-done.auto.owner
-
-pub shape_of-table : goal.shape_of-table
-shape_of-table c = c.receive-done.auto.table
-
-pub shape_of-selected : goal.shape_of-selected
-shape_of-selected c = c.receive-done.auto.selected
-
-pub shape_of-held : goal.shape_of-held
-shape_of-held c = c.receive-done.auto.held
-
-pub shape_of-out : goal.shape_of-out
-shape_of-out c = c.receive-done.auto.out
-
-pub shape_of-counts : goal.shape_of-counts
-shape_of-counts c = c.tell.auto.counts
-
-pub returns-in-Go : goal.returns-in-Go
+pub returns-in-Ok : goal.returns-in-Ok
 unfolding receive_by on_receive
-returns-in-Go c = record { out_after = rw (← c.check-k.ensures, c.in-Go.is, ← c.server_at-server.ensures, ← c.receive-done.ensures) (received_told _ _ _ _ c.tell.ensures.counts_after); state_after = λ _. c.tell.ensures.state_after }
+returns-in-Ok c = record { out_after = rw (← c.check.ensures, c.in-Ok.is, ← c.server_at-server.ensures, ← c.receive-done.ensures) (received_told _ _ _ _ c.tell.ensures.counts_after); state_after = λ _. c.tell.ensures.state_after }

@@ -15,9 +15,6 @@ loop-count-init c =
     let a = c.args in
     choosing_start (meets_at a.eq.now a.disk.now a.owner.now a.table.now) a.table.now a.selected.now a.most c.requires.1
 
-pub shape_of-selected-in-None : goal.shape_of-selected-in-None
-shape_of-selected-in-None c = c.loop-count.invariant.size
-
 pub returns-in-None : goal.returns-in-None
 returns-in-None c =
     let a = c.args in
@@ -47,9 +44,6 @@ loop-count-preserved c =
     choosing_next (meets_at a.eq.now a.disk.now a.owner.now a.table.now) a.table.now a.selected.now a.most l.selected l.count l.after l.invariant c.in-Some.place (sym c.next_complete-next.ensures ∙ c.in-Some.is) _
     (c.upload_time_of-after.ensures ∙ ap uploaded g) c.loop-count-test.true c.meets-met.result _ _ m n.value
     (n.selected_after ∙ ap (λ (f : File). cond c.meets-met.result (set l.selected l.count f.number) l.selected) g)
-
-pub shape_of-selected : goal.shape_of-selected
-shape_of-selected c = c.loop-count.invariant.size
 
 pub returns : goal.returns
 returns c =

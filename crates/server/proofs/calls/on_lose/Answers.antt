@@ -1,23 +1,19 @@
+use mathlib.Core.Path.{ap}
 use native.Mathlib.Omega.{arith}
+use Rattle.refusal.specs.Refusal.{numbered}
 use Rattle.server.specs.Calls.{on_lose}
 use Rattle.server.proofs.calls.on_lose.Goals as goal
 
 pub forget-requires : goal.forget-requires
-forget-requires c = let p = c.requires _ c.in-Go.is in (p.session, p.most, p.selections, p.part)
+forget-requires c = let p = c.requires _ (ap numbered c.in-Ok.is) in (p.session, p.most, p.selections, p.part)
 
 pub with_link-next-requires : goal.with_link-next-requires
-with_link-next-requires c = omega (arith, (c.requires _ c.in-Go.is).session)
+with_link-next-requires c = omega (arith, (c.requires _ (ap numbered c.in-Ok.is)).session)
 
-pub returns-in-Refuse : goal.returns-in-Refuse
+pub returns-in-Err : goal.returns-in-Err
 unfolding on_lose
-returns-in-Refuse c = rw c.in-Refuse.is
+returns-in-Err c = rw (c.in-Err.is, ← c.into.ensures)
 
-pub shape_of-selected : goal.shape_of-selected
-shape_of-selected c = c.selected-1.given
-
-pub shape_of-held : goal.shape_of-held
-shape_of-held c = c.held-1.given
-
-pub returns-in-Go : goal.returns-in-Go
+pub returns-in-Ok : goal.returns-in-Ok
 unfolding on_lose
-returns-in-Go c = rw (c.in-Go.is, c.forget.ensures.selected_after, c.forget.ensures.held_after, c.with_link-next.ensures, c.closed.ensures)
+returns-in-Ok c = rw (c.in-Ok.is, c.forget.ensures.selected_after, c.forget.ensures.held_after, c.with_link-next.ensures, c.closed.ensures)

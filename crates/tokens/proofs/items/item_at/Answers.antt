@@ -24,22 +24,22 @@ overflow_add-result c =
     let a = b9.args in
     let f = b3.find_name in
     let t = take_all (length a.text.now - a.at) (drop a.at a.text.now) (omega (arith, length-drop a.at a.text.now)) in
-    let h = laws.known_in a.text.now a.at (omega (arith, b7.if-text-at.false)) f.result _ t f.ensures c.in-Known.id c.in-Known.n c.in-Known.is in
+    let h = laws.known_in a.text.now a.at (omega (arith, b7.if-text-at.false)) f.result _ t f.ensures c.in-Ok.id c.in-Ok.n c.in-Ok.is in
     omega (arith, h, b9.well_formed.0.0)
 
-pub overflow_add-result-in-Unknown : goal.overflow_add-result-in-Unknown
-overflow_add-result-in-Unknown c =
+pub overflow_add-result-in-Err : goal.overflow_add-result-in-Err
+overflow_add-result-in-Err c =
     let b3 = c in
     let b7 = b3 in
     let b9 = b7 in
     let a = b9.args in
     let f = b3.find_name in
     let t = take_all (length a.text.now - a.at) (drop a.at a.text.now) (omega (arith, length-drop a.at a.text.now)) in
-    let h = laws.unknown_in a.text.now a.at (omega (arith, b7.if-text-at.false)) f.result _ t f.ensures c.in-Unknown.n c.in-Unknown.is in
+    let h = laws.unknown_in a.text.now a.at (omega (arith, b7.if-text-at.false)) f.result _ t f.ensures c.in-Err.n c.in-Err.is in
     omega (arith, h, b9.well_formed.0.0)
 
-pub returns-in-Known : goal.returns-in-Known
-returns-in-Known c =
+pub returns-in-Ok : goal.returns-in-Ok
+returns-in-Ok c =
     let b3 = c in
     let b5 = b3 in
     let b6 = b5 in
@@ -48,10 +48,10 @@ returns-in-Known c =
     let f = b3.find_name in
     let t = take_all (length a.text.now - a.at) (drop a.at a.text.now) (omega (arith, length-drop a.at a.text.now)) in
     let b = b6.byte_of in
-    laws.item_known a.text.now a.at b.result b.ensures b5.if-byte_of-eq35.false f.result _ t f.ensures c.in-Known.id c.in-Known.n c.in-Known.is
+    laws.item_known a.text.now a.at b.result b.ensures b5.if-byte_of-eq35.false f.result _ t f.ensures c.in-Ok.id c.in-Ok.n c.in-Ok.is
 
-pub returns-in-Unknown : goal.returns-in-Unknown
-returns-in-Unknown c =
+pub returns-in-Err : goal.returns-in-Err
+returns-in-Err c =
     let b3 = c in
     let b5 = b3 in
     let b6 = b5 in
@@ -60,4 +60,4 @@ returns-in-Unknown c =
     let f = b3.find_name in
     let t = take_all (length a.text.now - a.at) (drop a.at a.text.now) (omega (arith, length-drop a.at a.text.now)) in
     let b = b6.byte_of in
-    laws.item_unknown a.text.now a.at b.result b.ensures b5.if-byte_of-eq35.false f.result _ t f.ensures c.in-Unknown.n c.in-Unknown.is
+    laws.item_unknown a.text.now a.at b.result b.ensures b5.if-byte_of-eq35.false f.result _ t f.ensures c.in-Err.n c.in-Err.is
