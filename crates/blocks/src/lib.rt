@@ -542,13 +542,23 @@ fn run_length(at: usize, left: usize) -> usize
     left.min(256 - at % 256)
 }
 
+// Copies `from` to `to`. A loop: `copy_from_slice` becomes a call of `memmove`, and the library is to need `memcpy` and `memset` alone.
+fn copy(to: &mut [u8], from: &[u8])
+    requires { length to.old ≡ length from.now }
+    ensures { to.new ≡ from.now }
+{
+    for (i, b) in from.iter().enumerate() {
+        to[i] = *b;
+    }
+}
+
 // Stores a run of bytes from byte s of the disk on.
 #[tactic(auto, using(crate::proofs::Steps::part_put))]
 fn put_run(disk: &mut [u8], s: usize, run: &[u8])
     requires { s + length run.now ≤ length disk.old }
     ensures { disk.new ≡ sets disk.old s run.now }
 {
-    disk[s..s + run.len()].copy_from_slice(run);
+    copy(&mut disk[s..s + run.len()], run);
 }
 
 // Stores the bytes from byte `at` of owner v on, a run for each block that they touch.
@@ -589,7 +599,7 @@ fn get_run(disk: &[u8], s: usize, out: &mut [u8])
     requires { s + length out.old ≤ length disk.now }
     ensures { out.new ≡ take (length out.old) (drop s disk.now) }
 {
-    out.copy_from_slice(&disk[s..s + out.len()]);
+    copy(out, &disk[s..s + out.len()]);
 }
 
 // Fills `out` with the bytes from byte `at` of owner v on, a run for each block that they touch.

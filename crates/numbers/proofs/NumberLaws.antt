@@ -6,8 +6,8 @@ use native.Mathlib.Nat.{div-div-eq-div-mul, add-mul-mod_self_left}
 use native.Mathlib.Numerals.{add-one}
 use native.Mathlib.Omega.{arith}
 use borrow.Author.Tests.{le-leb, lt-leb}
-use lib.ListN.{length, take, drop, get_or}
-use lib.Seq.{drop-cons, drop-drop, sets, sets-eq}
+use lib.ListN.{length, take, drop, get_or, set}
+use lib.Seq.{drop-cons, drop-drop, sets, sets-eq, paste, paste-zero, paste-suc, take-length}
 use borrow.Rule.Slice.PartMut.{put_mid}
 use Rattle.numbers.specs.Numbers.{number, two, four, number_at, fits_at, stored_at}
 use Rattle.std.proofs.Common.{Some, None}
@@ -60,6 +60,23 @@ unfolding stored_at
 stored_at_law l at xs h = rw (le-leb _ _ h)
 
 -- the bytes of a part from a place on, once they are xs
+pub stored_none : (l : List ℕ) (at : ℕ) (xs : List ℕ) → l ≡ paste l at xs 0
+stored_none l at xs = paste-zero l at xs
+
+pub stored_next : (l : List ℕ) (at : ℕ) (xs to : List ℕ) (i : ℕ)
+    → at + i < length l
+    → i < length xs
+    → to ≡ paste l at xs i
+    → set to (at + i) (get_or xs i 0) ≡ paste l at xs (i + 1)
+stored_next l at xs to i h k e = rw (e, add-one) (paste-suc l at xs i 0 h k)
+
+pub stored_all : (l : List ℕ) (at : ℕ) (xs to : List ℕ) (i : ℕ)
+    → at + length xs ≤ length l
+    → i ≡ length xs
+    → to ≡ paste l at xs i
+    → to ≡ stored_at l at xs
+stored_all l at xs to i h n e = rw (stored_at_law l at xs h, sets-eq xs l at h, e, n, take-length xs)
+
 pub stored_part : (l part xs : List ℕ) (at k : ℕ) → part ≡ xs → k ≡ length xs → at + length xs ≤ length l → put_mid at k l part ≡ stored_at l at xs
 stored_part l part xs at k e n h = rw (e, n, stored_at_law l at xs h, sets-eq xs l at h) (ap (λ (r : List ℕ). take at l ++ (xs ++ r)) (drop-drop (length xs) at l) ∙ sym (append_assoc (take at l) xs (drop (at + length xs) l)))
 

@@ -75,7 +75,7 @@ pub fn write32(out: &mut [u8], at: usize, n: u32) -> Result<(), Refusal>
 }
 
 // Stores all of `from` in `to` from byte `at` on; refused by 33, and nothing stored, where it does not fit.
-#[tactic(auto, using(crate::proofs::NumberLaws::refused_at, crate::proofs::NumberLaws::accepted_at, crate::proofs::NumberLaws::unstored_at, crate::proofs::NumberLaws::stored_part))]
+#[tactic(auto, using(crate::proofs::NumberLaws::refused_at, crate::proofs::NumberLaws::accepted_at, crate::proofs::NumberLaws::unstored_at, crate::proofs::NumberLaws::stored_none))]
 pub fn store(to: &mut [u8], at: usize, from: &[u8]) -> Result<(), Refusal>
     ensures value { number_of result ≡ fits_at (length from.now) to.old at }
     ensures to_after { to.new ≡ stored_at to.old at from.now }
@@ -83,7 +83,10 @@ pub fn store(to: &mut [u8], at: usize, from: &[u8]) -> Result<(), Refusal>
     if to.len() < from.len() || to.len() - from.len() < at {
         return Err(Refusal::BadSize);
     }
-    to[at..at + from.len()].copy_from_slice(from);
+    // a loop: `copy_from_slice` becomes a call of `memmove`, and the library is to need `memcpy` and `memset` alone
+    for (i, b) in from.iter().enumerate() {
+        to[at + i] = *b;
+    }
     Ok(())
 }
 

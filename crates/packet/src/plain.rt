@@ -3,6 +3,7 @@ ghost use Rattle.std.specs.Prelude.{◌≡◌};
 ghost use Rattle.refusal.specs.Refusal.{numbered};
 ghost use Rattle.packet.specs.Packet.{write_answer, left_in, read_answer};
 
+use numbers::store;
 use refusal::Refusal;
 
 // Writes a packet to the start of `out`, and says its length.
@@ -22,7 +23,8 @@ pub fn write_packet(kind: u8, info: &[u8], out: &mut [u8]) -> Result<usize, Refu
     }
     out[0] = (info.len() % 256) as u8;
     out[1] = kind + 32 * ((info.len() / 256) as u8);
-    out[2..size].copy_from_slice(info);
+    // not refused: `out` has room for the packet
+    let _ = store(out, 2, info);
     Ok(size)
 }
 

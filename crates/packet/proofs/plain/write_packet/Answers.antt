@@ -1,7 +1,6 @@
 use native.Mathlib.Omega.{arith}
 use mathlib.Core.Path.{refl, ◌∙◌}
 use lib.ListN.{length-set}
-use Rattle.numbers.proofs.NumberLaws.{stored_part}
 use Rattle.packet.specs.Packet.{left_in}
 use Rattle.packet.proofs.PacketLaws.{stored_packet, refused_kind, refused_long, refused_room, accepted}
 use Rattle.packet.proofs.plain.write_packet.Goals as goal
@@ -27,5 +26,5 @@ returns c =
     let e = c in
     record {
       value = accepted _ _ _ (omega arith) (omega arith) (omega arith);
-      out_after = stored_part _ _ e.args.info.now 2 _ c.copy_from_slice.ensures.after (omega arith) (simp (length-set, length-set) (omega arith)) ∙ stored_packet e.args.kind e.args.info.now e.args.out.now (omega arith);
+      out_after = c.store.ensures.to_after ∙ stored_packet e.args.kind e.args.info.now e.args.out.now (omega arith);
     }

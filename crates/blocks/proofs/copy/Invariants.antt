@@ -1,0 +1,7 @@
+-- The bytes copied are those of the source.
+use mathlib.Core.Path.{◌≡◌}
+use lib.ListN.{length, take}
+use Rattle.blocks.proofs.copy.Given as goal
+
+abbrev pub invariant-loop-i : goal.invariant-loop-i
+invariant-loop-i l = (length l.to ≡ length l.initial.to) × (length l.initial.to ≡ length l.from) × (take l.i l.to ≡ take l.i l.from)
