@@ -1,9 +1,11 @@
 -- The run of the program from its own start: a server just made in the program's memory (crates/pass, specs/Whole.antt, with the words of a class). It meets
 -- what EveryRun (crates/pass, specs/Run.antt) asks of a start, so what EveryRun says holds of it. Assumes nothing.
+use Rattle.std.specs.Prelude.{◌^◌, ◌<◌, length}
 use Rattle.server.specs.State.{Lent}
-use Rattle.history.specs.Calls.{Start}
+use Rattle.history.specs.Calls.{Start, made}
 use Rattle.pass.specs.declared.Pass.{Pass}
-use Rattle.pass.specs.Pass.{Memory, Passing}
+use Rattle.pass.specs.Pass.{Memory, memory, Passing, new_of}
+use Rattle.pass.specs.Run.{PrintsBy}
 use Rattle.pass.specs.Run as program
 use Rattle.pass.specs.Whole as whole
 use Rattle.classday.specs.Sheet.{class_words, class_sheet_of}
@@ -22,7 +24,8 @@ Ready m = whole.Ready 8192 m
 
 -- turns from the server just made
 abbrev pub PlayedAll : Memory → Passing → Type 0
-PlayedAll m after = whole.PlayedAll 8192 class_words m after
+PlayedAll m after =
+    Played (new_of (made (start_of m.lent)).server) (memory (made (start_of m.lent)).lent m.input m.bytes m.text) after
 
 -- the same in memory that the program has to itself: where it stands is all that is left of it
 abbrev pub RanInMemory : Pass → Type 0
@@ -31,4 +34,6 @@ RanInMemory r = whole.RanInMemory 8192 class_words r
 -- THE PROGRAM: what its own run writes is the sheet of the class script that it read. `run` (src/main.rt) has the contract `PlayedAll`,
 -- `run_in_memory` the contract `RanInMemory`.
 abbrev pub ProgramPrints : Type 0
-ProgramPrints = whole.OwnRunOf 8192 class_words class_sheet_of
+ProgramPrints =
+    (m : Memory) → Ready m → (after : Passing) (p : PlayedAll m after) → length p.read < 2 ^ 63
+    → PrintsBy (class_sheet_of (start_of m.lent)) p.read p.wrote after

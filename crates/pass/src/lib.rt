@@ -221,7 +221,7 @@ fn written_stage(stage: Stage) -> Stage
 
 // After what waits was written: nothing does any more.
 #[tactic(auto, unfolding(crate::specs::Pass::flushed_of))]
-fn written(pass: Pass) -> Pass
+pub fn written(pass: Pass) -> Pass
     ensures { result ≡ flushed_of true pass }
 {
     Pass {
@@ -233,7 +233,7 @@ fn written(pass: Pass) -> Pass
 
 // After a write that failed, nothing is left to be done.
 #[tactic(auto, unfolding(crate::specs::Pass::flushed_of))]
-fn broken(pass: Pass) -> Pass
+pub fn broken(pass: Pass) -> Pass
     ensures { result ≡ flushed_of false pass }
 {
     Pass {
@@ -259,7 +259,7 @@ pub fn flush<W: Write>(writer: &mut W, pass: Pass, text: &[u8]) -> Pass
 }
 
 // After a read of n bytes behind the first `kept` of the input. A read that brings nothing, or fails, ends the input.
-fn refilled(pass: Pass, kept: usize, n: usize) -> Pass
+pub fn refilled(pass: Pass, kept: usize, n: usize) -> Pass
     ensures { result ≡ pass_of pass.day 0 (wrapped (kept + n)) (n == 0) pass.lines pass.filled pass.stage }
 {
     Pass {
