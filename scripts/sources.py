@@ -113,6 +113,10 @@ class Edit:
     def name(self):
         return f"{self.crate}/{self.label}"
 
+    @property
+    def mistake(self):
+        return tuple(self.changes)
+
     def fault(self):
         """Why the edit does not fit the sources, or nothing."""
         if not self.changes:
@@ -204,16 +208,29 @@ def edits_by_function(crate):
             yield f, list(dict.fromkeys(e for _, e in near))
 
 
+# Edits that are tried besides: of a function that has more than two mistakes worth a try.
+BESIDES = {
+    "equation/steps_refused_where_they_fit",
+    "header/check_upload_id",
+    "lines/read_blank_for_tab",
+    "pass/broken_goes_on_defined",
+    "text/z_not_lowered",
+}
+
+
 def plainly_tried(crate):
     """The edits that scripts/try-edits tries when nothing more is asked: two for each public function, all bad servers and the mistakes that document 01
-    names, and where a crate has theorems alone, one of each file of specs/. Edits that `rt ci` tries count too, and are left out."""
+    names, those of BESIDES, and where a crate has theorems alone, one of each file of specs/. Edits that `rt ci` tries count too, and are left out. The
+    same mistake under two names counts once, and is tried under both."""
     edits, chosen = edits_of(crate), set()
     for _, found in edits_by_function(crate):
-        wanted = 2 - sum(e.in_gate_of_kit for e in found)
         # one that was chosen for another function counts for this one
-        wanted -= sum(e.label in chosen for e in found)
-        chosen.update(e.label for e in [e for e in found if not e.in_gate_of_kit and e.label not in chosen][: max(wanted, 0)])
-    chosen.update(e.label for e in edits if re.match(r"bad_server_|mistake_", e.label))
+        mistakes = {e.mistake for e in found if e.in_gate_of_kit or e.label in chosen}
+        for e in found:
+            if len(mistakes) < 2 or e.mistake in mistakes:
+                mistakes.add(e.mistake)
+                chosen.add(e.label)
+    chosen.update(e.label for e in edits if re.match(r"bad_server_|mistake_", e.label) or e.name in BESIDES)
     if not public_functions_of(crate):
         first = {}
         for e in edits:
