@@ -9,9 +9,12 @@ import re
 
 import sources
 
-# The definitions of crates/refusal that put a refusal's number in its place, and the answers that they determine (laws number_determines and
-# numbered_determines, crates/refusal/proofs/Laws.antt).
-OF_REFUSALS = {"number_of": r"->\s*Result<\(\), Refusal>", "numbered": r"->\s*Result<.*, Refusal>"}
+# The definitions that put a refusal's number in its place, by the file of specs/ that a function's file imports them from, and the answers that they
+# determine: laws number_determines and numbered_determines (crates/refusal/proofs/Laws.antt), counted_determines (crates/equation/proofs/Parsing.antt).
+OF_REFUSALS = {
+    "Rattle.refusal.specs.Refusal": {"number_of": r"->\s*Result<\(\), Refusal>", "numbered": r"->\s*Result<.*, Refusal>"},
+    "Rattle.equation.specs.Parsed": {"counted": r"->\s*Result<usize, Unparsed>"},
+}
 
 
 def builders():
@@ -29,11 +32,14 @@ def builders():
 
 
 def with_refusals(function, signature, known):
-    """The same with the definitions of crates/refusal that the function's file imports and that determine its answer."""
+    """The same with the definitions of OF_REFUSALS that the function's file imports and that determine its answer."""
     text = sources.read(function.path) if os.path.exists(os.path.join(sources.ROOT, function.path)) else ""
-    imports = re.findall(r"^ghost use Rattle\.refusal\.specs\.Refusal\.\{([^}]*)\};", text, re.M)
-    names = {name.strip() for line in imports for name in line.split(",")}
-    return {**known, **{name: {1} for name, answer in OF_REFUSALS.items() if name in names and re.search(answer, signature)}}
+    found = {}
+    for module, answers in OF_REFUSALS.items():
+        imports = re.findall(rf"^ghost use {re.escape(module)}\.\{{([^}}]*)\}};", text, re.M)
+        names = {name.strip() for line in imports for name in line.split(",")}
+        found.update({name: {1} for name, answer in answers.items() if name in names and re.search(answer, signature)})
+    return {**known, **found}
 
 
 def term(text):

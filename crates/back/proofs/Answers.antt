@@ -133,10 +133,10 @@ module _ (bytes steps : List ℕ) (small : (k : ℕ) → get_or bytes k 0 < 256)
         subst (λ (l : List ℕ). (w : Accepted bytes l) → answers r now ≡ written w.formula (length bytes) (length (unmarked bytes)) out) t.first q in
         rw (le-ltb 2047 (length bytes) t.short, a.parsed) (f s)
 
-  pub refused_answer : (n : ℕ) → parses (Err n) steps ≡ parse_of bytes (replicate 2047 0) → (out : List ℕ) → answers (Err n) out ≡ written_of bytes out
+  pub refused_answer : (n count : ℕ) → parses (Err (n, count)) steps ≡ parse_of bytes (replicate 2047 0) → (out : List ℕ) → answers (Err n) out ≡ written_of bytes out
   unfolding written_of written_by validity_of refusal
-  refused_answer n e out =
-      let j = judged bytes (replicate 2047 0) steps n e (λ h. omega (arith, length-replicate {A = ℕ} 2047 0)) in
+  refused_answer n count e out =
+      let j = judged bytes (replicate 2047 0) steps n count e (λ h. omega (arith, length-replicate {A = ℕ} 2047 0)) in
       by (ltb 2047 (length bytes)) refl (parse bytes) refl j.number (λ z. j.refused (sym j.number ∙ z))
     where
       by : (x : Bool) → ltb 2047 (length bytes) ≡ x → (o : Option Tree) → parse bytes ≡ o → n ≡ cond x 33 (refusal o) → (n ≡ 0 → ⊥)

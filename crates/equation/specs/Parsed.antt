@@ -1,11 +1,13 @@
 -- An equation parsed: the list of its steps, by which its relations are found again without reading or judging its bytes anew. A step is a
 -- number: below 2,048 the place of a relation's first byte, 2,048 AND, 2,049 OR, any other what is none of these. Assumes nothing.
 use Rattle.std.specs.Prelude.{◌&&◌, ◌||◌, cond, List, [], ◌∷◌, ◌++◌, map, ℕ, zero, suc, ◌+◌, ◌*◌, ltb, leb, eqb, length, get_or, take, drop, Bool, Result, Ok, Err}
+use Rattle.refusal.specs.Refusal.{number}
 use Rattle.equation.specs.Holds.{Relation, relation_of}
 use Rattle.equation.specs.Symbols.{token_of, Symbol, rel, and, or, bad, relations}
 use Rattle.equation.specs.Tree.{run}
 use Rattle.equation.specs.Marks.{marked_true}
 use Rattle.equation.specs.Answer.{validity_of, verdict}
+use Rattle.equation.specs.declared.evaluation.Unparsed.{Unparsed}
 use Rattle.equation.specs.declared.tokens.Token.{Token}
 use Rattle.equation.specs.declared.tokens.Token.TheVariants.{Bad, End, And, Or, Rel}
 
@@ -48,19 +50,29 @@ steps_past (suc n) at (c ∷ bs) = steps_past n (suc at) bs
 abbrev pub steps_of : List ℕ → List ℕ
 steps_of eq = steps_past 0 0 eq
 
--- ---- the answer of parsing, how many steps there are or the number of the refusal, and the lent steps afterwards
+-- ---- the answer of parsing, and the lent steps afterwards
 
+-- the same answer with the refusal's number and the count in the refusal's place
+abbrev pub counted : Result ℕ Unparsed → Result ℕ (ℕ × ℕ)
+counted (Ok count) = Ok count
+counted (Err unparsed) = Err (number unparsed.refusal, unparsed.count)
+
+-- the answer by an equation's number, 0 where it is accepted, and by how many steps it has
+abbrev pub counted_by : ℕ → ℕ → Result ℕ (ℕ × ℕ)
+counted_by n count = cond (eqb n 0) (Ok count) (Err (n, count))
+
+-- how many steps there are; where they are refused, behind the number of the refusal
 pub record Parses : Type 0 where
-  pub answer : Result ℕ ℕ
+  pub answer : Result ℕ (ℕ × ℕ)
   pub steps : List ℕ
 
-abbrev pub parses : Result ℕ ℕ → List ℕ → Parses
+abbrev pub parses : Result ℕ (ℕ × ℕ) → List ℕ → Parses
 parses answer steps = record { answer = answer; steps = steps }
 
--- 33 above 2,047 bytes or where fewer numbers are lent than the equation has bytes, and nothing is written; else the steps in front, and 8 where
--- they are refused
+-- 33 above 2,047 bytes or where fewer numbers are lent than the equation has bytes, and nothing is written; else the steps in front and how many
+-- they are, and 8 where they are refused
 unfoldable pub parse_of : List ℕ → List ℕ → Parses
 parse_of eq steps =
     cond (leb (length eq) 2047 && leb (length eq) (length steps))
-    (parses (cond (eqb (validity_of eq) 0) (Ok (length (steps_of eq))) (Err (validity_of eq))) (steps_of eq ++ drop (length (steps_of eq)) steps))
-    (parses (Err 33) steps)
+    (parses (counted_by (validity_of eq) (length (steps_of eq))) (steps_of eq ++ drop (length (steps_of eq)) steps))
+    (parses (Err (33, 0)) steps)

@@ -5,7 +5,7 @@ ghost use Rattle.header.specs.Items.{walk, fields_of};
 ghost use Rattle.equation.specs.Relation.{meets};
 ghost use Rattle.equation.specs.Marks.{field_of, mark_after, settled, settled_by, marked_true};
 ghost use Rattle.equation.specs.Answer.{answer_of};
-ghost use Rattle.equation.specs.Parsed.{relation_from, relations_by, outcome_by, parses, parse_of};
+ghost use Rattle.equation.specs.Parsed.{relation_from, relations_by, outcome_by, counted, parses, parse_of};
 ghost use Rattle.equation.specs.Steps.{finished, combine};
 
 use crate::relation::item_meets;
@@ -128,18 +128,38 @@ pub fn outcome(steps: &[u16], truths: &[u8]) -> Result<bool, Refusal>
     finish(d, st[0])
 }
 
+// Why an equation is refused, and how many steps stand in front of `steps` all the same.
+#[derive(Clone, Copy)]
+pub struct Unparsed {
+    pub refusal: Refusal,
+    pub count: usize,
+}
+
+impl From<Unparsed> for Refusal {
+    ghost from_gives = { λ unparsed refusal. refusal ≡ unparsed.refusal };
+
+    fn from(unparsed: Unparsed) -> Refusal {
+        unparsed.refusal
+    }
+}
+
 // Parses an equation, once for all files: its steps go to the front of `steps`, which needs as many numbers as the equation has bytes, and the
-// answer is how many they are. Steps are accepted or not whatever the marks, so none are needed.
+// answer is how many they are, also where they are refused. Steps are accepted or not whatever the marks, so none are needed.
 // Refused with 8 exactly where it is no equation, whatever the files; with 33 above 2,047 bytes or where `steps` is too short.
-pub fn parse(eq: &[u8], steps: &mut [u16]) -> Result<usize, Refusal>
-    ensures { parses (numbered result) steps.new ≡ parse_of eq.now steps.old }
+pub fn parse(eq: &[u8], steps: &mut [u16]) -> Result<usize, Unparsed>
+    ensures { parses (counted result) steps.new ≡ parse_of eq.now steps.old }
 {
     if 2047 < eq.len() || steps.len() < eq.len() {
-        return Err(Refusal::BadSize);
+        return Err(Unparsed {
+            refusal: Refusal::BadSize,
+            count: 0,
+        });
     }
     let count = list_steps(eq, steps);
-    outcome(&steps[..count], &[])?;
-    Ok(count)
+    match outcome(&steps[..count], &[]) {
+        Ok(_) => Ok(count),
+        Err(refusal) => Err(Unparsed { refusal, count }),
+    }
 }
 
 // ---- a file in one slice

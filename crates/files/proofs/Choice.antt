@@ -12,9 +12,10 @@ use lib.Dec.{leb}
 use borrow.Author.Tests.{leb-true}
 use Rattle.std.proofs.Common.{Result, Ok, Err, IfOk}
 use Rattle.refusal.specs.declared.Refusal.{Refusal}
-use Rattle.refusal.specs.Refusal.{number, number_of, numbered}
+use Rattle.refusal.specs.Refusal.{number, number_of}
 use Rattle.equation.specs.Answer.{validity_of}
-use Rattle.equation.specs.Parsed.{steps_of, parses, parse_of}
+use Rattle.equation.specs.Parsed.{steps_of, counted, parses, parse_of}
+use Rattle.equation.specs.declared.evaluation.Unparsed.{Unparsed}
 use Rattle.equation.proofs.Parsing.{taken, judged}
 use Rattle.table.specs.declared.File.{File}
 use Rattle.std.proofs.Common.{Some, None}
@@ -197,16 +198,22 @@ select_room eq selected most e = go (leb 1 most && (leb most 50 && (leb most (le
 
 -- ---- the equation parsed
 
+-- what is handed on of an answer
+abbrev handed_on : Result ℕ Unparsed → Result ℕ Refusal
+handed_on (Ok count) = Ok count
+handed_on (Err unparsed) = Err unparsed.refusal
+
 -- an equation of up to 256 bytes, with as many numbers lent for its steps
 module _ (eq steps steps' : List ℕ) where
-  pub parsed_number : (r : Result ℕ Refusal) → parses (numbered r) steps' ≡ parse_of eq steps → 256 ≤ length steps → length eq ≤ 256 → number_of r ≡ validity_of eq
+  pub parsed_number : (r : Result ℕ Unparsed) → parses (counted r) steps' ≡ parse_of eq steps → 256 ≤ length steps → length eq ≤ 256
+      → number_of (handed_on r) ≡ validity_of eq
   parsed_number (Ok count) e r h = sym (taken eq steps steps' count e).valid
-  parsed_number (Err refusal) e r h = (judged eq steps steps' (number refusal) e (λ l. omega arith)).number
+  parsed_number (Err unparsed) e r h = (judged eq steps steps' (number unparsed.refusal) unparsed.count e (λ l. omega arith)).number
 
-  pub parsed_steps : (r : Result ℕ Refusal) → parses (numbered r) steps' ≡ parse_of eq steps
+  pub parsed_steps : (r : Result ℕ Unparsed) → parses (counted r) steps' ≡ parse_of eq steps
       → IfOk r (λ count. (count ≤ length steps') × (take count steps' ≡ steps_of eq))
   parsed_steps (Ok count) e = let t = taken eq steps steps' count e in (t.fits, t.first)
-  parsed_steps (Err refusal) e = tt
+  parsed_steps (Err unparsed) e = tt
 
 module _ (eq disk owner table selected : List ℕ) (most : ℕ) where
   pub chosen_most : length (chosen most eq disk owner table) ≤ most

@@ -280,7 +280,7 @@ fn select_parse(eq: &[u8], n: usize, most: usize, steps: &mut [u16]) -> Result<u
     if most < 1 || 50 < most || n < most || 256 < eq.len() {
         return Err(Refusal::BadSize);
     }
-    parse(eq, steps)
+    Ok(parse(eq, steps)?)
 }
 
 // The numbers of the oldest `most` complete files on which the equation is true, oldest first, then zeros up to `most`. The equation is parsed
