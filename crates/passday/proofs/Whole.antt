@@ -1,17 +1,30 @@
 -- THE PROGRAM: every run of it, however the input comes in pieces, writes the sheet of the script that was read (specs/Run.antt). Assumes nothing.
-use Rattle.std.proofs.Common.{◌≡◌, ℕ, List, arith}
+use Rattle.std.proofs.Common.{◌≡◌, ℕ, List, arith, cond, refl}
 use mathlib.Core.Option.{none, some}
 use Rattle.history.specs.Calls.{Start}
 use Rattle.script.specs.Line.{Ran}
 use Rattle.script.specs.Sheet.{sheet_of}
-use Rattle.pass.specs.Pass.{Passing}
+use Rattle.input.specs.Input.{find_of}
+use Rattle.script.specs.Doing.{rests_of}
+use Rattle.pass.specs.declared.Pass.{Pass}
+use Rattle.pass.specs.declared.Next.TheVariants as next
+use Rattle.pass.specs.Pass as program
+use Rattle.pass.specs.Pass.{Passing, unread, on_found}
 use Rattle.pass.specs.Run.{PrintsBy}
 use Rattle.pass.specs.Sheets.{no_more, Fair, sheet_by}
 use Rattle.pass.proofs.SheetLaws.{no_more_law}
 use Rattle.pass.proofs.Whole.{every_program}
 use Rattle.pass.proofs.Starting.{own_run}
+use Rattle.passday.specs.Pass.{writes_first, decide_of}
 use Rattle.passday.specs.Run.{EveryRun}
 use Rattle.passday.specs.Whole.{ProgramPrints}
+
+-- what is due is to write first where that is said, and else the next step or line
+decides : (p : Pass) (input : List ℕ) (size : ℕ)
+    → decide_of p input size
+    ≡ cond (writes_first p.stage p.filled size) next.Flush
+    (cond (rests_of p.day.doing) (on_found (find_of (unread p input) p.ended) p.filled) next.Step)
+decides p input size = unfold program.decide_of in refl
 
 -- no words are fair
 none_some : (r : Ran) → none ≡ some r → ⊥

@@ -1,13 +1,19 @@
 -- A turn of the program: of all script programs (crates/pass, specs/Pass.antt) the one with no more words. Assumes nothing.
-use Rattle.std.specs.Prelude.{ℕ, List, length}
+use Rattle.std.specs.Prelude.{ℕ, List, Bool, length}
 use Rattle.input.specs.Turns as turning
 use Rattle.pass.specs.declared.Pass.{Pass}
+use Rattle.pass.specs.declared.Stage.{Stage}
 use Rattle.pass.specs.declared.Next.{Next}
 use Rattle.pass.specs.Sheets.{no_more}
 use Rattle.pass.specs.Pass as turn
 use Rattle.pass.specs.Pass.{Memory, Passing, passing}
 
--- what is due; what waits is written first where the text, of `size` bytes, has not room for any line that is printed, 560 bytes
+-- what waits is written first where the text, of `size` bytes, has not room for any line that is printed, 560 bytes, and where nothing else is left to be
+-- done
+abbrev pub writes_first : Stage → ℕ → ℕ → Bool
+writes_first s filled size = turn.writes_first 560 s filled size
+
+-- what is due
 abbrev pub decide_of : Pass → List ℕ → ℕ → Next
 decide_of p input size = turn.decide_of 560 p input size
 
